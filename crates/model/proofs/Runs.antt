@@ -1,0 +1,36 @@
+-- Runs as rows of a table: what is played, and what it shows.
+use mathlib.Core.List.{List, [], _∷_, map}
+use Prim.Native.Nat.{ℕ}
+use lib.ListN.{replicate}
+use Rattle.model.specs.declared.Answer.{Answer}
+use Rattle.model.specs.declared.Command.{Command}
+use Rattle.model.specs.World.{World, Outcome}
+use Rattle.model.specs.Calls.{freshOf, Call}
+use Rattle.model.specs.Run.{Played, played}
+use Rattle.model.specs.Listing.{Print, listing}
+
+-- the program's commands; or calls of the library after a fresh with kind, width, size, workers and a store and a log of
+-- so many words, for what the program has no line for
+pub data Run : Type 0 where
+  lines : List Command → Run
+  calls : ℕ → ℕ → ℕ → ℕ → ℕ → ℕ → List Call → Run
+
+-- what the program prints; what the calls answer, fresh's answer first
+pub data Shown : Type 0 where
+  prints : List Print → Shown
+  answers : List Answer → Shown
+
+pub record Row : Type 0 where
+  pub run : Run
+  pub shown : Shown
+
+infix 5 _shows_
+abbrev pub _shows_ : Run → Shown → Row
+_shows_ r s = record { run = r; shown = s }
+
+abbrev pub answersFrom : Outcome → List Call → List Answer
+answersFrom d cs = d .answer ∷ map (λ p. p .answer) (played (d .world) cs)
+
+unfoldable pub show : Run → Shown
+show (lines l) = prints (listing l)
+show (calls k w c n s e cs) = answers (answersFrom (freshOf k w c n (replicate s 0) (replicate e 0)) cs)

@@ -1,0 +1,196 @@
+-- The calls: fresh, begin, step, and the log's front.
+use mathlib.Core.Bool.{Bool, true}
+use mathlib.Core.List.{List, _∷_}
+use Prim.Native.Nat.{ℕ, _+_, _*_}
+use lib.Dec.{eqb, ltb, leb}
+use lib.ListN.{length, set, replicate, take}
+use Rattle.model.specs.declared.Kind.{Kind}
+use Rattle.model.specs.declared.Kind.the-variants.{Lifo, Fifo, Deque}
+use Rattle.model.specs.declared.Line.{Line}
+use Rattle.model.specs.declared.Line.the-variants.{PutRead, TakeRead, StealRead}
+use Rattle.model.specs.declared.Bench.{Bench}
+use Rattle.model.specs.declared.Operation.{Operation}
+use Rattle.model.specs.declared.Operation.the-variants.{Put, Take, Steal}
+use Rattle.model.specs.declared.Refusal.the-variants.{
+  UnknownQueue,
+  TagWidth,
+  ArraySize,
+  Crew,
+  ShortStore,
+  NoSuchWorker,
+  BusyWorker,
+  IdleWorker,
+  WrongHand,
+  NumbersSpent,
+  LogFull,
+  ForeignState,
+}
+use Rattle.model.specs.declared.Answer.{Answer}
+use Rattle.model.specs.declared.Answer.the-variants.{Accepted, Numbered}
+use Rattle.model.specs.Tests.{if_then_else_, unless_then_else_, _and_}
+use Rattle.model.specs.Memory.{zeros, nowhere}
+use Rattle.model.specs.Answers.{task, ends, logged}
+use Rattle.model.specs.Figures.{anchor}
+use Rattle.model.specs.Lines.{Effect, lineStep}
+use Rattle.model.specs.World.{World, Outcome, refuse, resting, lineAt, isIdle, isLine1}
+use Rattle.model.specs.Limits.{isSize, widthOk, crewOk, validOf}
+
+-- FRESH. A bench with no operation open, an array of c tasks, and all counters 0
+abbrev pub blank : Kind → ℕ → ℕ → ℕ → Bench
+blank κ w c n =
+    record {
+      kind = κ;
+      width = w;
+      crew = n;
+      queue =
+          record {
+            anchor = anchor 0 0 0;
+            arrays = record { offset = 0; length = 2 * c } ∷ replicate 10 nowhere;
+            published = 1;
+            claimed = 1;
+          };
+      used = 0;
+      restarts = 0;
+      written = 0;
+      workers = replicate 8 resting;
+    }
+
+-- what stands for no bench: a crew of 0, which every call refuses 12
+abbrev pub noBench : Bench
+noBench = blank Lifo 0 0 0
+
+abbrev pub lent : Bench → List ℕ → List ℕ → World
+lent b m l = record { bench = b; store = m; log = l }
+
+-- kinds are 1, 2 and 3
+abbrev pub kindOf : ℕ → Kind
+kindOf k = if eqb k 1 then Lifo else if eqb k 2 then Fifo else Deque
+
+-- kind k, tag width w, first size c, n workers, on the store m and the log l: refusals 1 to 5
+unfoldable pub freshOf : ℕ → ℕ → ℕ → ℕ → List ℕ → List ℕ → Outcome
+freshOf k w c n m l =
+    unless ltb 0 k and leb k 3 then refuse (lent noBench m l) UnknownQueue
+    else unless widthOk w then refuse (lent noBench m l) TagWidth
+    else unless isSize 10 c then refuse (lent noBench m l) ArraySize
+    else unless crewOk n then refuse (lent noBench m l) Crew
+    else unless leb (2 * c) (length m) then refuse (lent noBench m l) ShortStore
+    else record { world = lent (blank (kindOf k) w c n) (zeros m 0 (2 * c)) l; answer = Accepted }
+
+-- BEGIN. The owner, worker 0, puts and takes; a thief steals
+abbrev pub rightHand : ℕ → Operation → Bool
+rightHand i (Put p) = eqb i 0
+rightHand i Take = eqb i 0
+rightHand i Steal = ltb 0 i
+
+-- a put uses the next number, at most 65,535; u are used
+abbrev pub numbersLeft : Operation → ℕ → Bool
+numbersLeft (Put p) u = ltb u 65535
+numbersLeft Take u = true
+numbersLeft Steal u = true
+
+abbrev pub usedBy : Operation → ℕ → ℕ
+usedBy (Put p) u = u + 1
+usedBy Take u = u
+usedBy Steal u = u
+
+-- line 1, and the answer
+abbrev pub firstLine : Operation → ℕ → Line
+firstLine (Put p) u = PutRead (task (u + 1) p)
+firstLine Take u = TakeRead
+firstLine Steal u = StealRead
+
+abbrev pub beginAnswer : Operation → ℕ → Answer
+beginAnswer (Put p) u = Numbered (u + 1)
+beginAnswer Take u = Accepted
+beginAnswer Steal u = Accepted
+
+abbrev pub begun : World → ℕ → Operation → Outcome
+begun W i op =
+    record {
+      world =
+          record {
+            bench =
+                record {
+                  kind = W .bench .kind;
+                  width = W .bench .width;
+                  crew = W .bench .crew;
+                  queue = W .bench .queue;
+                  used = usedBy op (W .bench .used);
+                  restarts = W .bench .restarts;
+                  written = W .bench .written;
+                  workers = set (W .bench .workers) i (record { line = firstLine op (W .bench .used) });
+                };
+            store = W .store;
+            log = W .log;
+          };
+      answer = beginAnswer op (W .bench .used);
+    }
+
+-- refusals 12, 6, 9, 7, 10
+unfoldable pub beginOf : World → ℕ → Operation → Outcome
+beginOf W i op =
+    unless validOf W then refuse W ForeignState
+    else unless ltb i (W .bench .crew) then refuse W NoSuchWorker
+    else unless rightHand i op then refuse W WrongHand
+    else unless isIdle (lineAt (W .bench .workers) i) then refuse W BusyWorker
+    else unless numbersLeft op (W .bench .used) then refuse W NumbersSpent
+    else begun W i op
+
+-- STEP. A step that leaves its worker at line 1 is a return to it, a restart; the counter has a ceiling
+abbrev pub restarted : ℕ → Line → ℕ
+restarted n l = if isLine1 l then if eqb n 4294967295 then n else n + 1 else n
+
+-- worker i's line left E
+abbrev pub stepped : World → ℕ → Effect → Outcome
+stepped W i E =
+    record {
+      world =
+          record {
+            bench =
+                record {
+                  kind = W .bench .kind;
+                  width = W .bench .width;
+                  crew = W .bench .crew;
+                  queue = E .queue;
+                  used = W .bench .used;
+                  restarts = restarted (W .bench .restarts) (E .line);
+                  written = if ends (E .answer) then W .bench .written + 4 else W .bench .written;
+                  workers = set (W .bench .workers) i (record { line = E .line });
+                };
+            store = E .store;
+            log = logged (W .log) (W .bench .written) (E .answer);
+          };
+      answer = E .answer;
+    }
+
+-- the step would end an operation, and under 4 words are left
+abbrev pub noRoom : World → Effect → Bool
+noRoom W E = ends (E .answer) and ltb (length (W .log)) (W .bench .written + 4)
+
+abbrev pub commit : World → ℕ → Effect → Outcome
+commit W i E = if noRoom W E then refuse W LogFull else stepped W i E
+
+abbrev pub nextEffect : World → ℕ → Effect
+nextEffect W i =
+    lineStep (W .bench .kind) (W .bench .width) (W .bench .queue) (W .store) i (lineAt (W .bench .workers) i)
+
+-- refusals 12, 6, 8, 11
+unfoldable pub stepOf : World → ℕ → Outcome
+stepOf W i =
+    unless validOf W then refuse W ForeignState
+    else unless ltb i (W .bench .crew) then refuse W NoSuchWorker
+    else if isIdle (lineAt (W .bench .workers) i) then refuse W IdleWorker
+    else commit W i (nextEffect W i)
+
+-- FRONT. The written front of the log: as many words as its length says, or all if the slice is shorter
+unfoldable pub frontOf : Bench → List ℕ → List ℕ
+frontOf b l = take (b .written) l
+
+-- LISTS OF CALLS. Each call gets state, store and log as the call before left them
+pub data Call : Type 0 where
+  begin : ℕ → Operation → Call
+  step : ℕ → Call
+
+abbrev pub callOf : World → Call → Outcome
+callOf W (begin i op) = beginOf W i op
+callOf W (step i) = stepOf W i

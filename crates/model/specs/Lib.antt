@@ -1,0 +1,12 @@
+pub mod Tests
+pub mod Memory
+pub mod Answers
+pub mod Figures
+pub mod Lines
+pub mod World
+pub mod Limits
+pub mod Calls
+pub mod Run
+pub mod Window
+pub mod Counts
+pub mod Listing

@@ -1,0 +1,198 @@
+-- The state limits of refusal 12, in document 01's order.
+use mathlib.Core.Bool.{Bool, true, false}
+use mathlib.Core.List.{List}
+use Prim.Native.Nat.{ℕ, zero, suc, _+_, _-_, _*_, _^_}
+use lib.Dec.{eqb, ltb, leb}
+use lib.ListN.{length, getD}
+use Rattle.model.specs.declared.Kind.{Kind}
+use Rattle.model.specs.declared.Kind.the-variants.{Lifo, Fifo, Deque}
+use Rattle.model.specs.declared.Task.{Task}
+use Rattle.model.specs.declared.Anchor.{Anchor}
+use Rattle.model.specs.declared.Line.{Line}
+use Rattle.model.specs.declared.Line.the-variants.{
+  Idle,
+  PutRead,
+  PutTail,
+  PutTest,
+  PutNumber,
+  PutPayload,
+  PutFinish,
+  Claim,
+  Note,
+  Copy,
+  Publish,
+  TakeRead,
+  TakeTail,
+  TakeTest,
+  TakeNumber,
+  TakePayload,
+  TakeFinish,
+  StealRead,
+  StealTail,
+  StealTest,
+  StealNote,
+  StealNumber,
+  StealPayload,
+  StealNext,
+  StealCompare,
+}
+use Rattle.model.specs.declared.Region.{Region}
+use Rattle.model.specs.declared.Queue.{Queue}
+use Rattle.model.specs.declared.Worker.{Worker}
+use Rattle.model.specs.declared.Bench.{Bench}
+use Rattle.model.specs.Tests.{if_then_else_, _and_, _or_}
+use Rattle.model.specs.Memory.{nowhere, offsetAt, sizeAt}
+use Rattle.model.specs.Lines.{size}
+use Rattle.model.specs.World.{World, lineAt, isIdle, isExpanding, isOwners, isThiefs}
+
+-- a power of two from 1 to 2^e; sizes go up to 2^10 = 1,024
+abbrev pub isSize : ℕ → ℕ → Bool
+isSize zero c = eqb c 1
+isSize (suc e) c = eqb c (2 ^ suc e) or isSize e c
+
+-- fresh's ranges: the tag's width, the crew
+abbrev pub widthOk : ℕ → Bool
+widthOk w = ltb 0 w and leb w 16
+
+abbrev pub crewOk : ℕ → Bool
+crewOk n = ltb 0 n and leb n 8
+
+-- the directory's first n arrays: laid end to end from offset 0, each twice the one before, of a size from 1 to 1,024
+abbrev pub lengthAt : List Region → ℕ → ℕ
+lengthAt l k = getD l k nowhere .length
+
+abbrev pub tidy : List Region → ℕ → Bool
+tidy l zero = true
+tidy l (suc zero) = eqb (offsetAt l 0) 0 and eqb (lengthAt l 0) (2 * sizeAt l 0) and isSize 10 (sizeAt l 0)
+tidy l (suc (suc k)) =
+    tidy l (suc k)
+    and eqb (offsetAt l (suc k)) (offsetAt l k + 2 * sizeAt l k)
+    and eqb (lengthAt l (suc k)) (2 * (2 * sizeAt l k)) and leb (2 * sizeAt l k) 1024
+
+-- the words that the directory takes, claimed ones included
+abbrev pub taken : Queue → ℕ
+taken q = offsetAt (q .arrays) (q .claimed - 1) + 2 * sizeAt (q .arrays) (q .claimed - 1)
+
+-- it fits the store, and an array is claimed and unpublished exactly while the owner, at line o, is at X2 to X4
+abbrev pub directoryOk : Queue → List ℕ → Line → Bool
+directoryOk q m o =
+    ltb 0 (q .published)
+    and leb (q .claimed) 11
+    and eqb (q .claimed) (if isExpanding o then q .published + 1 else q .published)
+    and tidy (q .arrays) (q .claimed) and leb (taken q) (length m)
+
+-- the anchor now, in an array of z tasks; what a kind does not use is 0
+abbrev pub anchorOk : Kind → ℕ → ℕ → Anchor → Bool
+anchorOk Lifo w z a = eqb (a .head) 0 and leb (a .count) z and ltb (a .tag) (2 ^ w)
+anchorOk Fifo w z a =
+    leb (a .head) (a .count) and leb (a .count - a .head) z and leb (a .count) 65535 and eqb (a .tag) 0
+anchorOk Deque w z a = ltb (a .head) 2048 and leb (a .count) z and ltb (a .tag) (2 ^ w)
+
+-- the anchor as a worker read it; FIFO's two reads may lie further apart than the size
+abbrev pub readOk : Kind → ℕ → ℕ → Anchor → Bool
+readOk Lifo w z r = eqb (r .head) 0 and leb (r .count) z and ltb (r .tag) (2 ^ w)
+readOk Fifo w z r = leb (r .head) (r .count) and leb (r .count) 65535 and eqb (r .tag) 0
+readOk Deque w z r = ltb (r .head) 2048 and leb (r .count) z and ltb (r .tag) (2 ^ w)
+
+-- FIFO's head read, while the tail is not yet read; the others have no such line
+abbrev pub headOk : Kind → ℕ → Bool
+headOk Lifo h = false
+headOk Fifo h = leb h 65535
+headOk Deque h = false
+
+-- past a put's test; past a test for EMPTY
+abbrev pub roomOk : Kind → ℕ → Anchor → Bool
+roomOk Lifo z r = ltb (r .count) z
+roomOk Fifo z r = ltb (r .count) 65535
+roomOk Deque z r = ltb (r .count) z
+
+abbrev pub someOk : Kind → Anchor → Bool
+someOk Lifo r = ltb 0 (r .count)
+someOk Fifo r = true
+someOk Deque r = ltb 0 (r .count)
+
+-- X3: n indices from h on are noted
+abbrev pub notedOk : Kind → ℕ → ℕ → Bool
+notedOk Lifo h n = eqb h 0
+notedOk Fifo h n = leb (h + n) 65535
+notedOk Deque h n = ltb h 2048
+
+-- the slot that a steal reads exists in an array of z tasks; a remainder by z always does
+abbrev pub slotOk : Kind → ℕ → Anchor → Bool
+slotOk Lifo z r = leb (r .count) z
+slotOk Fifo z r = true
+slotOk Deque z r = true
+
+-- the noted array, at place k of the directory, exists, and the slot in it
+abbrev pub placeOk : Kind → Queue → Anchor → ℕ → Bool
+placeOk κ q r k = ltb k (q .published) and slotOk κ (sizeAt (q .arrays) k) r
+
+-- figure 3's line 5, and the h2 that it works out
+abbrev pub isDeque : Kind → Bool
+isDeque Lifo = false
+isDeque Fifo = false
+isDeque Deque = true
+
+abbrev pub nextOk : Kind → ℕ → Bool
+nextOk Lifo e = eqb e 0
+nextOk Fifo e = eqb e 0
+nextOk Deque e = ltb e 2048
+
+-- put numbers
+abbrev pub numberOk : ℕ → Bool
+numberOk n = leb n 65535
+
+-- what a worker at the line has read
+abbrev pub lineOk : Kind → ℕ → Queue → Line → Bool
+lineOk κ w q Idle = true
+lineOk κ w q (PutRead t) = numberOk (t .number)
+lineOk κ w q (PutTail t h) = numberOk (t .number) and headOk κ h
+lineOk κ w q (PutTest t r) = numberOk (t .number) and readOk κ w (size q) r
+lineOk κ w q (PutNumber t r) = numberOk (t .number) and readOk κ w (size q) r and roomOk κ (size q) r
+lineOk κ w q (PutPayload t r) = numberOk (t .number) and readOk κ w (size q) r and roomOk κ (size q) r
+lineOk κ w q (PutFinish t r) = numberOk (t .number) and readOk κ w (size q) r and roomOk κ (size q) r
+lineOk κ w q (Claim t) = numberOk (t .number)
+lineOk κ w q (Note t) = numberOk (t .number)
+lineOk κ w q (Copy t h n k) = numberOk (t .number) and notedOk κ h n and leb n (size q) and ltb k n
+lineOk κ w q (Publish t) = numberOk (t .number)
+lineOk κ w q TakeRead = true
+lineOk κ w q (TakeTail h) = headOk κ h
+lineOk κ w q (TakeTest r) = readOk κ w (size q) r
+lineOk κ w q (TakeNumber r) = readOk κ w (size q) r and someOk κ r
+lineOk κ w q (TakePayload r n) = readOk κ w (size q) r and someOk κ r and numberOk n
+lineOk κ w q (TakeFinish r t) = readOk κ w (size q) r and someOk κ r and numberOk (t .number)
+lineOk κ w q StealRead = true
+lineOk κ w q (StealTail h) = headOk κ h
+lineOk κ w q (StealTest r) = readOk κ w (size q) r
+lineOk κ w q (StealNote r) = readOk κ w (size q) r and someOk κ r
+lineOk κ w q (StealNumber r k) = readOk κ w (size q) r and someOk κ r and placeOk κ q r k
+lineOk κ w q (StealPayload r k n) = readOk κ w (size q) r and someOk κ r and placeOk κ q r k and numberOk n
+lineOk κ w q (StealNext r t) = readOk κ w (size q) r and someOk κ r and isDeque κ and numberOk (t .number)
+lineOk κ w q (StealCompare r e t) = readOk κ w (size q) r and someOk κ r and nextOk κ e and numberOk (t .number)
+
+-- each worker at a line of its own operation: the owner; thieves 1 to k, those outside the crew of n idle
+abbrev pub ownerOk : Kind → ℕ → Queue → Line → Bool
+ownerOk κ w q l = isOwners l and lineOk κ w q l
+
+abbrev pub thiefOk : Kind → ℕ → Queue → Line → Bool
+thiefOk κ w q l = isThiefs l and lineOk κ w q l
+
+abbrev pub thievesOk : Kind → ℕ → Queue → ℕ → List Worker → ℕ → Bool
+thievesOk κ w q n l zero = true
+thievesOk κ w q n l (suc k) =
+    thievesOk κ w q n l k and (if ltb (suc k) n then thiefOk κ w q (lineAt l (suc k)) else isIdle (lineAt l (suc k)))
+
+abbrev pub benchOk : Bench → List ℕ → List ℕ → Bool
+benchOk b m l =
+    widthOk (b .width)
+    and crewOk (b .crew)
+    and directoryOk (b .queue) m (lineAt (b .workers) 0)
+    and leb (b .written) (length l)
+    and anchorOk (b .kind) (b .width) (size (b .queue)) (b .queue .anchor)
+    and numberOk (b .used)
+    and ownerOk (b .kind) (b .width) (b .queue) (lineAt (b .workers) 0)
+    and thievesOk (b .kind) (b .width) (b .queue) (b .crew) (b .workers) 7
+
+-- the state, with the lengths of its lent memory, is no foreign one
+unfoldable pub validOf : World → Bool
+validOf W = benchOk (W .bench) (W .store) (W .log)

@@ -1,0 +1,129 @@
+-- The bench program, from commands to what it prints.
+use mathlib.Core.Bool.{Bool, true, false}
+use mathlib.Core.List.{List, [], _∷_, _++_}
+use Prim.Native.Nat.{ℕ, zero, suc}
+use lib.ListN.{replicate, take}
+use Rattle.model.specs.declared.Operation.the-variants.{Put, Take, Steal}
+use Rattle.model.specs.declared.Refusal.the-variants.{BadLine}
+use Rattle.model.specs.declared.Answer.{Answer}
+use Rattle.model.specs.declared.Answer.the-variants.{
+  Accepted,
+  Numbered,
+  GoesOn,
+  Finished,
+  HandedOut,
+  Empty,
+  Full,
+  Refused,
+}
+use Rattle.model.specs.declared.Command.{Command}
+use Rattle.model.specs.declared.Command.the-variants.{Open, BeginPut, BeginTake, BeginSteal, Steps, End, Bad}
+use Rattle.model.specs.Tests.{if_then_else_}
+use Rattle.model.specs.Answers.{numberOf}
+use Rattle.model.specs.World.{World, Outcome}
+use Rattle.model.specs.Calls.{freshOf, beginOf, stepOf}
+use Rattle.model.specs.Counts.{Counts, countsOf}
+
+-- a line of output
+pub data Print : Type 0 where
+  D : ℕ → Print
+  H : ℕ → ℕ → ℕ → Print
+  E : ℕ → Print
+  F : ℕ → Print
+  R : ℕ → Print
+  T : ℕ → ℕ → ℕ → ℕ → ℕ → ℕ → Print
+
+-- what an answer prints: an accepted begin and a step that goes on, nothing
+abbrev pub printed : Answer → List Print
+printed Accepted = []
+printed (Numbered n) = []
+printed GoesOn = []
+printed (Finished i t) = D (t .number) ∷ []
+printed (HandedOut i t) = H i (t .number) (t .payload) ∷ []
+printed (Empty i) = E i ∷ []
+printed (Full i t) = F (t .number) ∷ []
+printed (Refused r) = R (numberOf r) ∷ []
+
+abbrev pub isRefused : Answer → Bool
+isRefused Accepted = false
+isRefused (Numbered n) = false
+isRefused GoesOn = false
+isRefused (Finished i t) = false
+isRefused (HandedOut i t) = false
+isRefused (Empty i) = false
+isRefused (Full i t) = false
+isRefused (Refused r) = true
+
+abbrev pub totals : Counts → Print
+totals c = T (c .finished) (c .handouts) (c .different) (c .restarts) (c .window) (c .lost)
+
+-- where the program stands: no queue accepted yet, a bench being played, `end` done
+pub data Program : Type 0 where
+  waiting : Program
+  playing : World → Program
+  ended : Program
+
+-- what a line leaves and prints
+pub record Reply : Type 0 where
+  pub program : Program
+  pub output : List Print
+
+abbrev pub reply : Program → List Print → Reply
+reply s o = record { program = s; output = o }
+
+-- the program's store of 4,094 words, all zero at the start, and its log of 4,096 entries
+abbrev pub programStore : List ℕ
+programStore = replicate 4094 0
+
+abbrev pub programLog : List ℕ
+programLog = replicate 16384 0
+
+-- a refused `queue` leaves the program waiting
+abbrev pub opened : Outcome → Reply
+opened d =
+    if isRefused (d .answer) then reply waiting (printed (d .answer)) else reply (playing (d .world)) (printed (d .answer))
+
+abbrev pub told : Outcome → Reply
+told d = reply (playing (d .world)) (printed (d .answer))
+
+-- `step I M`: M steps, stopping at the first refusal
+unfoldable pub stepsOf : World → ℕ → ℕ → Reply
+stepsOf W i zero = reply (playing W) []
+stepsOf W i (suc m) =
+    let d = stepOf W i in
+    let rest = stepsOf (d .world) i m in
+    if isRefused (d .answer) then told d else reply (rest .program) (printed (d .answer) ++ rest .output)
+
+abbrev pub bad : Program → Reply
+bad s = reply s (R (numberOf BadLine) ∷ [])
+
+unfoldable pub respond : Program → Command → Reply
+respond waiting (Open k w c n s) = opened (freshOf k w c n (take s programStore) programLog)
+respond waiting (BeginPut p) = bad waiting
+respond waiting BeginTake = bad waiting
+respond waiting (BeginSteal i) = bad waiting
+respond waiting (Steps i m) = bad waiting
+respond waiting End = bad waiting
+respond waiting Bad = bad waiting
+respond (playing W) (Open k w c n s) = bad (playing W)
+respond (playing W) (BeginPut p) = told (beginOf W 0 (Put p))
+respond (playing W) BeginTake = told (beginOf W 0 Take)
+respond (playing W) (BeginSteal i) = told (beginOf W i Steal)
+respond (playing W) (Steps i m) = stepsOf W i m
+respond (playing W) End = reply ended (totals (countsOf W) ∷ [])
+respond (playing W) Bad = bad (playing W)
+respond ended (Open k w c n s) = reply ended []
+respond ended (BeginPut p) = reply ended []
+respond ended BeginTake = reply ended []
+respond ended (BeginSteal i) = reply ended []
+respond ended (Steps i m) = reply ended []
+respond ended End = reply ended []
+respond ended Bad = reply ended []
+
+-- the listing of a list of commands
+unfoldable pub listingFrom : Program → List Command → List Print
+listingFrom s [] = []
+listingFrom s (c ∷ cs) = let r = respond s c in r .output ++ listingFrom (r .program) cs
+
+abbrev pub listing : List Command → List Print
+listing cs = listingFrom waiting cs

@@ -1,0 +1,27 @@
+-- Words of the store, and the directory of arrays.
+use mathlib.Core.List.{List, _++_}
+use Prim.Native.Nat.{ℕ, _+_, _*_, _/_}
+use lib.ListN.{getD, set, take, drop, replicate}
+use Rattle.model.specs.declared.Region.{Region}
+
+-- word j of slot t of the array at offset b: a task is two words
+unfoldable pub wordAt : List ℕ → ℕ → ℕ → ℕ → ℕ
+wordAt m b t j = getD m (b + 2 * t + j) 0
+
+unfoldable pub setWord : List ℕ → ℕ → ℕ → ℕ → ℕ → List ℕ
+setWord m b t j x = set m (b + 2 * t + j) x
+
+-- n words from word a on become 0
+unfoldable pub zeros : List ℕ → ℕ → ℕ → List ℕ
+zeros m a n = take a m ++ (replicate n 0 ++ drop (a + n) m)
+
+-- a pair of the directory that stands for no array
+abbrev pub nowhere : Region
+nowhere = record { offset = 0; length = 0 }
+
+-- the array at place k of the directory: its offset in words, its size in tasks
+unfoldable pub offsetAt : List Region → ℕ → ℕ
+offsetAt l k = getD l k nowhere .offset
+
+unfoldable pub sizeAt : List Region → ℕ → ℕ
+sizeAt l k = getD l k nowhere .length / 2

@@ -1,0 +1,104 @@
+-- A bench with the memory lent to it, and what a call leaves and answers.
+use mathlib.Core.Bool.{Bool}
+use mathlib.Core.List.{List}
+use Prim.Native.Nat.{ℕ}
+use lib.Dec.{eqb, ltb}
+use lib.ListN.{getD}
+use Rattle.model.specs.declared.Line.{Line}
+use Rattle.model.specs.declared.Line.the-variants.{
+  Idle,
+  PutRead,
+  PutTail,
+  PutTest,
+  PutNumber,
+  PutPayload,
+  PutFinish,
+  Claim,
+  Note,
+  Copy,
+  Publish,
+  TakeRead,
+  TakeTail,
+  TakeTest,
+  TakeNumber,
+  TakePayload,
+  TakeFinish,
+  StealRead,
+  StealTail,
+  StealTest,
+  StealNote,
+  StealNumber,
+  StealPayload,
+  StealNext,
+  StealCompare,
+}
+use Rattle.model.specs.declared.Worker.{Worker}
+use Rattle.model.specs.declared.Bench.{Bench}
+use Rattle.model.specs.declared.Refusal.{Refusal}
+use Rattle.model.specs.declared.Answer.{Answer}
+use Rattle.model.specs.declared.Answer.the-variants.{Refused}
+use Rattle.model.specs.Tests.{_or_}
+
+pub record World : Type 0 where
+  pub bench : Bench
+  pub store : List ℕ
+  pub log : List ℕ
+
+pub record Outcome : Type 0 where
+  pub world : World
+  pub answer : Answer
+
+-- a refusal leaves state, store and log as they were handed in
+abbrev pub refuse : World → Refusal → Outcome
+refuse W r = record { world = W; answer = Refused r }
+
+-- the line of worker i
+abbrev pub resting : Worker
+resting = record { line = Idle }
+
+abbrev pub lineAt : List Worker → ℕ → Line
+lineAt l i = getD l i resting .line
+
+-- where a worker stands: 0 idle; the owner 1 at a line 1, 2 at X2 to X4, 3 elsewhere; a thief 4 at line 1, 5 past it
+abbrev pub stage : Line → ℕ
+stage Idle = 0
+stage (PutRead t) = 1
+stage (PutTail t h) = 3
+stage (PutTest t r) = 3
+stage (PutNumber t r) = 3
+stage (PutPayload t r) = 3
+stage (PutFinish t r) = 3
+stage (Claim t) = 3
+stage (Note t) = 2
+stage (Copy t h n k) = 2
+stage (Publish t) = 2
+stage TakeRead = 1
+stage (TakeTail h) = 3
+stage (TakeTest r) = 3
+stage (TakeNumber r) = 3
+stage (TakePayload r n) = 3
+stage (TakeFinish r t) = 3
+stage StealRead = 4
+stage (StealTail h) = 5
+stage (StealTest r) = 5
+stage (StealNote r) = 5
+stage (StealNumber r k) = 5
+stage (StealPayload r k n) = 5
+stage (StealNext r t) = 5
+stage (StealCompare r e t) = 5
+
+abbrev pub isIdle : Line → Bool
+isIdle l = eqb (stage l) 0
+
+abbrev pub isLine1 : Line → Bool
+isLine1 l = eqb (stage l) 1 or eqb (stage l) 4
+
+abbrev pub isExpanding : Line → Bool
+isExpanding l = eqb (stage l) 2
+
+-- a line of put or take; a line of steal
+abbrev pub isOwners : Line → Bool
+isOwners l = ltb (stage l) 4
+
+abbrev pub isThiefs : Line → Bool
+isThiefs l = isIdle l or ltb 3 (stage l)

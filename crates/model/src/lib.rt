@@ -1,0 +1,232 @@
+// The bench's types: what document 01 names, by value. No code is here: `specs/` says what each
+// call does to them, and every crate above (theorems, code) speaks of these same types.
+
+// Figures 1, 2 and 3. The double-ended queue is the field's deque.
+pub enum Kind {
+    Lifo,
+    Fifo,
+    Deque,
+}
+
+// A task: its put number and the caller's payload.
+pub struct Task {
+    pub number: u32,
+    pub payload: u32,
+}
+
+// What line 1 reads whole and a compare compares. Double-ended: (h, s, g). LIFO: (t, g) is `count`
+// and `tag`, `head` is 0. FIFO: head, and the tail in `count`; `tag` is 0.
+pub struct Anchor {
+    pub head: u32,
+    pub count: u32,
+    pub tag: u32,
+}
+
+// The line a worker is at, with the values read so far; `read` is the anchor as it read it. Beside
+// each case: the line's number in figures 1 and 3, then in figure 2.
+pub enum Line {
+    Idle,
+    // put 1; 1
+    PutRead {
+        task: Task,
+    },
+    // FIFO's put 2
+    PutTail {
+        task: Task,
+        head: u32,
+    },
+    // put 2; 3
+    PutTest {
+        task: Task,
+        read: Anchor,
+    },
+    // put 3a; 4a
+    PutNumber {
+        task: Task,
+        read: Anchor,
+    },
+    // put 3b; 4b
+    PutPayload {
+        task: Task,
+        read: Anchor,
+    },
+    // put 4; 5
+    PutFinish {
+        task: Task,
+        read: Anchor,
+    },
+    // X1
+    Claim {
+        task: Task,
+    },
+    // X2
+    Note {
+        task: Task,
+    },
+    // X3: `noted` indices from `head` on are to be copied, `copied` of them are
+    Copy {
+        task: Task,
+        head: u32,
+        noted: u32,
+        copied: u32,
+    },
+    // X4
+    Publish {
+        task: Task,
+    },
+    // take 1; 1
+    TakeRead,
+    // FIFO's take 2
+    TakeTail {
+        head: u32,
+    },
+    // take 2; 3
+    TakeTest {
+        read: Anchor,
+    },
+    // take 3a; 4a
+    TakeNumber {
+        read: Anchor,
+    },
+    // take 3b; 4b
+    TakePayload {
+        read: Anchor,
+        number: u32,
+    },
+    // take 4; 5
+    TakeFinish {
+        read: Anchor,
+        task: Task,
+    },
+    // steal 1; 1
+    StealRead,
+    // FIFO's steal 2
+    StealTail {
+        head: u32,
+    },
+    // steal 2; 3
+    StealTest {
+        read: Anchor,
+    },
+    // steal 3; 4
+    StealNote {
+        read: Anchor,
+    },
+    // steal 4a; 5a: `place` is the noted array's place in the directory
+    StealNumber {
+        read: Anchor,
+        place: u32,
+    },
+    // steal 4b; 5b
+    StealPayload {
+        read: Anchor,
+        place: u32,
+        number: u32,
+    },
+    // figure 3's steal 5
+    StealNext {
+        read: Anchor,
+        task: Task,
+    },
+    // steal 5, in figure 3 steal 6; 6: `next` is figure 3's h2, else 0
+    StealCompare {
+        read: Anchor,
+        next: u32,
+        task: Task,
+    },
+}
+
+// A worker's record.
+pub struct Worker {
+    pub line: Line,
+}
+
+// A pair of the directory: an array's offset and length in the store, in words.
+pub struct Region {
+    pub offset: u32,
+    pub length: u32,
+}
+
+// The shared words outside the store: the anchor, and the directory of arrays (sizes 1 to 1,024 are
+// at most 11). The first `published` pairs are published, the first `claimed` are claimed.
+pub struct Queue {
+    pub anchor: Anchor,
+    pub arrays: [Region; 11],
+    pub published: u32,
+    pub claimed: u32,
+}
+
+// The bench's state. `crew` counts the workers, `used` the put numbers given out; `written` is the
+// log's length, in words.
+pub struct Bench {
+    pub kind: Kind,
+    pub width: u32,
+    pub crew: u32,
+    pub queue: Queue,
+    pub used: u32,
+    pub restarts: u32,
+    pub written: u32,
+    pub workers: [Worker; 8],
+}
+
+// What a begin gives a worker to do.
+pub enum Operation {
+    Put { payload: u32 },
+    Take,
+    Steal,
+}
+
+// The table of refusals, in its order.
+pub enum Refusal {
+    UnknownQueue,
+    TagWidth,
+    ArraySize,
+    Crew,
+    ShortStore,
+    NoSuchWorker,
+    BusyWorker,
+    IdleWorker,
+    WrongHand,
+    NumbersSpent,
+    LogFull,
+    ForeignState,
+    BadLine,
+}
+
+// What a call answers: a fresh or a begin is accepted (a put with its number); a step goes on, or
+// ends its operation with an entry of the log; or the call is refused.
+pub enum Answer {
+    Accepted,
+    Numbered { number: u32 },
+    GoesOn,
+    Finished { worker: u32, task: Task },
+    HandedOut { worker: u32, task: Task },
+    Empty { worker: u32 },
+    Full { worker: u32, task: Task },
+    Refused { why: Refusal },
+}
+
+// A line of the bench program's input: `queue`, `put`, `take`, `steal`, `step`, `end`, or none of
+// these forms.
+pub enum Command {
+    Open {
+        kind: u32,
+        width: u32,
+        size: u32,
+        workers: u32,
+        words: u32,
+    },
+    BeginPut {
+        payload: u32,
+    },
+    BeginTake,
+    BeginSteal {
+        worker: u32,
+    },
+    Steps {
+        worker: u32,
+        times: u32,
+    },
+    End,
+    Bad,
+}
