@@ -1,0 +1,73 @@
+-- Rows of our own: each shows a difference that one of document 01's 'Mistakes to shut out', or a bench of its section
+-- 'Agreement', would make. The edits in must-fail/ make them.
+use mathlib.Core.Path.{_≡_, refl}
+use mathlib.Core.List.{List, [], _∷_, map}
+use Rattle.model.specs.declared.Command.the-variants.{Open, BeginPut, BeginTake, BeginSteal, Steps, End, Bad}
+use Rattle.model.specs.Tests.{if_then_else_, _and_, _or_}
+use Rattle.model.specs.Memory.{zeros, wordAt, setWord, offsetAt, sizeAt}
+use Rattle.model.specs.Lines.{lineStep}
+use Rattle.model.specs.Limits.{validOf}
+use Rattle.model.specs.Calls.{freshOf, beginOf, stepOf}
+use Rattle.model.specs.Run.{played}
+use Rattle.model.specs.Counts.{entriesOf, numberOut, differentOut, taskOut, stands, lostOf, countsOf}
+use Rattle.model.specs.Listing.{D, H, E, F, R, T, stepsOf, respond, listingFrom}
+use Rattle.model.proofs.Runs.{Row, lines, prints, _shows_, show}
+
+abbrev pub mistakes : List Row
+mistakes =
+    -- rereading the anchor in the owner's last line, LIFO take: a thief has the same task; the one below it stays
+    (lines
+    (Open 1 2 2 2 4 ∷ BeginPut 10 ∷ Steps 0 5 ∷ BeginPut 20 ∷ Steps 0 5 ∷ BeginTake ∷ Steps 0 4 ∷ BeginSteal 1 ∷ Steps 1 6 ∷ Steps 0 1 ∷ End ∷ [])
+    shows prints (D 1 ∷ D 2 ∷ H 1 2 20 ∷ H 0 2 20 ∷ T 2 2 1 0 1 0 ∷ []))
+    -- LIFO put: the task that a thief took meanwhile comes back into the window, and the new one is above it
+    ∷ (lines (Open 1 2 2 2 4 ∷ BeginPut 10 ∷ Steps 0 5 ∷ BeginPut 20 ∷ Steps 0 4 ∷ BeginSteal 1 ∷ Steps 1 6 ∷ Steps 0 1 ∷ End ∷ [])
+    shows prints (D 1 ∷ H 1 1 10 ∷ D 2 ∷ T 2 1 1 0 2 0 ∷ []))
+    -- FIFO take: head becomes the head read plus 1, though a thief has raised it since
+    ∷ (lines
+    (Open 2 1 2 2 4 ∷ BeginPut 10 ∷ Steps 0 6 ∷ BeginPut 20 ∷ Steps 0 6 ∷ BeginTake ∷ Steps 0 5 ∷ BeginSteal 1 ∷ Steps 1 7 ∷ Steps 0 1 ∷ End ∷ [])
+    shows prints (D 1 ∷ D 2 ∷ H 1 1 10 ∷ H 0 1 10 ∷ T 2 2 1 0 1 0 ∷ []))
+    -- double-ended take and put, with head 0 read and head 1 now
+    ∷ (lines
+    (Open 3 2 2 2 4 ∷ BeginPut 10 ∷ Steps 0 5 ∷ BeginPut 20 ∷ Steps 0 5 ∷ BeginTake ∷ Steps 0 4 ∷ BeginSteal 1 ∷ Steps 1 7 ∷ Steps 0 1 ∷ End ∷ [])
+    shows prints (D 1 ∷ D 2 ∷ H 1 1 10 ∷ H 0 2 20 ∷ T 2 2 2 0 1 0 ∷ []))
+    ∷ (lines (Open 3 2 2 2 4 ∷ BeginPut 10 ∷ Steps 0 5 ∷ BeginPut 20 ∷ Steps 0 4 ∷ BeginSteal 1 ∷ Steps 1 7 ∷ Steps 0 1 ∷ End ∷ [])
+    shows prints (D 1 ∷ H 1 1 10 ∷ D 2 ∷ T 2 1 1 0 2 0 ∷ []))
+    -- raising the tag on take instead of put: a put and another thief's steal leave (t, g+1), so the compare fails
+    ∷ (lines
+    (Open 1 2 2 3 4 ∷ BeginPut 10 ∷ Steps 0 5 ∷ BeginSteal 1 ∷ Steps 1 5 ∷ BeginPut 20 ∷ Steps 0 5 ∷ BeginSteal 2 ∷ Steps 2 6 ∷ Steps 1 1 ∷ End ∷ [])
+    shows prints (D 1 ∷ D 2 ∷ H 2 2 20 ∷ T 2 1 1 1 1 0 ∷ []))
+    -- and a take leaves the tag as it was: a thief that read (2, g) finds it again after a take and its own restart
+    ∷ (lines
+    (Open 1 1 2 2 4 ∷ BeginPut 10 ∷ Steps 0 5 ∷ BeginPut 20 ∷ Steps 0 5 ∷ BeginTake ∷ Steps 0 4 ∷ BeginSteal 1 ∷ Steps 1 5 ∷ Steps 0 1 ∷ BeginPut 30
+    ∷ Steps 0 5 ∷ BeginTake ∷ Steps 0 5 ∷ BeginPut 40 ∷ Steps 0 5 ∷ Steps 1 1 ∷ End ∷ [])
+    shows prints (D 1 ∷ D 2 ∷ H 0 2 20 ∷ D 3 ∷ H 0 3 30 ∷ D 4 ∷ H 1 2 20 ∷ T 4 3 2 0 1 1 ∷ []))
+    -- noting the array before the anchor: the thief's anchor and array are those of its lines 1 and 3, from before the growth
+    ∷ (lines
+    (Open 1 2 1 2 6 ∷ BeginPut 7 ∷ Steps 0 5 ∷ BeginSteal 1 ∷ Steps 1 3 ∷ BeginPut 8 ∷ Steps 0 11 ∷ Steps 1 3 ∷ Steps 1 6 ∷ End ∷ [])
+    shows prints (D 1 ∷ D 2 ∷ H 1 2 8 ∷ T 2 1 1 2 1 0 ∷ []))
+    -- comparing only the head in figure 3: the owner has taken the task meanwhile, and head is as read
+    ∷ (lines (Open 3 2 1 2 2 ∷ BeginPut 7 ∷ Steps 0 5 ∷ BeginSteal 1 ∷ Steps 1 6 ∷ BeginTake ∷ Steps 0 5 ∷ Steps 1 1 ∷ Steps 1 2 ∷ End ∷ [])
+    shows prints (D 1 ∷ H 0 1 7 ∷ E 1 ∷ T 1 1 1 1 0 0 ∷ []))
+    -- shrinking the array to twice the count: with one of two tasks stolen after the put's test, four slots are there, not two
+    ∷ (lines
+    (Open 3 2 2 2 12 ∷ BeginPut 1 ∷ Steps 0 5 ∷ BeginPut 2 ∷ Steps 0 5 ∷ BeginPut 3 ∷ Steps 0 2 ∷ BeginSteal 1 ∷ Steps 1 7 ∷ Steps 0 9 ∷ BeginPut 4
+    ∷ Steps 0 5 ∷ BeginPut 5 ∷ Steps 0 5 ∷ End ∷ [])
+    shows prints (D 1 ∷ D 2 ∷ H 1 1 1 ∷ D 3 ∷ D 4 ∷ D 5 ∷ T 5 1 1 1 4 0 ∷ []))
+    -- EMPTY for owner and thief, and only then; the same task is not handed out again; one refused call, then on
+    ∷ (lines
+    (Open 1 1 2 2 4 ∷ BeginTake ∷ Steps 0 2 ∷ BeginSteal 1 ∷ Steps 1 2 ∷ BeginPut 3 ∷ BeginTake ∷ Steps 0 6 ∷ BeginPut 4 ∷ Steps 0 5 ∷ BeginTake ∷ Steps 0 5
+    ∷ BeginTake ∷ Steps 0 5 ∷ Bad ∷ BeginTake ∷ Steps 0 2 ∷ End ∷ [])
+    shows prints (E 0 ∷ E 1 ∷ R 7 ∷ D 1 ∷ R 8 ∷ D 2 ∷ H 0 2 4 ∷ H 0 1 3 ∷ R 13 ∷ E 0 ∷ T 2 2 2 0 0 0 ∷ []))
+    -- FULL only where X1 says so: 5 words do not hold a second array, 6 do (P5)
+    ∷ (lines (Open 2 1 1 1 5 ∷ BeginPut 7 ∷ Steps 0 6 ∷ BeginPut 8 ∷ Steps 0 4 ∷ End ∷ []) shows prints (D 1 ∷ F 2 ∷ T 1 0 0 0 1 0 ∷ []))
+    -- lost goes by both words: thief 2 gets number 3 with the payload of put 5, and put 3 stays lost
+    ∷ (lines
+    (Open 1 1 2 3 4 ∷ BeginPut 65 ∷ Steps 0 5 ∷ BeginSteal 1 ∷ Steps 1 5 ∷ BeginTake ∷ Steps 0 5 ∷ BeginPut 66 ∷ Steps 0 5 ∷ BeginTake ∷ Steps 0 5 ∷ BeginPut 67
+    ∷ Steps 0 5 ∷ BeginSteal 2 ∷ Steps 2 4 ∷ Steps 1 1 ∷ BeginPut 68 ∷ Steps 0 5 ∷ BeginTake ∷ Steps 0 5 ∷ BeginPut 69 ∷ Steps 0 5 ∷ Steps 2 2 ∷ End ∷ [])
+    shows prints
+    (D 1 ∷ H 0 1 65 ∷ D 2 ∷ H 0 2 66 ∷ D 3 ∷ H 1 1 65 ∷ D 4 ∷ H 0 4 68 ∷ D 5 ∷ H 2 3 69 ∷ T 5 5 4 0 0 2 ∷ []))
+    ∷ []
+
+pub mistakes-shut-out : map (λ r. show (r .run)) mistakes ≡ map (λ r. r .shown) mistakes
+unfolding show played listingFrom respond stepsOf countsOf entriesOf numberOut differentOut taskOut stands lostOf freshOf beginOf stepOf validOf lineStep zeros wordAt setWord offsetAt sizeAt if_then_else_ _and_ _or_
+mistakes-shut-out = refl

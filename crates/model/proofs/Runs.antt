@@ -9,8 +9,8 @@ use Rattle.model.specs.Calls.{freshOf, Call}
 use Rattle.model.specs.Run.{Played, played}
 use Rattle.model.specs.Listing.{Print, listing}
 
--- the program's commands; or calls of the library after a fresh with kind, width, size, workers and a store and a log of
--- so many words, for what the program has no line for
+-- commands of the program; or calls of the library after a fresh with a kind, width, size, workers, and so many words of
+-- store and of log
 pub data Run : Type 0 where
   lines : List Command → Run
   calls : ℕ → ℕ → ℕ → ℕ → ℕ → ℕ → List Call → Run

@@ -1,0 +1,216 @@
+-- Each state limit from both sides: a state at the limit is admitted, one past it is foreign.
+use mathlib.Core.Path.{_≡_, refl}
+use mathlib.Core.Bool.{Bool, true, false}
+use mathlib.Core.List.{List, [], _∷_, _++_, map}
+use Prim.Native.Nat.{ℕ}
+use lib.ListN.{replicate}
+use Rattle.model.specs.declared.Kind.{Kind}
+use Rattle.model.specs.declared.Kind.the-variants.{Lifo, Fifo, Deque}
+use Rattle.model.specs.declared.Anchor.{Anchor}
+use Rattle.model.specs.declared.Line.{Line}
+use Rattle.model.specs.declared.Line.the-variants.{
+  Idle,
+  PutRead,
+  PutTail,
+  PutTest,
+  PutNumber,
+  PutPayload,
+  PutFinish,
+  Claim,
+  Note,
+  Copy,
+  Publish,
+  TakeRead,
+  TakeTail,
+  TakeTest,
+  TakeNumber,
+  TakePayload,
+  TakeFinish,
+  StealRead,
+  StealTail,
+  StealTest,
+  StealNote,
+  StealNumber,
+  StealPayload,
+  StealNext,
+  StealCompare,
+}
+use Rattle.model.specs.declared.Region.{Region}
+use Rattle.model.specs.declared.Worker.{Worker}
+use Rattle.model.specs.Tests.{if_then_else_, _and_, _or_}
+use Rattle.model.specs.Memory.{nowhere, offsetAt, sizeAt}
+use Rattle.model.specs.Answers.{task}
+use Rattle.model.specs.Figures.{anchor}
+use Rattle.model.specs.World.{World, resting}
+use Rattle.model.specs.Limits.{validOf}
+
+abbrev pair : ℕ → ℕ → Region
+pair o n = record { offset = o; length = n }
+
+-- workers 0 to 2 at these lines; the others idle
+abbrev at : Line → Line → Line → List Worker
+at o t u = record { line = o } ∷ record { line = t } ∷ record { line = u } ∷ replicate 5 resting
+
+-- all that the limits look at: kind, width, crew, the anchor, the directory with its published and claimed pairs, the
+-- numbers used, the log's length, the workers, and the lengths of store and log
+abbrev state : Kind → ℕ → ℕ → Anchor → List Region → ℕ → ℕ → ℕ → ℕ → List Worker → ℕ → ℕ → World
+state κ w n a d p c u e l ms ls =
+    record {
+      bench =
+          record {
+            kind = κ;
+            width = w;
+            crew = n;
+            queue = record { anchor = a; arrays = d; published = p; claimed = c };
+            used = u;
+            restarts = 0;
+            written = e;
+            workers = l;
+          };
+      store = replicate ms 0;
+      log = replicate ls 0;
+    }
+
+-- arrays of 2 and 4 tasks, in 12 words
+abbrev two : List Region
+two = pair 0 4 ∷ pair 4 8 ∷ replicate 9 nowhere
+
+-- both published, the workers at these lines, a crew of 2
+abbrev busy : Kind → Anchor → Line → Line → World
+busy κ a o t = state κ 2 2 a two 2 2 9 0 (at o t Idle) 12 8
+
+-- the second one claimed and not yet published
+abbrev growing : Kind → Anchor → Line → World
+growing κ a o = state κ 2 2 a two 1 2 9 0 (at o Idle Idle) 12 8
+
+-- fresh's ranges, the directory, the log's length, the anchor, put numbers, workers outside the crew
+abbrev still : Kind → ℕ → ℕ → Anchor → ℕ → ℕ → World
+still κ w n a u e = state κ w n a two 2 2 u e (at Idle Idle Idle) 12 8
+
+abbrev directory : List Region → ℕ → ℕ → ℕ → World
+directory d p c ms = state Lifo 2 2 (anchor 0 0 0) d p c 9 0 (at Idle Idle Idle) ms 8
+
+abbrev admitted : List World
+admitted =
+    -- fresh's ranges: width 1 to 16, workers 1 to 8
+    still Lifo 1 1 (anchor 0 0 1) 0 0
+    ∷ still Lifo 16 8 (anchor 0 0 65535) 0 0
+    -- the directory: from offset 0, end to end, each twice the one before, sizes to 1,024, fitting the store
+    ∷ directory (pair 0 2 ∷ replicate 10 nowhere) 1 1 2
+    ∷ directory (pair 0 2048 ∷ replicate 10 nowhere) 1 1 2048
+    ∷ directory two 2 2 12
+    -- pairs past the claimed ones are not looked at
+    ∷ directory two 1 1 4
+    -- log length within the slice
+    ∷ still Lifo 2 2 (anchor 0 0 0) 9 8
+    -- tag below 2^w; t at most the size; head at most tail, tail-head at most the size, tail at most 65,535; h below 2,048
+    ∷ still Lifo 2 2 (anchor 0 4 3) 9 0
+    ∷ still Fifo 2 2 (anchor 65531 65535 0) 9 0
+    ∷ still Deque 2 2 (anchor 2047 4 3) 9 0
+    -- put numbers at most 65,535
+    ∷ still Lifo 2 2 (anchor 0 0 0) 65535 0
+    -- the owner at a line of put or take
+    ∷ busy Lifo (anchor 0 0 0) (PutRead (task 65535 7)) Idle
+    ∷ busy Fifo (anchor 0 0 0) (PutTail (task 1 7) 65535) Idle
+    ∷ busy Lifo (anchor 0 0 0) (PutTest (task 1 7) (anchor 0 4 3)) Idle
+    ∷ busy Lifo (anchor 0 0 0) (PutNumber (task 1 7) (anchor 0 3 3)) Idle
+    ∷ busy Fifo (anchor 0 0 0) (PutPayload (task 1 7) (anchor 0 65534 0)) Idle
+    ∷ busy Deque (anchor 0 0 0) (PutFinish (task 1 7) (anchor 2047 3 3)) Idle
+    ∷ busy Lifo (anchor 0 0 0) (Claim (task 1 7)) Idle
+    ∷ busy Fifo (anchor 0 0 0) (TakeTail 65535) Idle
+    ∷ busy Fifo (anchor 0 0 0) (TakeTest (anchor 0 65535 0)) Idle
+    ∷ busy Lifo (anchor 0 0 0) (TakeNumber (anchor 0 1 0)) Idle
+    ∷ busy Deque (anchor 0 0 0) (TakePayload (anchor 0 1 0) 65535) Idle
+    ∷ busy Lifo (anchor 0 0 0) (TakeFinish (anchor 0 4 0) (task 65535 7)) Idle
+    -- X2 to X4: exactly then an array is claimed and unpublished; what is noted is at most the old size
+    ∷ growing Lifo (anchor 0 0 0) (Note (task 1 7))
+    ∷ growing Lifo (anchor 0 0 0) (Copy (task 1 7) 0 2 1)
+    ∷ growing Fifo (anchor 0 0 0) (Copy (task 1 7) 65533 2 1)
+    ∷ growing Deque (anchor 0 0 0) (Copy (task 1 7) 2047 2 1)
+    ∷ growing Lifo (anchor 0 0 0) (Publish (task 1 7))
+    -- a thief at a line of steal; noted arrays and slots exist
+    ∷ busy Fifo (anchor 0 0 0) Idle (StealTail 65535)
+    ∷ busy Fifo (anchor 0 0 0) Idle (StealTest (anchor 0 65535 0))
+    ∷ busy Lifo (anchor 0 0 0) Idle (StealNote (anchor 0 1 0))
+    ∷ busy Lifo (anchor 0 0 0) Idle (StealNumber (anchor 0 2 0) 0)
+    ∷ busy Lifo (anchor 0 0 0) Idle (StealNumber (anchor 0 4 0) 1)
+    ∷ busy Deque (anchor 0 0 0) Idle (StealPayload (anchor 2047 4 0) 0 65535)
+    ∷ busy Deque (anchor 0 0 0) Idle (StealNext (anchor 0 1 0) (task 65535 7))
+    ∷ busy Deque (anchor 0 0 0) Idle (StealCompare (anchor 0 1 0) 2047 (task 65535 7))
+    ∷ []
+
+abbrev foreign : List World
+foreign =
+    still Lifo 0 1 (anchor 0 0 0) 0 0
+    ∷ still Lifo 17 1 (anchor 0 0 0) 0 0
+    ∷ still Lifo 1 0 (anchor 0 0 0) 0 0
+    ∷ still Lifo 1 9 (anchor 0 0 0) 0 0
+    -- no array; not from offset 0; a gap; an overlap; not twice; an odd length; no power of two; above 1,024; short of words
+    ∷ directory two 0 0 12
+    ∷ directory (pair 1 2 ∷ replicate 10 nowhere) 1 1 12
+    ∷ directory (pair 0 4 ∷ pair 5 8 ∷ replicate 9 nowhere) 2 2 16
+    ∷ directory (pair 0 4 ∷ pair 3 8 ∷ replicate 9 nowhere) 2 2 16
+    ∷ directory (pair 0 4 ∷ pair 4 4 ∷ replicate 9 nowhere) 2 2 16
+    ∷ directory (pair 0 5 ∷ replicate 10 nowhere) 1 1 12
+    ∷ directory (pair 0 6 ∷ replicate 10 nowhere) 1 1 12
+    ∷ directory (pair 0 4096 ∷ replicate 10 nowhere) 1 1 4096
+    ∷ directory (pair 0 2048 ∷ pair 2048 4096 ∷ replicate 9 nowhere) 2 2 6144
+    ∷ directory two 2 2 11
+    ∷ directory two 3 3 12
+    -- a claimed array with the owner not at X2 to X4, none with it there
+    ∷ directory two 1 2 12
+    ∷ busy Lifo (anchor 0 0 0) (Note (task 1 7)) Idle
+    ∷ busy Lifo (anchor 0 0 0) (Publish (task 1 7)) Idle
+    ∷ growing Lifo (anchor 0 0 0) (Claim (task 1 7))
+    ∷ still Lifo 2 2 (anchor 0 0 0) 9 9
+    -- the anchor
+    ∷ still Lifo 2 2 (anchor 0 0 4) 9 0
+    ∷ still Lifo 2 2 (anchor 0 5 0) 9 0
+    ∷ still Lifo 2 2 (anchor 1 0 0) 9 0
+    ∷ still Fifo 2 2 (anchor 2 1 0) 9 0
+    ∷ still Fifo 2 2 (anchor 0 5 0) 9 0
+    ∷ still Fifo 2 2 (anchor 65535 65536 0) 9 0
+    ∷ still Fifo 2 2 (anchor 0 0 1) 9 0
+    ∷ still Deque 2 2 (anchor 2048 0 0) 9 0
+    ∷ still Deque 2 2 (anchor 0 5 0) 9 0
+    ∷ still Deque 2 2 (anchor 0 0 4) 9 0
+    ∷ still Lifo 2 2 (anchor 0 0 0) 65536 0
+    -- a line of the other's operation, or of another kind; a worker outside the crew not idle
+    ∷ busy Lifo (anchor 0 0 0) StealRead Idle
+    ∷ busy Lifo (anchor 0 0 0) Idle TakeRead
+    ∷ busy Lifo (anchor 0 0 0) Idle (PutRead (task 1 7))
+    ∷ busy Lifo (anchor 0 0 0) (PutTail (task 1 7) 0) Idle
+    ∷ busy Deque (anchor 0 0 0) (TakeTail 0) Idle
+    ∷ busy Deque (anchor 0 0 0) Idle (StealTail 0)
+    ∷ busy Lifo (anchor 0 0 0) Idle (StealNext (anchor 0 1 0) (task 1 7))
+    ∷ state Lifo 2 2 (anchor 0 0 0) two 2 2 9 0 (at Idle Idle StealRead) 12 8
+    -- values out of these ranges
+    ∷ busy Lifo (anchor 0 0 0) (PutRead (task 65536 7)) Idle
+    ∷ busy Fifo (anchor 0 0 0) (PutTail (task 1 7) 65536) Idle
+    ∷ busy Lifo (anchor 0 0 0) (PutTest (task 1 7) (anchor 0 5 0)) Idle
+    ∷ busy Lifo (anchor 0 0 0) (PutTest (task 1 7) (anchor 0 0 4)) Idle
+    ∷ busy Lifo (anchor 0 0 0) (PutNumber (task 1 7) (anchor 0 4 0)) Idle
+    ∷ busy Fifo (anchor 0 0 0) (PutNumber (task 1 7) (anchor 0 65535 0)) Idle
+    ∷ busy Deque (anchor 0 0 0) (PutFinish (task 1 7) (anchor 0 4 0)) Idle
+    ∷ busy Fifo (anchor 0 0 0) (TakeTest (anchor 2 1 0)) Idle
+    ∷ busy Lifo (anchor 0 0 0) (TakeNumber (anchor 0 0 0)) Idle
+    ∷ busy Deque (anchor 0 0 0) (TakePayload (anchor 0 0 0) 1) Idle
+    ∷ busy Lifo (anchor 0 0 0) (TakePayload (anchor 0 1 0) 65536) Idle
+    ∷ busy Lifo (anchor 0 0 0) (TakeFinish (anchor 0 1 0) (task 65536 7)) Idle
+    ∷ growing Lifo (anchor 0 0 0) (Copy (task 1 7) 1 1 0)
+    ∷ growing Lifo (anchor 0 0 0) (Copy (task 1 7) 0 3 1)
+    ∷ growing Lifo (anchor 0 0 0) (Copy (task 1 7) 0 2 2)
+    ∷ growing Fifo (anchor 0 0 0) (Copy (task 1 7) 65534 2 1)
+    ∷ growing Deque (anchor 0 0 0) (Copy (task 1 7) 2048 2 1)
+    ∷ busy Lifo (anchor 0 0 0) Idle (StealNote (anchor 0 0 0))
+    ∷ busy Lifo (anchor 0 0 0) Idle (StealNumber (anchor 0 1 0) 2)
+    ∷ busy Lifo (anchor 0 0 0) Idle (StealNumber (anchor 0 3 0) 0)
+    ∷ busy Deque (anchor 0 0 0) Idle (StealPayload (anchor 0 1 0) 0 65536)
+    ∷ busy Deque (anchor 0 0 0) Idle (StealCompare (anchor 0 1 0) 2048 (task 1 7))
+    ∷ busy Lifo (anchor 0 0 0) Idle (StealCompare (anchor 0 1 0) 1 (task 1 7))
+    ∷ busy Lifo (anchor 0 0 0) Idle (StealCompare (anchor 0 0 0) 0 (task 1 7))
+    ∷ []
+
+pub limits : map validOf (admitted ++ foreign) ≡ map (λ W. true) admitted ++ map (λ W. false) foreign
+unfolding validOf offsetAt sizeAt if_then_else_ _and_ _or_
+limits = refl
