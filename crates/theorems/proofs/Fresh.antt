@@ -1,0 +1,186 @@
+-- An accepted fresh.
+use mathlib.Core.Path.{_≡_, refl, sym, _∙_, ap, subst}
+use mathlib.Core.Bool.{Bool, true, false}
+use mathlib.Core.List.{List, [], List·Memᴰ·not-nil}
+use Prim.Native.Nat.{ℕ, zero, suc, _*_, _≤_, _<_}
+use native.Mathlib.Omega.{arith}
+use lib.Dec.{ltb, leb}
+use lib.Pow.{pow-pos}
+use lib.ListN.{length, replicate}
+use borrow.Author.Tests.{ltb-true, leb-true, eq-eqb}
+use Rattle.model.specs.Tests.{if_then_else_, _and_}
+use Rattle.model.proofs.Tests.{and-both}
+use Rattle.model.specs.declared.Kind.{Kind}
+use Rattle.model.specs.declared.Kind.the-variants.{Lifo, Fifo, Deque}
+use Rattle.model.specs.declared.Line.the-variants.{Idle}
+use Rattle.model.specs.declared.Refusal.{Refusal}
+use Rattle.model.specs.declared.Refusal.the-variants.{UnknownQueue, TagWidth, ArraySize, Crew, ShortStore}
+use Rattle.model.specs.declared.Answer.the-variants.{Accepted}
+use Rattle.model.specs.World.{World, Outcome, refuse, resting, lineAt}
+use Rattle.model.specs.Answers.{logged}
+use native.Mathlib.Nat.{mul-div-cancel-left}
+use Rattle.model.specs.Memory.{zeros, offsetAt, sizeAt}
+use Rattle.model.specs.Limits.{isSize, widthOk, crewOk}
+use Rattle.model.specs.Calls.{blank, noBench, lent, kindOf, freshOf}
+use Rattle.theorems.proofs.Remainders.{Size, size-pos}
+use Rattle.theorems.proofs.Words.{zeros-length}
+use Rattle.theorems.proofs.Indices.{Rep}
+use Rattle.theorems.proofs.Invariant.{tops-refl}
+use Rattle.theorems.proofs.Directory.{both, size-yes, numbers-zeros, Arrays}
+use Rattle.theorems.proofs.Shape.{Bounded, Spent, pending}
+use Rattle.theorems.proofs.Valid.{Whole}
+use Rattle.theorems.proofs.SoundRun.{InvOf}
+use Rattle.model.specs.declared.Anchor.{Anchor}
+use Rattle.model.specs.Figures.{anchor}
+
+-- what an accepted fresh was given
+pub record Given (w c n : ℕ) (m : List ℕ) : Type 0 where
+  pub width : (0 < w) × (w ≤ 16)
+  pub test : isSize 10 c ≡ true
+  pub crew : (0 < n) × (n ≤ 8)
+  pub room : 2 * c ≤ length m
+
+-- the bench that it hands back, with the memory lent to it
+abbrev pub start : Kind → ℕ → ℕ → ℕ → List ℕ → List ℕ → World
+start κ w c n m l = lent (blank κ w c n) (zeros m 0 (2 * c)) l
+
+-- a test that an accepted call passed
+passed : (x : Bool) (D : Outcome) (U : World) (r : Refusal) → (if x then D else refuse U r) .answer ≡ Accepted
+    → (x ≡ true) × ((if x then D else refuse U r) ≡ D) × (D .answer ≡ Accepted)
+unfolding if_then_else_
+passed true D U r e = (refl, refl, e)
+passed false D U r e = absurd (let z : _≡_ {A = ℕ} 0 1 = cc in omega arith)
+
+pub fresh-is : (k w c n : ℕ) (m l : List ℕ) → freshOf k w c n m l .answer ≡ Accepted
+    → (freshOf k w c n m l .world ≡ start (kindOf k) w c n m l) × Given w c n m
+unfolding freshOf
+fresh-is k w c n m l e =
+    let U = lent noBench m l in
+    let a = passed (ltb 0 k and leb k 3) _ U UnknownQueue e in
+    let b = passed (widthOk w) _ U TagWidth (a .2) in
+    let d = passed (isSize 10 c) _ U ArraySize (b .2) in
+    let f = passed (crewOk n) _ U Crew (d .2) in
+    let g = passed (leb (2 * c) (length m)) _ U ShortStore (f .2) in
+    let u = both (ltb 0 w) (leb w 16) (b .0) in
+    let v = both (ltb 0 n) (leb n 8) (f .0) in (
+      ap (λ (D : Outcome). D .world) (a .1 ∙ b .1 ∙ d .1 ∙ f .1 ∙ g .1),
+      record {
+        width = (ltb-true 0 w (u .0), leb-true w 16 (u .1));
+        test = d .0;
+        crew = (ltb-true 0 n (v .0), leb-true n 8 (v .1));
+        room = leb-true (2 * c) (length m) (g .0);
+      },
+    )
+
+rests : (q k : ℕ) → lineAt (replicate q resting) k ≡ Idle
+rests zero k = refl
+rests (suc q) zero = refl
+rests (suc q) (suc k) = rests q k
+
+module _ (κ : Kind) (w c n : ℕ) (m l : List ℕ) (A : Given w c n m) where
+  first-size : sizeAt (blank κ w c n .queue .arrays) 0 ≡ c
+  unfolding sizeAt
+  first-size = mul-div-cancel-left c (omega arith)
+
+  first-off : offsetAt (blank κ w c n .queue .arrays) 0 ≡ 0
+  unfolding offsetAt
+  first-off = refl
+
+  sized : Size c
+  sized = size-yes 10 c (omega arith) (A .test)
+
+  zero-length : length (zeros m 0 (2 * c)) ≡ length m
+  zero-length = zeros-length m 0 (2 * c) (omega (arith, A .room))
+
+  zero-anchor : (κ : Kind) (z : ℕ) → Bounded κ w z 0 (anchor 0 0 0)
+  zero-anchor Lifo z = (refl, omega arith, pow-pos w)
+  zero-anchor Fifo z = (omega arith, omega arith, omega arith, refl)
+  zero-anchor Deque z = (omega arith, omega arith, pow-pos w)
+
+  zero-spent : (κ : Kind) → Spent κ 0 Idle 0
+  zero-spent Lifo = tt
+  zero-spent Fifo = omega arith
+  zero-spent Deque = tt
+
+  arrays-ok : Arrays (blank κ w c n .queue) (zeros m 0 (2 * c))
+  arrays-ok =
+      record {
+        some = omega arith;
+        below = omega arith;
+        few = omega arith;
+        slots = refl;
+        tidied = and-both _ _ (eq-eqb _ _ first-off) (and-both _ _ (eq-eqb _ _ long) (rw first-size (A .test)));
+        power = omega (arith, first-size, size-pos sized);
+        room = omega (arith, first-off, first-size, zero-length, A .room);
+        numbers = λ a h. numbers-zeros m 0 (2 * c) (omega arith) (λ a h. absurd (omega arith)) a (omega (arith, first-off, first-size));
+      }
+    where
+      long : 2 * c ≡ 2 * sizeAt (blank κ w c n .queue .arrays) 0
+      long = omega (arith, first-size)
+
+  pub fresh-whole : Whole (start κ w c n m l)
+  unfolding if_then_else_
+  fresh-whole =
+      record {
+        width = A .width;
+        crew = A .crew;
+        workers = refl;
+        rest = λ k h. rw (rests 8 k);
+        used = omega arith;
+        logged = omega arith;
+        shape =
+            record {
+              low = 0;
+              anchor = zero-anchor κ _;
+              arrays = arrays-ok;
+              claims = refl;
+              spent = zero-spent κ;
+              own = tt;
+              th = λ k. rw (rests 8 (suc k)) tt;
+            };
+      }
+
+  rep-zero : (κ : Kind) → Rep κ (anchor 0 0 0) 0 0
+  rep-zero Lifo = (refl, refl, refl)
+  rep-zero Fifo = (refl, refl)
+  rep-zero Deque = (refl, refl)
+
+  pub fresh-inv : InvOf (start κ w c n m l) []
+  fresh-inv =
+      record {
+        lo = 0;
+        hi = 0;
+        ol = 0;
+        oh = 0;
+        rep = rep-zero κ;
+        tops = tops-refl κ 0;
+        core =
+            record {
+              low = omega arith;
+              mid = omega arith;
+              high = omega arith;
+              fit = omega arith;
+              whole = λ i a b. absurd (omega arith);
+              outL = λ i a b. absurd (omega arith);
+              outH = λ i a b. absurd (omega arith);
+              all = λ t d. absurd (List·Memᴰ·not-nil d);
+            };
+        sized = rw first-size sized;
+        room = omega (arith, first-off, first-size, zero-length, A .room);
+        tag = pow-pos w;
+        own = tt;
+        th = λ k. rw (rests 8 (suc k)) tt;
+      }
+
+-- what is needed of an accepted fresh
+pub record Started (W : World) (w : ℕ) : Type 0 where
+  pub whole : Whole W
+  pub inv : InvOf W []
+  pub none-open : pending (lineAt (W .bench .workers) 0) ≡ 0
+  pub width : W .bench .width ≡ w
+
+pub fresh-started : (k w c n : ℕ) (m l : List ℕ) → freshOf k w c n m l .answer ≡ Accepted → Started (freshOf k w c n m l .world) w
+fresh-started k w c n m l e =
+    let F = fresh-is k w c n m l e in
+    subst (λ (W : World). Started W w) (sym (F .0))
+    (record { whole = fresh-whole (kindOf k) w c n m l (F .1); inv = fresh-inv (kindOf k) w c n m l (F .1); none-open = refl; width = refl })

@@ -1,0 +1,403 @@
+-- The invariant, and what a step of one worker does to what another has read.
+use mathlib.Core.Path.{_≡_, refl, sym, _∙_, subst}
+use mathlib.Core.Logic.{_≢_, _⊎_, inl, inr}
+use mathlib.Core.List.{List, _∷_, List·Memᴰ, List·Memᴰ·tail}
+use Prim.Native.Nat.{ℕ, suc, _+_, _*_, _%_, _^_, _≤_, _<_}
+use native.Mathlib.Omega.{arith}
+use lib.ListN.{length}
+use borrow.Author.Tests.{ne-eqb, eq-eqb}
+use Rattle.model.specs.declared.Kind.{Kind}
+use Rattle.model.specs.declared.Kind.the-variants.{Lifo, Fifo, Deque}
+use Rattle.model.specs.declared.Line.{Line}
+use Rattle.model.specs.declared.Line.the-variants.{Idle, PutRead, PutTail, PutTest, PutNumber, PutPayload, PutFinish, Claim, Note, Copy, Publish, TakeRead, TakeTail, TakeTest, TakeNumber, TakePayload, TakeFinish, StealRead, StealTail, StealTest, StealNote, StealNumber, StealPayload, StealNext, StealCompare}
+use Rattle.model.specs.declared.Queue.{Queue}
+use Rattle.theorems.proofs.Events.{Ev, quiet, read1, done, given, missed, empty, began, full, Hist, Out, since, cut}
+use Rattle.theorems.proofs.Words.{W}
+use Rattle.model.specs.Memory.{offsetAt, sizeAt}
+use Rattle.model.specs.Lines.{off, size}
+use Rattle.theorems.proofs.Remainders.{tag-next, Size}
+use Rattle.theorems.proofs.Window.{View, word, taskAt, Core, later}
+use Rattle.theorems.proofs.Seen.{Dir, Got, Noted, Frame, Still, dir-keep, got-keep, noted-keep}
+use Rattle.theorems.proofs.Indices.{Rep, Start, Small, stolen-ix, taken-ix}
+use Rattle.model.specs.declared.Task.{Task}
+use Rattle.model.specs.declared.Anchor.{Anchor}
+use Rattle.model.specs.Figures.{anchor}
+
+abbrev pub view : Queue → List ℕ → ℕ → ℕ → View
+view Q μ ol oh = record { m = μ; d = Q .arrays; n = Q .published; b = off Q; z = size Q; ol = ol; oh = oh }
+
+-- but in LIFO, only the owner moves the upper end
+abbrev pub Tops : Kind → ℕ → ℕ → Type 0
+Tops Lifo hi oh = Unit {0}
+Tops Fifo hi oh = hi ≡ oh
+Tops Deque hi oh = hi ≡ oh
+
+abbrev pub IsFifo : Kind → Type 0
+IsFifo Lifo = ⊥
+IsFifo Fifo = Unit {0}
+IsFifo Deque = ⊥
+
+-- all puts that were finished at worker i's line 1 have been handed out
+abbrev pub Emptied : ℕ → Hist → Type 0
+Emptied i h = (t : Task) → List·Memᴰ (done t) (cut i h) → Out t h
+
+-- the claimed array
+abbrev pub Claimed : View → Type 0
+Claimed v =
+    (v .b + 2 * v .z + 4 * v .z ≤ length (v .m)) × (2 * v .z ≤ 1024) × (offsetAt (v .d) (v .n) ≡ v .b + 2 * v .z)
+    × (sizeAt (v .d) (v .n) ≡ 2 * v .z) × (0 < v .n)
+
+-- the indices from lo up to hi are in the claimed array
+abbrev pub Copied : View → ℕ → ℕ → Type 0
+Copied v lo hi = (i j : ℕ) → lo ≤ i → i < hi → j < 2 → W (v .m) (v .b + 2 * v .z) (2 * v .z) i j ≡ word v i j
+
+pub record Copying (κ : Kind) (v : View) (a q k : ℕ) : Type 0 where
+  pub from : ℕ
+  pub start : Start κ a from
+  pub low : from ≤ v .ol
+  pub high : v .oh ≤ from + q
+  pub few : q ≤ v .z
+  pub more : k < q
+  pub copied : Copied v from (from + k)
+
+abbrev pub OwnerOk : Kind → View → ℕ → Hist → Line → Type 0
+OwnerOk κ v g h Idle = Unit {0}
+OwnerOk κ v g h (PutRead t) = List·Memᴰ (began t) h
+OwnerOk κ v g h (PutTail t a) = List·Memᴰ (began t) h × (IsFifo κ × (v .ol ≡ a))
+OwnerOk κ v g h (PutTest t r) = List·Memᴰ (began t) h × (Rep κ r (v .ol) (v .oh) × (r .tag ≡ g))
+OwnerOk κ v g h (PutNumber t r) = List·Memᴰ (began t) h × (Rep κ r (v .ol) (v .oh) × (r .tag ≡ g) × (v .oh < v .ol + v .z))
+OwnerOk κ v g h (PutPayload t r) = List·Memᴰ (began t) h × (Rep κ r (v .ol) (v .oh) × (r .tag ≡ g) × (v .oh < v .ol + v .z) × (word v (v .oh) 0 ≡ t .number))
+OwnerOk κ v g h (PutFinish t r) =
+    List·Memᴰ (began t) h × (Rep κ r (v .ol) (v .oh) × (r .tag ≡ g) × (v .oh < v .ol + v .z) × (taskAt v (v .oh) ≡ t))
+OwnerOk κ v g h (Claim t) = List·Memᴰ (began t) h
+OwnerOk κ v g h (Note t) = List·Memᴰ (began t) h × (Claimed v)
+OwnerOk κ v g h (Copy t a q k) = List·Memᴰ (began t) h × Claimed v × Copying κ v a q k
+OwnerOk κ v g h (Publish t) = List·Memᴰ (began t) h × Claimed v × Copied v (v .ol) (v .oh)
+OwnerOk κ v g h TakeRead = Unit {0}
+OwnerOk κ v g h (TakeTail a) = IsFifo κ × (v .ol ≡ a) × (v .ol ≡ v .oh → Emptied 0 h) × List·Memᴰ (read1 0) h
+OwnerOk κ v g h (TakeTest r) = Rep κ r (v .ol) (v .oh) × (r .tag ≡ g) × (v .ol ≡ v .oh → Emptied 0 h) × List·Memᴰ (read1 0) h
+OwnerOk κ v g h (TakeNumber r) = Rep κ r (v .ol) (v .oh) × (r .tag ≡ g) × (v .ol < v .oh)
+OwnerOk κ v g h (TakePayload r x) = Rep κ r (v .ol) (v .oh) × (r .tag ≡ g) × (v .ol < v .oh) × (x ≡ word v (taken-ix κ (v .ol) (v .oh)) 0)
+OwnerOk κ v g h (TakeFinish r t) =
+    Rep κ r (v .ol) (v .oh) × (r .tag ≡ g) × (v .ol < v .oh) × (t ≡ taskAt v (taken-ix κ (v .ol) (v .oh)))
+OwnerOk κ v g h StealRead = ⊥
+OwnerOk κ v g h (StealTail a) = ⊥
+OwnerOk κ v g h (StealTest r) = ⊥
+OwnerOk κ v g h (StealNote r) = ⊥
+OwnerOk κ v g h (StealNumber r b) = ⊥
+OwnerOk κ v g h (StealPayload r b x) = ⊥
+OwnerOk κ v g h (StealNext r t) = ⊥
+OwnerOk κ v g h (StealCompare r e t) = ⊥
+
+-- g is the tag now, r the tag read, d the puts finished between
+abbrev pub Tag : Kind → ℕ → ℕ → ℕ → ℕ → Type 0
+Tag Lifo w g d r = (r < 2 ^ w) × (g ≡ (r + d) % 2 ^ w)
+Tag Fifo w g d r = Unit {0}
+Tag Deque w g d r = (r < 2 ^ w) × (g ≡ (r + d) % 2 ^ w)
+
+-- where a window read lies, against the owner's
+abbrev pub Hold : Kind → View → ℕ → ℕ → ℕ → Type 0
+Hold Lifo v d lo hi = hi ≤ v .z
+Hold Fifo v d lo hi = hi ≤ v .oh
+Hold Deque v d lo hi = (lo ≤ v .ol + 1024) × (d ≡ 0 → v .oh ≤ hi)
+
+-- what may have broken the words read
+abbrev pub stale : Kind → ℕ → ℕ
+stale Lifo d = d
+stale Fifo d = 0
+stale Deque d = d
+
+pub record Reads (κ : Kind) (w : ℕ) (v : View) (g : ℕ) (h : Hist) (k : ℕ) (r : Anchor) : Type 0 where
+  pub lo : ℕ
+  pub hi : ℕ
+  pub rep : Rep κ r lo hi
+  pub le : lo ≤ hi
+  pub begun : List·Memᴰ (read1 k) h
+  pub tag : Tag κ w g (since k h) (r .tag)
+  pub hold : Hold κ v (since k h) lo hi
+
+abbrev pub NotedAt : ℕ → View → ℕ → ℕ → ℕ → Type 0
+NotedAt st v b z i = Dir v b z × Noted st v b z i
+
+abbrev pub GotV : (κ : Kind) → (w : ℕ) → (v : View) → (g : ℕ) → (h : Hist) → (k : ℕ) (r : Anchor) → Reads κ w v g h k r → ℕ → ℕ → Type 0
+GotV κ w v g h k r R j x = Got (stale κ (since k h)) v (stolen-ix κ (R .lo) (R .hi)) j x
+
+abbrev pub NotedV : (κ : Kind) → (w : ℕ) → (v : View) → (g : ℕ) → (h : Hist) → (k : ℕ) (r : Anchor) → Reads κ w v g h k r → ℕ → Type 0
+NotedV κ w v g h k r R b =
+    (b < v .n) × (Size (sizeAt (v .d) b) × Small κ (sizeAt (v .d) b) (R .hi))
+    × NotedAt (stale κ (since k h)) v (offsetAt (v .d) b) (sizeAt (v .d) b) (stolen-ix κ (R .lo) (R .hi))
+
+-- double-ended line 5
+abbrev pub Next : Kind → ℕ → ℕ → Type 0
+Next Lifo a e = Unit {0}
+Next Fifo a e = Unit {0}
+Next Deque a e = e ≡ (a + 1) % 2048
+
+abbrev pub ThiefOk : Kind → ℕ → View → ℕ → Hist → ℕ → Line → Type 0
+ThiefOk κ w v g h k Idle = Unit {0}
+ThiefOk κ w v g h k StealRead = Unit {0}
+ThiefOk κ w v g h k (StealTail a) = IsFifo κ × (e : ℕ) × (a ≤ e) × (e ≤ v .oh) × (a ≡ e → Emptied k h) × List·Memᴰ (read1 k) h
+ThiefOk κ w v g h k (StealTest r) = (R : Reads κ w v g h k r) × (R .lo ≡ R .hi → Emptied k h)
+ThiefOk κ w v g h k (StealNote r) = (R : Reads κ w v g h k r) × (R .lo < R .hi)
+ThiefOk κ w v g h k (StealNumber r b) = (R : Reads κ w v g h k r) × (R .lo < R .hi) × NotedV κ w v g h k r R b
+ThiefOk κ w v g h k (StealPayload r b x) =
+    (R : Reads κ w v g h k r) × (R .lo < R .hi) × NotedV κ w v g h k r R b × GotV κ w v g h k r R 0 x
+ThiefOk κ w v g h k (StealNext r t) =
+    (R : Reads κ w v g h k r) × (R .lo < R .hi) × GotV κ w v g h k r R 0 (t .number) × GotV κ w v g h k r R 1 (t .payload)
+ThiefOk κ w v g h k (StealCompare r e t) =
+    (R : Reads κ w v g h k r) × (R .lo < R .hi) × GotV κ w v g h k r R 0 (t .number) × GotV κ w v g h k r R 1 (t .payload)
+    × Next κ (r .head) e
+ThiefOk κ w v g h k (PutRead t) = ⊥
+ThiefOk κ w v g h k (PutTail t a) = ⊥
+ThiefOk κ w v g h k (PutTest t r) = ⊥
+ThiefOk κ w v g h k (PutNumber t r) = ⊥
+ThiefOk κ w v g h k (PutPayload t r) = ⊥
+ThiefOk κ w v g h k (PutFinish t r) = ⊥
+ThiefOk κ w v g h k (Claim t) = ⊥
+ThiefOk κ w v g h k (Note t) = ⊥
+ThiefOk κ w v g h k (Copy t a q j) = ⊥
+ThiefOk κ w v g h k (Publish t) = ⊥
+ThiefOk κ w v g h k TakeRead = ⊥
+ThiefOk κ w v g h k (TakeTail a) = ⊥
+ThiefOk κ w v g h k (TakeTest r) = ⊥
+ThiefOk κ w v g h k (TakeNumber r) = ⊥
+ThiefOk κ w v g h k (TakePayload r x) = ⊥
+ThiefOk κ w v g h k (TakeFinish r t) = ⊥
+
+-- o: the owner's line; φ k: thief k's
+pub record Inv (κ : Kind) (w : ℕ) (Q : Queue) (μ : List ℕ) (o : Line) (φ : ℕ → Line) (h : Hist) : Type 0 where
+  pub lo : ℕ
+  pub hi : ℕ
+  pub ol : ℕ
+  pub oh : ℕ
+  pub rep : Rep κ (Q .anchor) lo hi
+  pub tops : Tops κ hi oh
+  pub core : Core (view Q μ ol oh) lo hi h
+  pub sized : Size (size Q)
+  pub room : off Q + 2 * size Q ≤ length μ
+  pub tag : Q .anchor .tag < 2 ^ w
+  pub own : OwnerOk κ (view Q μ ol oh) (Q .anchor .tag) h o
+  pub th : (k : ℕ) → ThiefOk κ w (view Q μ ol oh) (Q .anchor .tag) h (suc k) (φ k)
+
+-- what a step of another worker does to thief k
+abbrev pub Grow : Kind → View → View → Type 0
+Grow Lifo v v′ = Unit {0}
+Grow Fifo v v′ = v .oh ≤ v′ .oh
+Grow Deque v v′ = Unit {0}
+
+pub record Move (κ : Kind) (w : ℕ) (v v′ : View) (g g′ : ℕ) (h h′ : Hist) (k : ℕ) : Type 0 where
+  pub frame : Frame v v′
+  pub grow : Grow κ v v′
+  pub still : since k h′ ≡ 0 → (since k h ≡ 0) × (v′ .oh ≤ v .oh)
+  pub tags : (x : ℕ) → Tag κ w g (since k h) x → Tag κ w g′ (since k h′) x
+  pub emp : Emptied k h → Emptied k h′
+  pub grown : {e : Ev} → List·Memᴰ e h → List·Memᴰ e h′
+
+hold-keep : (κ : Kind) (v v′ : View) (d d′ lo hi : ℕ) → v .ol ≤ v′ .ol → v .z ≤ v′ .z → Grow κ v v′ → (d′ ≡ 0 → (d ≡ 0) × (v′ .oh ≤ v .oh))
+    → Hold κ v d lo hi → Hold κ v′ d′ lo hi
+hold-keep Lifo v v′ d d′ lo hi u b G S H = omega arith
+hold-keep Fifo v v′ d d′ lo hi u b G S H = omega arith
+hold-keep Deque v v′ d d′ lo hi u b G S H = (omega arith, λ e. omega (arith, S e .1, H .1 (S e .0)))
+
+still-of : (κ : Kind) (v v′ : View) (d d′ lo hi : ℕ) → (d′ ≡ 0 → (d ≡ 0) × (v′ .oh ≤ v .oh))
+    → Hold κ v d lo hi → lo < hi → Still (stale κ d) (stale κ d′) v v′ (stolen-ix κ lo hi)
+still-of Lifo v v′ d d′ lo hi S H l e = (S e .0, λ q. omega (arith, S e .1))
+still-of Fifo v v′ d d′ lo hi S H l e = (refl, λ q. omega arith)
+still-of Deque v v′ d d′ lo hi S H l e = (S e .0, λ q. omega (arith, S e .1))
+
+module _ {κ : Kind} {w : ℕ} {v v′ : View} {g g′ : ℕ} {h h′ : Hist} {k : ℕ} (M : Move κ w v v′ g g′ h h′ k) where
+  reads-keep : {r : Anchor} → Reads κ w v g h k r → Reads κ w v′ g′ h′ k r
+  reads-keep {r} R =
+      record {
+        lo = R .lo;
+        hi = R .hi;
+        rep = R .rep;
+        le = R .le;
+        begun = M .grown (R .begun);
+        tag = M .tags (r .tag) (R .tag);
+        hold = hold-keep κ v v′ (since k h) (since k h′) (R .lo) (R .hi) (M .frame .up) (M .frame .larger) (M .grow) (M .still) (R .hold);
+      }
+
+  st : {r : Anchor} (R : Reads κ w v g h k r) → R .lo < R .hi → Still (stale κ (since k h)) (stale κ (since k h′)) v v′ (stolen-ix κ (R .lo) (R .hi))
+  st R l = still-of κ v v′ (since k h) (since k h′) (R .lo) (R .hi) (M .still) (R .hold) l
+
+  place-keep : {r : Anchor} (b : ℕ) (R : Reads κ w v g h k r) → R .lo < R .hi → NotedV κ w v g h k r R b → NotedV κ w v′ g′ h′ k r (reads-keep R) b
+  unfolding reads-keep
+  place-keep b R l (p, s, N) =
+      let P = M .frame .places b p in
+      (P .0, rw (P .2) s, rw (P .1, P .2) (dir-keep (M .frame) (N .0), noted-keep (M .frame) (st R l) (N .0) (N .1)))
+
+  oh-le : IsFifo κ → v .oh ≤ v′ .oh
+  oh-le f = go κ f (M .grow)
+    where
+      go : (κ : Kind) → IsFifo κ → Grow κ v v′ → v .oh ≤ v′ .oh
+      go Lifo f q = absurd f
+      go Fifo f q = q
+      go Deque f q = absurd f
+
+  pub thief-holds : (θ : Line) → ThiefOk κ w v g h k θ → ThiefOk κ w v′ g′ h′ k θ
+  unfolding reads-keep
+  thief-holds Idle o = tt
+  thief-holds StealRead o = tt
+  thief-holds (StealTail a) (f, e, p, q, E, r) = (f, e, p, omega (arith, oh-le f), (λ x. M .emp (E x)), M .grown r)
+  thief-holds (StealTest r) (R, E) = (reads-keep R, λ x. M .emp (E x))
+  thief-holds (StealNote r) (R, l) = (reads-keep R, l)
+  thief-holds (StealNumber r b) (R, l, N) = (reads-keep R, l, place-keep b R l N)
+  thief-holds (StealPayload r b x) (R, l, N, G) =
+      (reads-keep R, l, place-keep b R l N, got-keep (M .frame) (st R l) (omega arith) G)
+  thief-holds (StealNext r t) (R, l, G, G′) =
+      (reads-keep R, l, got-keep (M .frame) (st R l) (omega arith) G, got-keep (M .frame) (st R l) (omega arith) G′)
+  thief-holds (StealCompare r e t) (R, l, G, G′, N) =
+      (reads-keep R, l, got-keep (M .frame) (st R l) (omega arith) G, got-keep (M .frame) (st R l) (omega arith) G′, N)
+  thief-holds (PutRead t) o = absurd o
+  thief-holds (PutTail t a) o = absurd o
+  thief-holds (PutTest t r) o = absurd o
+  thief-holds (PutNumber t r) o = absurd o
+  thief-holds (PutPayload t r) o = absurd o
+  thief-holds (PutFinish t r) o = absurd o
+  thief-holds (Claim t) o = absurd o
+  thief-holds (Note t) o = absurd o
+  thief-holds (Copy t a q j) o = absurd o
+  thief-holds (Publish t) o = absurd o
+  thief-holds TakeRead o = absurd o
+  thief-holds (TakeTail a) o = absurd o
+  thief-holds (TakeTest r) o = absurd o
+  thief-holds (TakeNumber r) o = absurd o
+  thief-holds (TakePayload r x) o = absurd o
+  thief-holds (TakeFinish r t) o = absurd o
+
+-- events that leave worker k's attempt as it is
+abbrev pub Calm : ℕ → Ev → Type 0
+Calm k quiet = Unit {0}
+Calm k (read1 j) = j ≢ k
+Calm k (done t) = ⊥
+Calm k (given j t) = Unit {0}
+Calm k (missed j) = Unit {0}
+Calm k (empty j) = Unit {0}
+Calm k (began t) = Unit {0}
+Calm k (full t) = Unit {0}
+
+calm-since : (k : ℕ) (h : Hist) (e : Ev) → Calm k e → since k (e ∷ h) ≡ since k h
+calm-since k h quiet c = refl
+calm-since k h (read1 j) c = rw (ne-eqb j k c)
+calm-since k h (done t) c = absurd c
+calm-since k h (given j t) c = refl
+calm-since k h (missed j) c = refl
+calm-since k h (empty j) c = refl
+calm-since k h (began t) c = refl
+calm-since k h (full t) c = refl
+
+calm-cut : (k : ℕ) (h : Hist) (e : Ev) → Calm k e → cut k (e ∷ h) ≡ cut k h
+calm-cut k h quiet c = refl
+calm-cut k h (read1 j) c = rw (ne-eqb j k c)
+calm-cut k h (done t) c = absurd c
+calm-cut k h (given j t) c = refl
+calm-cut k h (missed j) c = refl
+calm-cut k h (empty j) c = refl
+calm-cut k h (began t) c = refl
+calm-cut k h (full t) c = refl
+
+pub emp-calm : (k : ℕ) (h : Hist) (e : Ev) → Calm k e → Emptied k h → Emptied k (e ∷ h)
+emp-calm k h e c E t d = later e (E t (subst (λ (x : Hist). List·Memᴰ (done t) x) (calm-cut k h e c) d))
+
+-- the newest line 1
+pub cut-now : (i : ℕ) (h : Hist) → cut i (read1 i ∷ h) ≡ h
+cut-now i h = rw (eq-eqb i i refl)
+
+pub since-now : (i : ℕ) (h : Hist) → since i (read1 i ∷ h) ≡ 0
+since-now i h = rw (eq-eqb i i refl)
+
+pub emp-now : {v : View} {lo hi : ℕ} {h : Hist} (i : ℕ) → Core v lo hi h → lo ≡ hi → Emptied i (read1 i ∷ h)
+emp-now {v} {lo} {hi} {h} i C e t d = go (C .all t (subst (λ (l : Hist). List·Memᴰ (done t) l) (cut-now i h) d))
+  where
+    go : Out t h ⊎ ((i : ℕ) × (lo ≤ i) × (i < hi) × (taskAt v i ≡ t)) → Out t (read1 i ∷ h)
+    go (inl o) = later (read1 i) o
+    go (inr (k, a, b, x)) = absurd (omega arith)
+
+tag-calm : (κ : Kind) (w g d d′ r : ℕ) → d′ ≡ d → Tag κ w g d r → Tag κ w g d′ r
+tag-calm κ w g d d′ r e t = rw e t
+
+pub move-calm : {κ : Kind} {w : ℕ} {v v′ : View} {g : ℕ} {h : Hist} {k : ℕ} (e : Ev) → Calm k e → Frame v v′ → Grow κ v v′ → v′ .oh ≤ v .oh
+    → Move κ w v v′ g g h (e ∷ h) k
+move-calm {κ} {w} {v} {v′} {g} {h} {k} e c F G l =
+    record {
+      frame = F;
+      grow = G;
+      still = λ q. (sym (calm-since k h e c) ∙ q, l);
+      tags = λ r. tag-calm κ w g (since k h) (since k (e ∷ h)) r (calm-since k h e c);
+      emp = emp-calm k h e c;
+      grown = List·Memᴰ·tail;
+    }
+
+-- nothing happened
+pub move-none : {κ : Kind} {w : ℕ} {v v′ : View} {g : ℕ} {h : Hist} {k : ℕ} → Frame v v′ → Grow κ v v′ → v′ .oh ≤ v .oh → Move κ w v v′ g g h h k
+move-none {κ} {w} {v} {v′} {g} {h} {k} F G l =
+    record { frame = F; grow = G; still = λ q. (q, l); tags = λ r t. t; emp = λ E. E; grown = λ m. m }
+
+-- the tag after a put
+abbrev pub tagAfter : Kind → ℕ → ℕ → ℕ
+tagAfter Lifo w g = (g + 1) % 2 ^ w
+tagAfter Fifo w g = g
+tagAfter Deque w g = (g + 1) % 2 ^ w
+
+tag-put : (κ : Kind) (w g d r : ℕ) → Tag κ w g d r → Tag κ w (tagAfter κ w g) (suc d) r
+tag-put Lifo w g d r t = (t .0, tag-next g r d (2 ^ w) (t .1))
+tag-put Fifo w g d r t = tt
+tag-put Deque w g d r t = (t .0, tag-next g r d (2 ^ w) (t .1))
+
+pub move-put : {κ : Kind} {w : ℕ} {v v′ : View} {g : ℕ} {h : Hist} {k : ℕ} (t : Task) → Frame v v′ → Grow κ v v′
+    → Move κ w v v′ g (tagAfter κ w g) h (done t ∷ h) k
+move-put {κ} {w} {v} {v′} {g} {h} {k} t F G =
+    record {
+      frame = F;
+      grow = G;
+      still = λ q. absurd (omega arith);
+      tags = λ r. tag-put κ w g (since k h) r;
+      emp = λ E t′ d. later (done t) (E t′ d);
+      grown = List·Memᴰ·tail;
+    }
+
+-- a step of a thief, seen by the owner
+pub own-keep : (κ : Kind) (v : View) (g : ℕ) (h : Hist) (e : Ev) → Calm 0 e → (o : Line) → OwnerOk κ v g h o → OwnerOk κ v g (e ∷ h) o
+own-keep κ v gc h e c Idle k = k
+own-keep κ v gc h e c (PutRead t) k = List·Memᴰ·tail k
+own-keep κ v gc h e c (PutTail t a) (b, k) = (List·Memᴰ·tail b, k)
+own-keep κ v gc h e c (PutTest t r) (b, k) = (List·Memᴰ·tail b, k)
+own-keep κ v gc h e c (PutNumber t r) (b, k) = (List·Memᴰ·tail b, k)
+own-keep κ v gc h e c (PutPayload t r) (b, k) = (List·Memᴰ·tail b, k)
+own-keep κ v gc h e c (PutFinish t r) (b, k) = (List·Memᴰ·tail b, k)
+own-keep κ v gc h e c (Claim t) k = List·Memᴰ·tail k
+own-keep κ v gc h e c (Note t) (b, k) = (List·Memᴰ·tail b, k)
+own-keep κ v gc h e c (Copy t a q i) (b, d, k) = (List·Memᴰ·tail b, d, k)
+own-keep κ v gc h e c (Publish t) (b, d, k) = (List·Memᴰ·tail b, d, k)
+own-keep κ v gc h e c TakeRead k = k
+own-keep κ v gc h e c (TakeTail a) (f, l, E, r) = (f, l, (λ x. emp-calm 0 h e c (E x)), List·Memᴰ·tail r)
+own-keep κ v gc h e c (TakeTest r) (p, q, E, y) = (p, q, (λ x. emp-calm 0 h e c (E x)), List·Memᴰ·tail y)
+own-keep κ v gc h e c (TakeNumber r) k = k
+own-keep κ v gc h e c (TakePayload r x) k = k
+own-keep κ v gc h e c (TakeFinish r t) k = k
+own-keep κ v gc h e c StealRead k = absurd k
+own-keep κ v gc h e c (StealTail a) k = absurd k
+own-keep κ v gc h e c (StealTest r) k = absurd k
+own-keep κ v gc h e c (StealNote r) k = absurd k
+own-keep κ v gc h e c (StealNumber r b) k = absurd k
+own-keep κ v gc h e c (StealPayload r b x) k = absurd k
+own-keep κ v gc h e c (StealNext r t) k = absurd k
+own-keep κ v gc h e c (StealCompare r i t) k = absurd k
+
+pub tops-refl : (κ : Kind) (n : ℕ) → Tops κ n n
+tops-refl Lifo n = tt
+tops-refl Fifo n = refl
+tops-refl Deque n = refl
+
+-- the owner's window keeps its upper end
+pub grow-same : (κ : Kind) (v v′ : View) → v′ .oh ≡ v .oh → Grow κ v v′
+grow-same Lifo v v′ e = tt
+grow-same Fifo v v′ e = omega arith
+grow-same Deque v v′ e = tt
+
+-- the owner's window comes to be the queue's
+pub grow-read : (κ : Kind) (v v′ : View) (hi : ℕ) → v′ .oh ≡ hi → Tops κ hi (v .oh) → Grow κ v v′
+grow-read Lifo v v′ hi e t = tt
+grow-read Fifo v v′ hi e t = omega arith
+grow-read Deque v v′ hi e t = tt

@@ -1,0 +1,93 @@
+-- The owner's steps by what they change.
+use mathlib.Core.Path.{_≡_, refl}
+use mathlib.Core.List.{List, _∷_}
+use Prim.Native.Nat.{ℕ, suc, _≤_, _<_}
+use native.Mathlib.Omega.{arith}
+use lib.ListN.{length, getD}
+use Rattle.model.specs.declared.Kind.{Kind}
+use Rattle.model.specs.declared.Line.{Line}
+use Rattle.model.specs.declared.Queue.{Queue}
+use Rattle.theorems.proofs.Events.{Ev, quiet, Hist, GoodE, evOf}
+use Rattle.theorems.proofs.Words.{W}
+use Rattle.model.specs.Calls.{step}
+use Rattle.model.specs.Lines.{Effect, off, size}
+use Rattle.theorems.proofs.Window.{View, NotDone, core-words, core-ev, core-read}
+use Rattle.theorems.proofs.Seen.{frame-same, frame-store}
+use Rattle.theorems.proofs.Invariant.{view, OwnerOk, Inv, Calm, move-calm, thief-holds, tops-refl, grow-same, grow-read}
+use Rattle.model.specs.Figures.{anchor}
+
+-- the owner's line o leaves E
+abbrev pub Kept : Kind → ℕ → (ℕ → Line) → Hist → Line → Effect → Type 0
+Kept κ w φ h o E =
+    Inv κ w (E .queue) (E .store) (E .line) φ (evOf (step 0) o (E .answer) ∷ h) × GoodE (evOf (step 0) o (E .answer)) h
+
+-- a line that changes only what the owner has read
+pub own-same : (κ : Kind) (w : ℕ) (Q : Queue) (μ : List ℕ) (φ : ℕ → Line) (h : Hist) (o o′ : Line) (e : Ev) → NotDone e → ((k : ℕ) → Calm (suc k) e)
+    → (I : Inv κ w Q μ o φ h) → OwnerOk κ (view Q μ (I .ol) (I .oh)) (Q .anchor .tag) (e ∷ h) o′ → Inv κ w Q μ o′ φ (e ∷ h)
+own-same κ w Q μ φ h o o′ e nd c I k =
+    record {
+      lo = I .lo;
+      hi = I .hi;
+      ol = I .ol;
+      oh = I .oh;
+      rep = I .rep;
+      tops = I .tops;
+      core = core-ev e nd (I .core);
+      sized = I .sized;
+      room = I .room;
+      tag = I .tag;
+      own = k;
+      th = λ i.
+          thief-holds (move-calm e (c i) (frame-same v (I .ol) (I .oh) (omega arith)) (grow-same κ v v refl) (omega arith)) (φ i) (I .th i);
+    }
+  where
+    v : View
+    v = view Q μ (I .ol) (I .oh)
+
+-- a line that reads the window
+pub own-read : (κ : Kind) (w : ℕ) (Q : Queue) (μ : List ℕ) (φ : ℕ → Line) (h : Hist) (o o′ : Line) (e : Ev) → NotDone e → ((k : ℕ) → Calm (suc k) e)
+    → (I : Inv κ w Q μ o φ h) → OwnerOk κ (view Q μ (I .lo) (I .hi)) (Q .anchor .tag) (e ∷ h) o′ → Inv κ w Q μ o′ φ (e ∷ h)
+own-read κ w Q μ φ h o o′ e nd c I k =
+    record {
+      lo = I .lo;
+      hi = I .hi;
+      ol = I .lo;
+      oh = I .hi;
+      rep = I .rep;
+      tops = tops-refl κ (I .hi);
+      core = core-ev e nd (core-read (I .core));
+      sized = I .sized;
+      room = I .room;
+      tag = I .tag;
+      own = k;
+      th = λ i.
+          thief-holds
+          (move-calm e (c i) (frame-same (view Q μ (I .ol) (I .oh)) (I .lo) (I .hi) (I .core .low))
+          (grow-read κ (view Q μ (I .ol) (I .oh)) (view Q μ (I .lo) (I .hi)) (I .hi) refl (I .tops)) (I .core .high)) (φ i) (I .th i);
+    }
+
+-- a line that stores words outside the owner's window
+pub own-store : (κ : Kind) (w : ℕ) (Q : Queue) (μ : List ℕ) (φ : ℕ → Line) (h : Hist) (o o′ : Line) (m : List ℕ) (I : Inv κ w Q μ o φ h)
+    → length m ≡ length μ
+    → ((i j : ℕ) → I .ol ≤ i → i < I .oh → j < 2 → W m (off Q) (size Q) i j ≡ W μ (off Q) (size Q) i j)
+    → ((a : ℕ) → a < off Q → getD m a 0 ≡ getD μ a 0)
+    → OwnerOk κ (view Q m (I .ol) (I .oh)) (Q .anchor .tag) (quiet ∷ h) o′
+    → Inv κ w Q m o′ φ (quiet ∷ h)
+own-store κ w Q μ φ h o o′ m I len same low k =
+    record {
+      lo = I .lo;
+      hi = I .hi;
+      ol = I .ol;
+      oh = I .oh;
+      rep = I .rep;
+      tops = I .tops;
+      core = core-ev quiet tt (core-words m (Q .arrays) (Q .published) (off Q) (size Q) (I .core) (I .core .fit) same);
+      sized = I .sized;
+      room = omega (arith, I .room);
+      tag = I .tag;
+      own = k;
+      th = λ i. thief-holds (move-calm quiet tt (frame-store v m same low (I .oh)) (grow-same κ v _ refl) (omega arith)) (φ i) (I .th i);
+    }
+  where
+    v : View
+    v = view Q μ (I .ol) (I .oh)

@@ -1,0 +1,126 @@
+-- Every call keeps the invariant, where the premise holds.
+use mathlib.Core.Path.{_≡_, refl, sym, _∙_, subst, subst₂}
+use mathlib.Core.Bool.{true}
+use mathlib.Core.List.{List, [], _∷_, List·Memᴰ·head}
+use Prim.Native.Nat.{ℕ, zero, suc, _+_, _*_, _≤_, _<_}
+use native.Mathlib.Omega.{arith}
+use lib.ListN.{length}
+use Rattle.model.specs.declared.Kind.{Kind}
+use Rattle.model.specs.declared.Line.{Line}
+use Rattle.model.specs.declared.Line.the-variants.{Idle, PutRead, TakeRead, StealRead}
+use Rattle.model.specs.declared.Operation.{Operation}
+use Rattle.model.specs.declared.Operation.the-variants.{Put, Take, Steal}
+use Rattle.model.specs.declared.Refusal.{Refusal}
+use Rattle.model.specs.Lines.{Effect, size}
+use Rattle.model.specs.World.{World, Outcome, refuse, isIdle, lineAt}
+use Rattle.model.specs.Calls.{firstLine, beginAnswer, begun, stepped, nextEffect, Call, begin, step, callOf}
+use Rattle.model.specs.Run.{Played, played, after}
+use Rattle.theorems.proofs.Events.{Ev, quiet, began, Hist, Prem, PremE, Good, GoodE, evOf}
+use Rattle.theorems.proofs.Invariant.{Inv, own-keep}
+use Rattle.theorems.proofs.OwnerLines.{own-kept}
+use Rattle.theorems.proofs.OwnerSteps.{own-same}
+use Rattle.theorems.proofs.ThiefLines.{thief-kept, thief-same}
+use Rattle.theorems.proofs.Directory.{roomy}
+use Rattle.theorems.proofs.Valid.{thieves, Whole}
+use Rattle.theorems.proofs.Cases.{MayBegin, MayStep, begin-cases, step-cases, call-cases}
+use Rattle.theorems.proofs.WholeRun.{idle-is, own-back, thief-back, not-thief, not-owner, in-crew, call-whole}
+use Rattle.theorems.proofs.Places.{rev}
+
+-- whose line a call is about
+abbrev pub workerOf : Call → ℕ
+workerOf (begin i op) = i
+workerOf (step i) = i
+
+abbrev pub evAt : Played → Ev
+evAt s = evOf (s .call) (lineAt (s .before .bench .workers) (workerOf (s .call))) (s .answer)
+
+abbrev pub events : List Played → List Ev
+events [] = []
+events (s ∷ T) = evAt s ∷ events T
+
+abbrev pub InvOf : World → Hist → Type 0
+InvOf W h = Inv (W .bench .kind) (W .bench .width) (W .bench .queue) (W .store) (lineAt (W .bench .workers) 0) (thieves (W .bench .workers)) h
+
+-- the call c of a worker at the line l keeps the invariant, and answers well
+abbrev Fine : World → Hist → Call → Line → Outcome → Type 0
+Fine W h c l D =
+    PremE (W .bench .kind) (W .bench .width) (evOf c l (D .answer)) h
+    → InvOf (D .world) (evOf c l (D .answer) ∷ h) × GoodE (evOf c l (D .answer)) h
+
+module _ (W : World) (H : Whole W) (h : Hist) (I : InvOf W h) where
+  abbrev InvLines : Hist → Line → (ℕ → Line) → Type 0
+  InvLines h o φ = Inv (W .bench .kind) (W .bench .width) (W .bench .queue) (W .store) o φ h
+
+  refused-kept : (c : Call) (l : Line) (r : Refusal) → Fine W h c l (refuse W r)
+  refused-kept c l r f = (
+    own-same (W .bench .kind) (W .bench .width) (W .bench .queue) (W .store) (thieves (W .bench .workers)) h (lineAt (W .bench .workers) 0)
+        (lineAt (W .bench .workers) 0) quiet tt (λ k. tt) I
+        (own-keep (W .bench .kind) _ (W .bench .queue .anchor .tag) h quiet tt (lineAt (W .bench .workers) 0) (I .own)),
+    tt,
+  )
+
+  -- the owner begins: its line 1 follows the event e
+  own-begun : (op : Operation) (e : Ev) → MayBegin W 0 op
+      → (InvLines h Idle (thieves (W .bench .workers)) → InvLines (e ∷ h) (firstLine op (W .bench .used)) (thieves (W .bench .workers)))
+      → InvOf (begun W 0 op .world) (e ∷ h)
+  own-begun op e B f =
+      own-back (InvLines (e ∷ h)) (W .bench .workers) (firstLine op (W .bench .used)) (in-crew H 0 (B .member))
+      (f (subst (λ (o : Line). InvLines h o (thieves (W .bench .workers))) (idle-is _ (B .idle)) I))
+
+  begun-kept : (i : ℕ) (op : Operation) (l : Line) → MayBegin W i op → Fine W h (begin i op) l (begun W i op)
+  begun-kept zero (Put p) l B f = (own-begun (Put p) _ B (λ J. own-same _ _ _ _ _ h Idle (PutRead _) (began _) tt (λ k. tt) J (List·Memᴰ·head refl)), tt)
+  begun-kept (suc k) (Put p) l B f = not-thief k (B .hand)
+  begun-kept zero Take l B f = (own-begun Take _ B (λ J. own-same _ _ _ _ _ h Idle TakeRead quiet tt (λ k. tt) J tt), tt)
+  begun-kept (suc k) Take l B f = not-thief k (B .hand)
+  begun-kept zero Steal l B f = not-owner (B .hand)
+  begun-kept (suc k) Steal l B f = (
+    thief-back (InvLines (quiet ∷ h)) (W .bench .workers) k StealRead (in-crew H (suc k) (B .member))
+        (thief-same _ _ _ _ (lineAt (W .bench .workers) 0) (thieves (W .bench .workers)) h k StealRead quiet tt tt (λ i q. tt) I tt),
+    tt,
+  )
+
+  space : 2 * size (W .bench .queue) ≤ 1024 → W .bench .queue .published < length (W .bench .queue .arrays)
+  space l = omega (arith, roomy (H .shape .arrays) l, H .shape .arrays .slots)
+
+  abbrev InvAfter : Effect → Hist → Line → (ℕ → Line) → Type 0
+  InvAfter E h o φ = Inv (W .bench .kind) (W .bench .width) (E .queue) (E .store) o φ h
+
+  stepped-kept : (i : ℕ) → MayStep W i → Fine W h (step i) (lineAt (W .bench .workers) i) (stepped W i (nextEffect W i))
+  stepped-kept zero M f =
+      let K = own-kept (W .bench .kind) (W .bench .width) (W .bench .queue) (W .store) (thieves (W .bench .workers)) h (lineAt (W .bench .workers) 0) (H .shape .arrays .some) space I in
+      (own-back (InvAfter (nextEffect W 0) (evOf (step 0) (lineAt (W .bench .workers) 0) (nextEffect W 0 .answer) ∷ h)) (W .bench .workers) (nextEffect W 0 .line) (in-crew H 0 (M .member)) (K .0), K .1)
+  stepped-kept (suc k) M f =
+      let K = thief-kept (W .bench .kind) (W .bench .width) (W .bench .queue) (W .store) (lineAt (W .bench .workers) 0) (thieves (W .bench .workers)) h k (thieves (W .bench .workers) k) I (I .th k) (H .shape .arrays .some) f in
+      (thief-back (InvAfter (nextEffect W (suc k)) (evOf (step (suc k)) (lineAt (W .bench .workers) (suc k)) (nextEffect W (suc k) .answer) ∷ h)) (W .bench .workers) k (nextEffect W (suc k) .line) (in-crew H (suc k) (M .member)) (K .0), K .1)
+
+  pub call-kept : (c : Call) → Fine W h c (lineAt (W .bench .workers) (workerOf c)) (callOf W c)
+  call-kept (begin i op) =
+      begin-cases (Fine W h (begin i op) (lineAt (W .bench .workers) i)) W (λ r l. refused-kept (begin i op) (lineAt (W .bench .workers) i) r) i op
+      (begun-kept i op (lineAt (W .bench .workers) i))
+  call-kept (step i) =
+      step-cases (Fine W h (step i) (lineAt (W .bench .workers) i)) W (λ r l. refused-kept (step i) (lineAt (W .bench .workers) i) r) i (stepped-kept i)
+
+-- a call keeps the kind and the width
+abbrev Like : World → Outcome → Type 0
+Like W D = (D .world .bench .kind ≡ W .bench .kind) × (D .world .bench .width ≡ W .bench .width)
+
+call-like : (W : World) (c : Call) → Like W (callOf W c)
+call-like W c = call-cases (Like W) W (λ r l. (refl, refl)) (λ i op B. (refl, refl)) (λ i M. (refl, refl)) c
+
+-- the whole list
+prem-tail : (κ : Kind) (w : ℕ) (T : List Ev) (h : Hist) → Prem κ w (rev T h) → Prem κ w h
+unfolding rev
+prem-tail κ w [] h f = f
+prem-tail κ w (e ∷ T) h f = prem-tail κ w T (e ∷ h) f .1
+
+pub run-kept : (κ : Kind) (w : ℕ) (cs : List Call) (W : World) (h : Hist) → W .bench .kind ≡ κ → W .bench .width ≡ w → Whole W → InvOf W h → Good h
+    → Prem κ w (rev (events (played W cs)) h) → InvOf (after W cs) (rev (events (played W cs)) h) × Good (rev (events (played W cs)) h)
+unfolding rev played after
+run-kept κ w [] W h ek ew H I G f = (I, G)
+run-kept κ w (c ∷ cs) W h ek ew H I G f =
+    let D = callOf W c in
+    let e = evOf c (lineAt (W .bench .workers) (workerOf c)) (D .answer) in
+    let p = prem-tail κ w (events (played (D .world) cs)) (e ∷ h) f in
+    let k = call-kept W H h I c (subst₂ (λ (y : Kind) (x : ℕ). PremE y x e h) (sym ek) (sym ew) (p .0)) in
+    let l = call-like W c in
+    run-kept κ w cs (D .world) (e ∷ h) (l .0 ∙ ek) (l .1 ∙ ew) (call-whole H c) (k .0) (k .1, G) f

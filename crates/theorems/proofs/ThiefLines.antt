@@ -1,0 +1,327 @@
+-- Each line of a thief keeps the invariant; demand 3 over the history newest first.
+use mathlib.Core.Path.{_≡_, refl, sym, _∙_, ap}
+use mathlib.Core.Bool.{Bool, true, false}
+use mathlib.Core.Logic.{_≢_, _⊎_, inl, inr}
+use mathlib.Core.List.{List, _∷_, List·Memᴰ, List·Memᴰ·head, List·Memᴰ·tail}
+use Prim.Native.Nat.{ℕ, suc, _+_, _-_, _%_, _^_, _≤_, _<_}
+use native.Mathlib.Omega.{arith}
+use native.Mathlib.Nat.{mod-eq-of-lt, add-zero, mod-add-mod}
+use lib.Dec.{eqb}
+use borrow.Author.Tests.{eqb-true}
+use Rattle.model.specs.Tests.{if_then_else_, _and_}
+use Rattle.model.specs.declared.Kind.{Kind}
+use Rattle.model.specs.declared.Kind.the-variants.{Lifo, Fifo, Deque}
+use Rattle.model.specs.declared.Line.{Line}
+use Rattle.model.specs.declared.Line.the-variants.{Idle, PutRead, PutTail, PutTest, PutNumber, PutPayload, PutFinish, Claim, Note, Copy, Publish, TakeRead, TakeTail, TakeTest, TakeNumber, TakePayload, TakeFinish, StealRead, StealTail, StealTest, StealNote, StealNumber, StealPayload, StealNext, StealCompare}
+use Rattle.model.specs.declared.Queue.{Queue}
+use Rattle.theorems.proofs.Events.{Ev, quiet, read1, given, missed, empty, Hist, Out, since, PremE, GoodE, evOf}
+use Rattle.theorems.proofs.Words.{W, word-W}
+use Rattle.model.specs.Memory.{wordAt, offsetAt, sizeAt}
+use Rattle.theorems.specs.Demand3.{Few}
+use Rattle.model.specs.Calls.{step}
+use Rattle.model.specs.declared.Answer.the-variants.{GoesOn, HandedOut, Empty}
+use Rattle.model.specs.Lines.{Effect, eff, off, size, anchored, lineStep}
+use Rattle.model.specs.Answers.{task}
+use Rattle.model.specs.Figures.{isSame, stealLast, slot, stealIndex, isEmpty, afterSteal, stealRead, anchor}
+use Rattle.theorems.proofs.Remainders.{le-or-lt, tag-zero, size-pos, size-le, same-head}
+use Rattle.theorems.proofs.Directory.{both}
+use Rattle.theorems.proofs.Window.{taskAt, both-words, View, NotDone, core-window, core-ev}
+use Rattle.theorems.proofs.Seen.{frame-same}
+use Rattle.theorems.proofs.Indices.{Rep, Small, steal-ix, empty-yes, empty-no}
+use Rattle.theorems.proofs.Invariant.{view, Tops, Hold, Reads, GotV, Next, ThiefOk, Inv, Calm, move-calm, thief-holds, own-keep, emp-now, since-now, emp-calm, grow-same}
+use Rattle.model.specs.declared.Task.{Task}
+use Rattle.model.specs.declared.Anchor.{Anchor}
+
+-- thief k's line θ leaves E: the lines φ′ are as φ but for k's
+abbrev pub ThiefKept : Kind → ℕ → Line → (ℕ → Line) → Hist → ℕ → Line → Effect → Type 0
+ThiefKept κ w o φ h k θ E =
+    ((φ′ : ℕ → Line) → φ′ k ≡ E .line → ((i : ℕ) → i ≢ k → φ′ i ≡ φ i) → Inv κ w (E .queue) (E .store) o φ′ (evOf (step (suc k)) θ (E .answer) ∷ h))
+    × GoodE (evOf (step (suc k)) θ (E .answer)) h
+
+others : (κ : Kind) (w : ℕ) (v : View) (g : ℕ) (h : Hist) (φ φ′ : ℕ → Line) (k : ℕ) (θ : Line) (e : Ev)
+    → ((i : ℕ) → i ≢ k → Calm (suc i) e) → φ′ k ≡ θ → ((i : ℕ) → i ≢ k → φ′ i ≡ φ i)
+    → ((i : ℕ) → ThiefOk κ w v g h (suc i) (φ i))
+    → ThiefOk κ w v g (e ∷ h) (suc k) θ
+    → (i : ℕ) → ThiefOk κ w v g (e ∷ h) (suc i) (φ′ i)
+others κ w v g h φ φ′ k θ e c is rest old new i = go (le-or-lt i k) (le-or-lt k i)
+  where
+    other : i ≢ k → ThiefOk κ w v g (e ∷ h) (suc i) (φ′ i)
+    other ne =
+        rw (rest i ne)
+        (thief-holds (move-calm e (c i ne) (frame-same v (v .ol) (v .oh) (omega arith)) (grow-same κ v v refl) (omega arith)) (φ i) (old i))
+
+    go : (i ≤ k) ⊎ (k < i) → (k ≤ i) ⊎ (i < k) → ThiefOk κ w v g (e ∷ h) (suc i) (φ′ i)
+    go (inr b) q = other (omega arith)
+    go (inl b) (inr q) = other (omega arith)
+    go (inl b) (inl q) = rw (is-k, is) new
+      where
+        is-k : i ≡ k
+        is-k = omega arith
+
+-- a line that changes only what thief k has read
+pub thief-same : (κ : Kind) (w : ℕ) (Q : Queue) (μ : List ℕ) (o : Line) (φ : ℕ → Line) (h : Hist) (k : ℕ) (θ : Line) (e : Ev)
+    → NotDone e → Calm 0 e → ((i : ℕ) → i ≢ k → Calm (suc i) e)
+    → (I : Inv κ w Q μ o φ h) → ThiefOk κ w (view Q μ (I .ol) (I .oh)) (Q .anchor .tag) (e ∷ h) (suc k) θ
+    → (φ′ : ℕ → Line) → φ′ k ≡ θ → ((i : ℕ) → i ≢ k → φ′ i ≡ φ i) → Inv κ w Q μ o φ′ (e ∷ h)
+thief-same κ w Q μ o φ h k θ e nd c0 c I new φ′ is rest =
+    record {
+      lo = I .lo;
+      hi = I .hi;
+      ol = I .ol;
+      oh = I .oh;
+      rep = I .rep;
+      tops = I .tops;
+      core = core-ev e nd (I .core);
+      sized = I .sized;
+      room = I .room;
+      tag = I .tag;
+      own = own-keep κ _ (Q .anchor .tag) h e c0 o (I .own);
+      th = others κ w _ (Q .anchor .tag) h φ φ′ k θ e c is rest (I .th) new;
+    }
+
+-- a steal: the window comes to be [A, C), and t is the task of the index that leaves
+steal-end : (κ : Kind) (w : ℕ) (Q : Queue) (μ : List ℕ) (o : Line) (φ : ℕ → Line) (h : Hist) (k : ℕ) (r : Anchor) (e : ℕ) (t : Task) (r′ : Anchor) (A C n : ℕ) (I : Inv κ w Q μ o φ h)
+    → I .lo ≤ A → A ≤ C → C ≤ I .hi → I .lo ≤ n → n < I .hi
+    → ((i : ℕ) → I .lo ≤ i → i < I .hi → (i < A) ⊎ (C ≤ i) → i ≡ n)
+    → Rep κ r′ A C → r′ .tag ≡ Q .anchor .tag → Tops κ C (I .oh) → t ≡ taskAt (view Q μ (I .ol) (I .oh)) n
+    → ThiefKept κ w o φ h k (StealCompare r e t) (eff (anchored Q r′) μ Idle (HandedOut (suc k) t))
+steal-end κ w Q μ o φ h k r e t r′ A C n I l m u ln un only R eg tops is-t = (
+  λ φ′ is rest. record {
+    lo = A;
+    hi = C;
+    ol = I .ol;
+    oh = I .oh;
+    rep = R;
+    tops = tops;
+    core =
+        core-window (given (suc k) t) (I .ol) (I .oh) A C tt (I .core) (omega arith) (omega (arith, I .core .low)) m
+        (omega (arith, I .core .high)) (omega arith) leave;
+    sized = I .sized;
+    room = I .room;
+    tag = rw eg (I .tag);
+    own = rw eg (own-keep κ _ (Q .anchor .tag) h (given (suc k) t) tt o (I .own));
+    th = rw eg (others κ w _ (Q .anchor .tag) h φ φ′ k Idle (given (suc k) t) (λ i q. tt) is rest (I .th) tt);
+  },
+  rw is-t (I .core .whole n (omega (arith, I .core .low)) (omega (arith, I .core .high))),
+)
+  where
+    leave : (i : ℕ) → I .lo ≤ i → i < I .hi → (i < A) ⊎ (C ≤ i)
+        → Out (taskAt (view Q μ (I .ol) (I .oh)) i) (given (suc k) t ∷ h)
+    leave i p q z = (suc k, List·Memᴰ·head {x = given (suc k) t} (rw (only i p q z, is-t)))
+
+-- the compare finds the anchor that was read
+steal-wins : (κ : Kind) (w : ℕ) (Q : Queue) (μ : List ℕ) (o : Line) (φ : ℕ → Line) (h : Hist) (k : ℕ) (r : Anchor) (e : ℕ) (t : Task) → isSame κ (Q .anchor) r ≡ true → (List·Memᴰ (read1 (suc k)) h → Few κ w (since (suc k) h))
+    → (I : Inv κ w Q μ o φ h) → ThiefOk κ w (view Q μ (I .ol) (I .oh)) (Q .anchor .tag) h (suc k) (StealCompare r e t)
+    → ThiefKept κ w o φ h k (StealCompare r e t) (eff (anchored Q (afterSteal κ (Q .anchor) r e)) μ Idle (HandedOut (suc k) t))
+steal-wins Lifo w Q μ o φ h k r e t q f I (R, l, G0, G1, N) =
+    steal-end Lifo w Q μ o φ h k r e t _ (I .lo) (I .hi - 1) (R .hi - 1) I (omega (arith, hi-is, lo-is)) (omega (arith, hi-is, lo-is)) (omega (arith, hi-is, lo-is)) (omega (arith, hi-is, lo-is)) (omega (arith, hi-is, lo-is))
+    only (R .rep .0, I .rep .1, omega (arith, hi-is, lo-is, I .rep .2)) (sym tag) tt
+    (both-words (G0 none (omega (arith, hi-is, lo-is, I .core .low)) top) (G1 none (omega (arith, hi-is, lo-is, I .core .low)) top))
+  where
+    tests : (eqb (Q .anchor .count) (r .count) ≡ true) × (eqb (Q .anchor .tag) (r .tag) ≡ true)
+    tests = both (eqb (Q .anchor .count) (r .count)) (eqb (Q .anchor .tag) (r .tag)) q
+
+    tag : Q .anchor .tag ≡ r .tag
+    tag = eqb-true (Q .anchor .tag) (r .tag) (tests .1)
+
+    none : since (suc k) h ≡ 0
+    none = tag-zero (r .tag) (since (suc k) h) (2 ^ w) (R .tag .0) (f (R .begun)) (sym tag ∙ R .tag .1)
+
+    hi-is : I .hi ≡ R .hi
+    hi-is = I .rep .2 ∙ eqb-true (Q .anchor .count) (r .count) (tests .0) ∙ sym (R .rep .2)
+
+    lo-is : I .lo ≡ R .lo
+    lo-is = I .rep .1 ∙ sym (R .rep .1)
+
+    top : R .hi - 1 < I .oh
+    top = omega (arith, hi-is, I .core .high)
+
+    only : (i : ℕ) → I .lo ≤ i → i < I .hi → (i < I .lo) ⊎ (I .hi - 1 ≤ i) → i ≡ R .hi - 1
+    only i a b (inl z) = omega (arith, hi-is)
+    only i a b (inr z) = omega (arith, hi-is)
+steal-wins Fifo w Q μ o φ h k r e t q f I (R, l, G0, G1, N) =
+    steal-end Fifo w Q μ o φ h k r e t _ (I .lo + 1) (I .hi) (R .lo) I (omega (arith, lo-is, in-window)) (omega (arith, lo-is, in-window)) (omega (arith, lo-is, in-window)) (omega (arith, lo-is, in-window)) (omega (arith, lo-is, in-window))
+    only (omega (arith, lo-is, in-window, R .rep .0), I .rep .1) refl (I .tops)
+    (both-words (G0 refl (omega (arith, lo-is, in-window, I .core .low)) top) (G1 refl (omega (arith, lo-is, in-window, I .core .low)) top))
+  where
+    lo-is : I .lo ≡ R .lo
+    lo-is = I .rep .0 ∙ eqb-true (Q .anchor .head) (r .head) q ∙ sym (R .rep .0)
+
+    top : R .lo < I .oh
+    top = omega (arith, R .hold)
+
+    in-window : R .lo < I .hi
+    in-window = omega (arith, I .tops)
+
+    only : (i : ℕ) → I .lo ≤ i → i < I .hi → (i < I .lo + 1) ⊎ (I .hi ≤ i) → i ≡ R .lo
+    only i a b (inl z) = omega (arith, lo-is)
+    only i a b (inr z) = omega (arith, lo-is)
+steal-wins Deque w Q μ o φ h k r e t q f I (R, l, G0, G1, N) =
+    steal-end Deque w Q μ o φ h k r e t _ (I .lo + 1) (I .hi) (R .lo) I (omega (arith, lo-is, hi-is)) (omega (arith, lo-is, hi-is)) (omega (arith, lo-is, hi-is)) (omega (arith, lo-is, hi-is)) (omega (arith, lo-is, hi-is))
+    only (head, omega (arith, lo-is, hi-is, R .rep .1)) (sym tag) (I .tops)
+    (both-words (G0 none (omega (arith, lo-is, hi-is, I .core .low)) top) (G1 none (omega (arith, lo-is, hi-is, I .core .low)) top))
+  where
+    tests : (eqb (Q .anchor .head) (r .head) ≡ true) × (eqb (Q .anchor .count) (r .count) and eqb (Q .anchor .tag) (r .tag) ≡ true)
+    tests = both (eqb (Q .anchor .head) (r .head)) _ q
+
+    tests′ : (eqb (Q .anchor .count) (r .count) ≡ true) × (eqb (Q .anchor .tag) (r .tag) ≡ true)
+    tests′ = both (eqb (Q .anchor .count) (r .count)) (eqb (Q .anchor .tag) (r .tag)) (tests .1)
+
+    tag : Q .anchor .tag ≡ r .tag
+    tag = eqb-true (Q .anchor .tag) (r .tag) (tests′ .1)
+
+    none : since (suc k) h ≡ 0
+    none = tag-zero (r .tag) (since (suc k) h) (2 ^ w) (R .tag .0) (f (R .begun)) (sym tag ∙ R .tag .1)
+
+    count : Q .anchor .count ≡ r .count
+    count = eqb-true (Q .anchor .count) (r .count) (tests′ .0)
+
+    below : I .lo ≤ R .lo
+    below = omega (arith, count, I .rep .1, R .rep .1, R .hold .1 none, I .core .high)
+
+    lo-is : I .lo ≡ R .lo
+    lo-is =
+        same-head (I .lo) (R .lo) below (omega (arith, R .hold .0, I .core .low))
+        (sym (I .rep .0) ∙ eqb-true (Q .anchor .head) (r .head) (tests .0) ∙ R .rep .0)
+
+    hi-is : I .hi ≡ R .hi
+    hi-is = omega (arith, lo-is, count, I .rep .1, R .rep .1)
+
+    top : R .lo < I .oh
+    top = omega (arith, hi-is, I .core .high)
+
+    head : e ≡ (I .lo + 1) % 2048
+    head = N ∙ ap (λ (z : ℕ). (z + 1) % 2048) (R .rep .0) ∙ mod-add-mod (R .lo) 2048 1 ∙ ap (λ (z : ℕ). (z + 1) % 2048) (sym lo-is)
+
+    only : (i : ℕ) → I .lo ≤ i → i < I .hi → (i < I .lo + 1) ⊎ (I .hi ≤ i) → i ≡ R .lo
+    only i a b (inl z) = omega (arith, lo-is)
+    only i a b (inr z) = omega (arith, lo-is)
+
+steal-compare : (κ : Kind) (w : ℕ) (Q : Queue) (μ : List ℕ) (o : Line) (φ : ℕ → Line) (h : Hist) (k : ℕ) (r : Anchor) (e : ℕ) (t : Task) (z : Bool) → isSame κ (Q .anchor) r ≡ z
+    → (I : Inv κ w Q μ o φ h) → ThiefOk κ w (view Q μ (I .ol) (I .oh)) (Q .anchor .tag) h (suc k) (StealCompare r e t)
+    → let R : Effect = (if z then eff (anchored Q (afterSteal κ (Q .anchor) r e)) μ Idle (HandedOut (suc k) t) else eff Q μ StealRead GoesOn) in
+    PremE κ w (evOf (step (suc k)) (StealCompare r e t) (R .answer)) h → ThiefKept κ w o φ h k (StealCompare r e t) R
+unfolding if_then_else_
+steal-compare κ w Q μ o φ h k r e t true q I ok f = steal-wins κ w Q μ o φ h k r e t q f I ok
+steal-compare κ w Q μ o φ h k r e t false q I ok f = (thief-same κ w Q μ o φ h k StealRead (missed (suc k)) tt tt (λ i q. tt) I tt, tt)
+
+-- what a thief has read, after a step that goes on
+soon : (κ : Kind) (w : ℕ) (v : View) (g : ℕ) (h : Hist) (k : ℕ) (θ : Line) → ThiefOk κ w v g h k θ → ThiefOk κ w v g (quiet ∷ h) k θ
+soon κ w v g h k θ o = thief-holds (move-calm quiet tt (frame-same v (v .ol) (v .oh) (omega arith)) (grow-same κ v v refl) (omega arith)) θ o
+
+-- the test for EMPTY
+steal-test : (κ : Kind) (w : ℕ) (Q : Queue) (μ : List ℕ) (o : Line) (φ : ℕ → Line) (h : Hist) (k : ℕ) (r : Anchor) (x : Bool) → isEmpty κ r ≡ x
+    → (I : Inv κ w Q μ o φ h) → ThiefOk κ w (view Q μ (I .ol) (I .oh)) (Q .anchor .tag) h (suc k) (StealTest r)
+    → ThiefKept κ w o φ h k (StealTest r) (if x then eff Q μ Idle (Empty (suc k)) else eff Q μ (StealNote r) GoesOn)
+unfolding if_then_else_
+steal-test κ w Q μ o φ h k r true e I (R, E) =
+    (thief-same κ w Q μ o φ h k Idle (empty (suc k)) tt tt (λ i q. tt) I tt, (R .begun, E (empty-yes κ r (R .lo) (R .hi) (R .rep) e)))
+steal-test κ w Q μ o φ h k r false e I (R, E) = (
+  thief-same κ w Q μ o φ h k (StealNote r) quiet tt tt (λ i q. tt) I
+      (soon κ w _ (Q .anchor .tag) h (suc k) (StealNote r) (R, empty-no κ r (R .lo) (R .hi) (R .rep) (R .le) e)),
+  tt,
+)
+
+-- line 1
+tag-now : (w : ℕ) (Q : Queue) (h : Hist) (k : ℕ) → Q .anchor .tag < 2 ^ w → Q .anchor .tag ≡ (Q .anchor .tag + since (suc k) (read1 (suc k) ∷ h)) % 2 ^ w
+tag-now w Q h k l = rw (since-now (suc k) h, add-zero, mod-eq-of-lt l)
+
+steal-read : (κ : Kind) (w : ℕ) (Q : Queue) (μ : List ℕ) (o : Line) (φ : ℕ → Line) (h : Hist) (k : ℕ) (I : Inv κ w Q μ o φ h)
+    → ThiefOk κ w (view Q μ (I .ol) (I .oh)) (Q .anchor .tag) (read1 (suc k) ∷ h) (suc k) (stealRead κ (Q .anchor))
+steal-read Lifo w Q μ o φ h k I =
+    (record { lo = I .lo; hi = I .hi; rep = I .rep; le = I .core .mid; begun = List·Memᴰ·head refl; tag = (I .tag, tag-now w Q h k (I .tag)); hold = omega (arith, I .core .high, I .core .fit, I .core .low, I .rep .1) }, emp-now (suc k) (I .core))
+steal-read Fifo w Q μ o φ h k I =
+    (tt, I .hi, omega (arith, I .rep .0, I .core .mid), I .core .high, (λ e. emp-now (suc k) (I .core) (I .rep .0 ∙ e)), List·Memᴰ·head refl)
+steal-read Deque w Q μ o φ h k I = (
+  record {
+    lo = I .lo;
+    hi = I .hi;
+    rep = I .rep;
+    le = I .core .mid;
+    begun = List·Memᴰ·head refl;
+    tag = (I .tag, tag-now w Q h k (I .tag));
+    hold = (omega (arith, I .core .mid, I .core .high, I .core .fit, size-le (I .sized)), λ e. omega (arith, I .tops));
+  },
+  emp-now (suc k) (I .core),
+)
+
+-- FIFO's line 2
+steal-tail : (κ : Kind) (w : ℕ) (Q : Queue) (μ : List ℕ) (o : Line) (φ : ℕ → Line) (h : Hist) (k a : ℕ) (I : Inv κ w Q μ o φ h)
+    → ThiefOk κ w (view Q μ (I .ol) (I .oh)) (Q .anchor .tag) h (suc k) (StealTail a)
+    → ThiefOk κ w (view Q μ (I .ol) (I .oh)) (Q .anchor .tag) (quiet ∷ h) (suc k) (StealTest (anchor a (Q .anchor .count) (Q .anchor .tag)))
+steal-tail Lifo w Q μ o φ h k a I ok = absurd (ok .0)
+steal-tail Fifo w Q μ o φ h k a I (f, e, p, q, E, b) = (
+  record { lo = a; hi = Q .anchor .count; rep = (refl, refl); le = up; begun = List·Memᴰ·tail b; tag = tt; hold = omega (arith, I .rep .1, I .tops) },
+  λ x. emp-calm (suc k) h quiet tt (E (omega (arith, I .rep .1, I .tops))),
+)
+  where
+    up : a ≤ Q .anchor .count
+    up = omega (arith, I .rep .1, I .tops)
+steal-tail Deque w Q μ o φ h k a I ok = absurd (ok .0)
+
+small-now : (κ : Kind) (Q : Queue) (lo hi : ℕ) (v : View) (d : ℕ) → Hold κ v d lo hi → v .z ≡ size Q → Small κ (size Q) hi
+small-now Lifo Q lo hi v d H e = omega arith
+small-now Fifo Q lo hi v d H e = tt
+small-now Deque Q lo hi v d H e = tt
+
+-- both words are read
+steal-words : (κ : Kind) (w : ℕ) (v : View) (gc : ℕ) (h : Hist) (k : ℕ) (r : Anchor) (t : Task) (R : Reads κ w v gc h k r) → R .lo < R .hi
+    → GotV κ w v gc h k r R 0 (t .number) → GotV κ w v gc h k r R 1 (t .payload) → ThiefOk κ w v gc h k (stealLast κ r t)
+steal-words Lifo w v gc h k r t R l G G′ = (R, l, G, G′, tt)
+steal-words Fifo w v gc h k r t R l G G′ = (R, l, G, G′, tt)
+steal-words Deque w v gc h k r t R l G G′ = (R, l, G, G′)
+
+-- double-ended line 5
+steal-next : (κ : Kind) (a : ℕ) → Next κ a ((a + 1) % 2048)
+steal-next Lifo a = tt
+steal-next Fifo a = tt
+steal-next Deque a = refl
+
+pub thief-kept : (κ : Kind) (w : ℕ) (Q : Queue) (μ : List ℕ) (o : Line) (φ : ℕ → Line) (h : Hist) (k : ℕ) (θ : Line) (I : Inv κ w Q μ o φ h) → ThiefOk κ w (view Q μ (I .ol) (I .oh)) (Q .anchor .tag) h (suc k) θ → 0 < Q .published
+    → PremE κ w (evOf (step (suc k)) θ (lineStep κ w Q μ (suc k) θ .answer)) h → ThiefKept κ w o φ h k θ (lineStep κ w Q μ (suc k) θ)
+unfolding lineStep
+thief-kept κ w Q μ o φ h k Idle I ok pos f = (thief-same κ w Q μ o φ h k Idle quiet tt tt (λ i q. tt) I tt, tt)
+thief-kept κ w Q μ o φ h k StealRead I ok pos f =
+    (thief-same κ w Q μ o φ h k (stealRead κ (Q .anchor)) (read1 (suc k)) tt (omega arith) (λ i ne. omega arith) I (steal-read κ w Q μ o φ h k I), tt)
+thief-kept κ w Q μ o φ h k (StealTail a) I ok pos f = (thief-same κ w Q μ o φ h k (StealTest (anchor a (Q .anchor .count) (Q .anchor .tag))) quiet tt tt (λ i q. tt) I (steal-tail κ w Q μ o φ h k a I ok), tt)
+thief-kept κ w Q μ o φ h k (StealTest r) I ok pos f = steal-test κ w Q μ o φ h k r (isEmpty κ r) refl I ok
+thief-kept κ w Q μ o φ h k (StealNote r) I (R, l) pos f = (
+  thief-same κ w Q μ o φ h k _ quiet tt tt (λ i q. tt) I
+      (soon κ w _ (Q .anchor .tag) h (suc k) (StealNumber r _) (R, l, (omega arith, (I .sized, small-now κ Q (R .lo) (R .hi) (view Q μ (I .ol) (I .oh)) _ (R .hold) refl), ((size-pos (I .sized), inl (refl, refl)), λ j q x y z. refl)))),
+  tt,
+)
+thief-kept κ w Q μ o φ h k (StealNumber r b) I (R, l, (p, n, (d, q))) pos f = (
+  thief-same κ w Q μ o φ h k (StealPayload r b (wordAt μ (offsetAt (Q .arrays) b) (slot κ (sizeAt (Q .arrays) b) (stealIndex κ r)) 0)) quiet tt tt (λ i q. tt) I
+      (soon κ w _ (Q .anchor .tag) h (suc k) (StealPayload r b (wordAt μ (offsetAt (Q .arrays) b) (slot κ (sizeAt (Q .arrays) b) (stealIndex κ r)) 0))
+      (R, l, (p, n, (d, q)), λ x y t. word-W μ (offsetAt (Q .arrays) b) (sizeAt (Q .arrays) b) _ _ 0 (steal-ix (n .0) κ r (R .lo) (R .hi) l (n .1) (R .rep)) ∙ q 0 (omega arith) x y t)),
+  tt,
+)
+thief-kept κ w Q μ o φ h k (StealPayload r b x) I (R, l, (p, n, (d, q)), G) pos f = (
+  thief-same κ w Q μ o φ h k (stealLast κ r (task x (wordAt μ (offsetAt (Q .arrays) b) (slot κ (sizeAt (Q .arrays) b) (stealIndex κ r)) 1))) quiet tt tt (λ i q. tt) I
+      (soon κ w _ (Q .anchor .tag) h (suc k) (stealLast κ r (task x (wordAt μ (offsetAt (Q .arrays) b) (slot κ (sizeAt (Q .arrays) b) (stealIndex κ r)) 1)))
+      (steal-words κ w _ (Q .anchor .tag) h (suc k) r (task x _) R l G
+      (λ x y t. word-W μ (offsetAt (Q .arrays) b) (sizeAt (Q .arrays) b) _ _ 1 (steal-ix (n .0) κ r (R .lo) (R .hi) l (n .1) (R .rep)) ∙ q 1 (omega arith) x y t))),
+  tt,
+)
+thief-kept κ w Q μ o φ h k (StealNext r t) I (R, l, G, G′) pos f = (
+  thief-same κ w Q μ o φ h k _ quiet tt tt (λ i q. tt) I
+      (soon κ w _ (Q .anchor .tag) h (suc k) (StealCompare r _ t) (R, l, G, G′, steal-next κ (r .head))),
+  tt,
+)
+thief-kept κ w Q μ o φ h k (StealCompare r e t) I ok pos f = steal-compare κ w Q μ o φ h k r e t (isSame κ (Q .anchor) r) refl I ok f
+thief-kept κ w Q μ o φ h k (PutRead t) I ok pos f = absurd ok
+thief-kept κ w Q μ o φ h k (PutTail t a) I ok pos f = absurd ok
+thief-kept κ w Q μ o φ h k (PutTest t r) I ok pos f = absurd ok
+thief-kept κ w Q μ o φ h k (PutNumber t r) I ok pos f = absurd ok
+thief-kept κ w Q μ o φ h k (PutPayload t r) I ok pos f = absurd ok
+thief-kept κ w Q μ o φ h k (PutFinish t r) I ok pos f = absurd ok
+thief-kept κ w Q μ o φ h k (Claim t) I ok pos f = absurd ok
+thief-kept κ w Q μ o φ h k (Note t) I ok pos f = absurd ok
+thief-kept κ w Q μ o φ h k (Copy t a q j) I ok pos f = absurd ok
+thief-kept κ w Q μ o φ h k (Publish t) I ok pos f = absurd ok
+thief-kept κ w Q μ o φ h k TakeRead I ok pos f = absurd ok
+thief-kept κ w Q μ o φ h k (TakeTail a) I ok pos f = absurd ok
+thief-kept κ w Q μ o φ h k (TakeTest r) I ok pos f = absurd ok
+thief-kept κ w Q μ o φ h k (TakeNumber r) I ok pos f = absurd ok
+thief-kept κ w Q μ o φ h k (TakePayload r x) I ok pos f = absurd ok
+thief-kept κ w Q μ o φ h k (TakeFinish r t) I ok pos f = absurd ok

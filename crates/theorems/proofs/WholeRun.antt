@@ -1,0 +1,217 @@
+-- Every call keeps a whole state whole.
+use mathlib.Core.Path.{_≡_, refl, sym, _∙_, ap, subst, subst₂, fun-ext}
+use mathlib.Core.Bool.{Bool, true, false}
+use mathlib.Core.Logic.{_≢_}
+use mathlib.Core.List.{List, [], _∷_}
+use Prim.Native.Nat.{ℕ, zero, suc, _+_, _≤_, _<_}
+use native.Mathlib.Omega.{arith}
+use lib.Dec.{eqb, ltb}
+use lib.ListN.{length, set, length-set}
+use lib.Seq.{getD-set-other, getD-set-same}
+use borrow.Author.Tests.{ltb-true, ltb-false, eqb-true}
+use Rattle.model.specs.Tests.{if_then_else_, _and_}
+use Rattle.model.specs.declared.Kind.{Kind}
+use Rattle.model.specs.declared.Kind.the-variants.{Lifo, Fifo, Deque}
+use Rattle.model.specs.declared.Line.{Line}
+use Rattle.model.specs.declared.Line.the-variants.{
+  Idle,
+  PutRead,
+  PutTail,
+  PutTest,
+  PutNumber,
+  PutPayload,
+  PutFinish,
+  Claim,
+  Note,
+  Copy,
+  Publish,
+  TakeRead,
+  TakeTail,
+  TakeTest,
+  TakeNumber,
+  TakePayload,
+  TakeFinish,
+  StealRead,
+  StealTail,
+  StealTest,
+  StealNote,
+  StealNumber,
+  StealPayload,
+  StealNext,
+  StealCompare,
+}
+use Rattle.model.specs.declared.Queue.{Queue}
+use Rattle.model.specs.declared.Worker.{Worker}
+use Rattle.model.specs.declared.Operation.{Operation}
+use Rattle.model.specs.declared.Operation.the-variants.{Put, Take, Steal}
+use Rattle.model.specs.Answers.{Entry, entryOf, ends, writeEntry, logged, task}
+use Rattle.model.specs.Lines.{Effect}
+use Rattle.model.specs.World.{World, Outcome, resting, lineAt, isIdle}
+use Rattle.model.specs.Calls.{usedBy, firstLine, begun, stepped, nextEffect, Call, callOf}
+use Rattle.model.specs.Run.{after}
+use Rattle.theorems.proofs.Cases.{MayBegin, MayStep, call-cases}
+use Rattle.theorems.proofs.Shape.{Spent, Shape}
+use Rattle.theorems.proofs.ShapeOwner.{own-shaped, stay, spent-put}
+use Rattle.theorems.proofs.ShapeThief.{thief-shaped, thief-stay}
+use Rattle.theorems.proofs.Valid.{thieves, Whole}
+
+pub idle-is : (o : Line) → isIdle o ≡ true → o ≡ Idle
+idle-is Idle e = refl
+idle-is (PutRead t) e = cc
+idle-is (PutTail t h) e = cc
+idle-is (PutTest t r) e = cc
+idle-is (PutNumber t r) e = cc
+idle-is (PutPayload t r) e = cc
+idle-is (PutFinish t r) e = cc
+idle-is (Claim t) e = cc
+idle-is (Note t) e = cc
+idle-is (Copy t h j i) e = cc
+idle-is (Publish t) e = cc
+idle-is TakeRead e = cc
+idle-is (TakeTail h) e = cc
+idle-is (TakeTest r) e = cc
+idle-is (TakeNumber r) e = cc
+idle-is (TakePayload r x) e = cc
+idle-is (TakeFinish r t) e = cc
+idle-is StealRead e = cc
+idle-is (StealTail h) e = cc
+idle-is (StealTest r) e = cc
+idle-is (StealNote r) e = cc
+idle-is (StealNumber r k) e = cc
+idle-is (StealPayload r k x) e = cc
+idle-is (StealNext r t) e = cc
+idle-is (StealCompare r i t) e = cc
+
+-- the lines after worker i's is replaced
+pub line-same : (l : List Worker) (i : ℕ) (x : Line) → i < length l → lineAt (set l i (record { line = x })) i ≡ x
+line-same l i x h = ap (λ (u : Worker). u .line) (getD-set-same l i (record { line = x }) resting h)
+
+pub line-other : (l : List Worker) (i j : ℕ) (x : Line) → j ≢ i → lineAt (set l i (record { line = x })) j ≡ lineAt l j
+line-other l i j x ne = ap (λ (u : Worker). u .line) (getD-set-other l i j (record { line = x }) resting ne)
+
+-- a property of the owner's and the thieves' lines, after the owner's is put back, after a thief's is
+pub own-back : (P : Line → (ℕ → Line) → Type 0) (l : List Worker) (x : Line) → 0 < length l → P x (thieves l)
+    → P (lineAt (set l 0 (record { line = x })) 0) (thieves (set l 0 (record { line = x })))
+own-back P l x p I =
+    subst₂ P (sym (line-same l 0 x p)) (fun-ext (λ k. sym (line-other l 0 (suc k) x (omega arith)))) I
+
+pub thief-back : (P : Line → (ℕ → Line) → Type 0) (l : List Worker) (k : ℕ) (x : Line) → suc k < length l
+    → ((φ′ : ℕ → Line) → φ′ k ≡ x → ((i : ℕ) → i ≢ k → φ′ i ≡ thieves l i) → P (lineAt l 0) φ′)
+    → P (lineAt (set l (suc k) (record { line = x })) 0) (thieves (set l (suc k) (record { line = x })))
+thief-back P l k x p f =
+    subst (λ (o : Line). P o (thieves (set l (suc k) (record { line = x })))) (sym (line-other l (suc k) 0 x (omega arith)))
+    (f (thieves (set l (suc k) (record { line = x }))) (line-same l (suc k) x p) (λ i ne. line-other l (suc k) (suc i) x (omega arith)))
+
+pub entry-length : (l : List ℕ) (at : ℕ) (e : Entry) → length (writeEntry l at e) ≡ length l
+entry-length l at e =
+    length-set (set (set (set l at (e .kind)) (at + 1) (e .worker)) (at + 2) (e .number)) (at + 3) (e .payload)
+    ∙ length-set (set (set l at (e .kind)) (at + 1) (e .worker)) (at + 2) (e .number) ∙ length-set (set l at (e .kind)) (at + 1) (e .worker)
+    ∙ length-set l at (e .kind)
+
+-- the owner's operations and the thieves'
+pub not-thief : (k : ℕ) {A : Type 0} → eqb (suc k) 0 ≡ true → A
+not-thief k e = absurd (omega (arith, eqb-true (suc k) 0 e))
+
+pub not-owner : {A : Type 0} → ltb 0 0 ≡ true → A
+not-owner e = absurd (omega (arith, ltb-true 0 0 e))
+
+module _ {W : World} (H : Whole W) where
+  pub in-crew : (i : ℕ) → i < W .bench .crew → i < length (W .bench .workers)
+  in-crew i l = omega (arith, H .workers, H .crew .1)
+
+  rested : (i : ℕ) (x : Line) → i < W .bench .crew → (k : ℕ) → W .bench .crew ≤ k → isIdle (lineAt (set (W .bench .workers) i (record { line = x })) k) ≡ true
+  rested i x l k h = rw (line-other (W .bench .workers) i k x (omega arith)) (H .rest k h)
+
+  -- BEGIN
+  abbrev ShapeOf : ℕ → Line → (ℕ → Line) → Type 0
+  ShapeOf n o φ = Shape (W .bench .kind) (W .bench .width) n (W .bench .queue) (W .store) o φ
+
+  idle-shape : isIdle (lineAt (W .bench .workers) 0) ≡ true → ShapeOf (W .bench .used) Idle (thieves (W .bench .workers))
+  idle-shape e = subst (λ (o : Line). ShapeOf (W .bench .used) o (thieves (W .bench .workers))) (idle-is _ e) (H .shape)
+
+  -- a put takes a number
+  put-shape : (p : ℕ) (κ : Kind) (w used : ℕ) (q : Queue) (m : List ℕ) (φ : ℕ → Line) → used < 65535 → Shape κ w used q m Idle φ
+      → Shape κ w (used + 1) q m (PutRead (task (used + 1) p)) φ
+  put-shape p κ w used q m φ l S =
+      record { low = S .low; anchor = S .anchor; arrays = S .arrays; claims = S .claims; spent = go κ (S .spent); own = omega arith; th = S .th }
+    where
+      go : (κ : Kind) → Spent κ (q .anchor .count) Idle used → Spent κ (q .anchor .count) (PutRead (task (used + 1) p)) (used + 1)
+      go Lifo s = tt
+      go Fifo s = omega arith
+      go Deque s = tt
+
+  first-shape : (i : ℕ) (op : Operation) → MayBegin W i op → let x = firstLine op (W .bench .used) in
+      ShapeOf (usedBy op (W .bench .used)) (lineAt (set (W .bench .workers) i (record { line = x })) 0) (thieves (set (W .bench .workers) i (record { line = x })))
+  first-shape zero (Put p) B =
+      own-back (ShapeOf (W .bench .used + 1)) (W .bench .workers) _ (in-crew 0 (B .member))
+      (put-shape p _ _ _ _ _ _ (ltb-true (W .bench .used) 65535 (B .number)) (idle-shape (B .idle)))
+  first-shape (suc k) (Put p) B = not-thief k (B .hand)
+  first-shape zero Take B =
+      own-back (ShapeOf (W .bench .used)) (W .bench .workers) TakeRead (in-crew 0 (B .member))
+      (stay S TakeRead refl (spent-put (W .bench .kind) (W .bench .queue .anchor .count) (W .bench .used) Idle TakeRead refl (S .spent)) tt)
+    where
+      S : ShapeOf (W .bench .used) Idle (thieves (W .bench .workers))
+      S = idle-shape (B .idle)
+  first-shape (suc k) Take B = not-thief k (B .hand)
+  first-shape zero Steal B = not-owner (B .hand)
+  first-shape (suc k) Steal B =
+      thief-back (ShapeOf (W .bench .used)) (W .bench .workers) k StealRead (in-crew (suc k) (B .member)) (thief-stay (H .shape) k StealRead tt)
+
+  used-in : (op : Operation) (i : ℕ) → MayBegin W i op → usedBy op (W .bench .used) ≤ 65535
+  used-in (Put p) i B = omega (arith, ltb-true (W .bench .used) 65535 (B .number))
+  used-in Take i B = H .used
+  used-in Steal i B = H .used
+
+  begun-whole : (i : ℕ) (op : Operation) → MayBegin W i op → Whole (begun W i op .world)
+  begun-whole i op B =
+      record {
+        width = H .width;
+        crew = H .crew;
+        workers = length-set (W .bench .workers) i _ ∙ H .workers;
+        rest = rested i (firstLine op (W .bench .used)) (B .member);
+        used = used-in op i B;
+        logged = H .logged;
+        shape = first-shape i op B;
+      }
+
+  -- STEP
+  abbrev ShapeAfter : Effect → Line → (ℕ → Line) → Type 0
+  ShapeAfter E o φ = Shape (W .bench .kind) (W .bench .width) (W .bench .used) (E .queue) (E .store) o φ
+
+  line-shape : (i : ℕ) → i < W .bench .crew → let x = nextEffect W i .line in
+      ShapeAfter (nextEffect W i) (lineAt (set (W .bench .workers) i (record { line = x })) 0) (thieves (set (W .bench .workers) i (record { line = x })))
+  line-shape zero l =
+      own-back (ShapeAfter (nextEffect W 0)) (W .bench .workers) (nextEffect W 0 .line) (in-crew 0 l)
+      (own-shaped _ _ _ _ _ _ (lineAt (W .bench .workers) 0) (H .shape))
+  line-shape (suc k) l =
+      thief-back (ShapeAfter (nextEffect W (suc k))) (W .bench .workers) k (nextEffect W (suc k) .line) (in-crew (suc k) l)
+      (thief-shaped _ _ _ _ _ _ _ k (lineAt (W .bench .workers) (suc k)) (H .shape) (H .shape .th k))
+
+  -- the log's length stays within the slice
+  written-in : (i : ℕ) (E : Effect) (x y : Bool) → ends (E .answer) ≡ x → ltb (length (W .log)) (W .bench .written + 4) ≡ y → x and y ≡ false
+      → stepped W i E .world .bench .written ≤ length (logged (W .log) (W .bench .written) (E .answer))
+  unfolding _and_ if_then_else_
+  written-in i E true true ex ey nb = absurd (let z : _≡_ {A = ℕ} 0 1 = cc in omega arith)
+  written-in i E true false ex ey nb =
+      rw ex (omega (arith, ltb-false (length (W .log)) (W .bench .written + 4) ey, entry-length (W .log) (W .bench .written) (entryOf (E .answer))))
+  written-in i E false y ex ey nb = rw ex (H .logged)
+
+  stepped-whole : (i : ℕ) → MayStep W i → Whole (stepped W i (nextEffect W i) .world)
+  stepped-whole i M =
+      record {
+        width = H .width;
+        crew = H .crew;
+        workers = length-set (W .bench .workers) i _ ∙ H .workers;
+        rest = rested i (nextEffect W i .line) (M .member);
+        used = H .used;
+        logged = written-in i (nextEffect W i) _ _ refl refl (M .room);
+        shape = line-shape i (M .member);
+      }
+
+  pub call-whole : (c : Call) → Whole (callOf W c .world)
+  call-whole c = call-cases (λ (D : Outcome). Whole (D .world)) W (λ r l. H) begun-whole stepped-whole c
+
+pub whole-run : (cs : List Call) (W : World) → Whole W → Whole (after W cs)
+unfolding after
+whole-run [] W H = H
+whole-run (c ∷ cs) W H = whole-run cs (callOf W c .world) (call-whole H c)

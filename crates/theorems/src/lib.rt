@@ -1,0 +1,1 @@
+// No code: `specs/` says what is claimed of the model's definitions, `proofs/` proves it.
