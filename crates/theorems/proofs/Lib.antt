@@ -23,3 +23,7 @@ pub mod Translate
 pub mod PutNumbers
 pub mod NeverForeign
 pub mod NothingLost
+pub mod WidestTag
+pub mod Rounds
+pub mod TightList
+pub mod Tight

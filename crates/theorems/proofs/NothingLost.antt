@@ -19,7 +19,7 @@ use Rattle.model.specs.World.{World}
 use Rattle.model.specs.Calls.{freshOf}
 use Rattle.model.specs.Run.{Played, played, after}
 use Rattle.model.specs.Window.{tasks, windowIndex}
-use Rattle.theorems.specs.Demand3.{At, Begins, Finishes, HandsOut, Empties, Attempt, Done, Stands, NothingLost}
+use Rattle.theorems.specs.Demand3.{At, Begins, Finishes, HandsOut, Empties, Attempt, Done, AllOut, Stands, NothingLost}
 use Rattle.theorems.proofs.Words.{W, word-W}
 use Rattle.theorems.proofs.Events.{Ev, read1, done, given, empty, began, Hist, Out, cut, Good, GoodE}
 use Rattle.theorems.proofs.Remainders.{le-or-lt}
@@ -144,8 +144,7 @@ demand3 k w c n m l e cs f =
     apart : (i : ℕ) (t : Task) → read1 i ≡ done t → ⊥
     apart i t q = let z : _≡_ {A = ℕ} 0 1 = cc in omega arith
 
-    left : (j i : ℕ) → EvAt E j (empty i)
-        → (l : ℕ) × Attempt T i l j × ((b k : ℕ) (t : Task) → Done T b k t → k ≤ l → (o : ℕ) × (o < j) × At T o (HandsOut t))
+    left : (j i : ℕ) → EvAt E j (empty i) → (l : ℕ) × Attempt T i l j × AllOut T l j
     left j i a = (N .0, ev-attempt cs U i (N .0) j (N .1), gone)
       where
         G : List·Memᴰ (read1 i) (past E j) × ((t : Task) → List·Memᴰ (done t) (cut i (past E j)) → Out t (past E j))
@@ -154,7 +153,7 @@ demand3 k w c n m l e cs f =
         N : (l : ℕ) × EvLine1 E i l j
         N = newest E i j (empty i) a (G .0)
 
-        gone : (b k : ℕ) (t : Task) → Done T b k t → k ≤ N .0 → (o : ℕ) × (o < j) × At T o (HandsOut t)
+        gone : AllOut T (N .0) j
         gone b k t D h = out j t (G .1 t (rw (line1-at E i (N .0) j (empty i) a (N .1) .0) (at-mem E [] (N .0) k (done t) fin (before (le-or-lt (N .0) k)))))
           where
             fin : EvAt E k (done t)

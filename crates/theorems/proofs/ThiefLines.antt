@@ -125,7 +125,7 @@ steal-wins Lifo w Q μ o φ h k r e t q f I (R, l, G0, G1, N) =
     tag = eqb-true (Q .anchor .tag) (r .tag) (tests .1)
 
     none : since (suc k) h ≡ 0
-    none = tag-zero (r .tag) (since (suc k) h) (2 ^ w) (R .tag .0) (f (R .begun)) (sym tag ∙ R .tag .1)
+    none = tag-zero (r .tag) (since (suc k) h) (2 ^ w) (R .tag .0) (omega (arith, f (R .begun))) (sym tag ∙ R .tag .1)
 
     hi-is : I .hi ≡ R .hi
     hi-is = I .rep .2 ∙ eqb-true (Q .anchor .count) (r .count) (tests .0) ∙ sym (R .rep .2)
@@ -171,7 +171,7 @@ steal-wins Deque w Q μ o φ h k r e t q f I (R, l, G0, G1, N) =
     tag = eqb-true (Q .anchor .tag) (r .tag) (tests′ .1)
 
     none : since (suc k) h ≡ 0
-    none = tag-zero (r .tag) (since (suc k) h) (2 ^ w) (R .tag .0) (f (R .begun)) (sym tag ∙ R .tag .1)
+    none = tag-zero (r .tag) (since (suc k) h) (2 ^ w) (R .tag .0) (omega (arith, f (R .begun))) (sym tag ∙ R .tag .1)
 
     count : Q .anchor .count ≡ r .count
     count = eqb-true (Q .anchor .count) (r .count) (tests′ .0)

@@ -21,6 +21,7 @@ use Rattle.model.specs.Answers.{ends}
 use Rattle.model.specs.Calls.{nextEffect, Call, begin, step, callOf}
 use Rattle.model.specs.Limits.{validOf}
 use Rattle.theorems.proofs.Events.{Ev, quiet, read1, done, given, missed, empty, began, full, isFirst, isCompare, evBegin, evGo, evOut, evOf}
+use Rattle.theorems.proofs.Window.{both-words}
 use Rattle.theorems.proofs.Places.{EvAt, EvLine1, isDone, dones, evBetween, EvCompares, EvFew}
 use Rattle.theorems.proofs.Cases.{step-cases}
 use Rattle.theorems.proofs.SoundRun.{workerOf, evAt, events}
@@ -129,11 +130,11 @@ out-is (step i) l t = go (isCompare l)
     go false = (0, refl)
 
 pub out-ev : (t : Task) (s : Played) → HandsOut t s → (i : ℕ) × (evAt s ≡ given i t)
-out-ev t s (j, e) = let r = out-is (s .call) (lineOf s) t in (r .0, ap (evOf (s .call) (lineOf s)) e ∙ r .1)
+out-ev t s (j, u, e, b) = let r = out-is (s .call) (lineOf s) t in (r .0, ap (evOf (s .call) (lineOf s)) (e ∙ ap (HandedOut j) (both-words (b .0) (b .1))) ∙ r .1)
 
 pub ev-out : (i : ℕ) (t : Task) (s : Played) → evAt s ≡ given i t → HandsOut t s
-ev-out zero t s e = told s (given 0 t) e
-ev-out (suc k) t s e = let r = told s (given (suc k) t) e in (r .0, r .1)
+ev-out zero t s e = let r = told s (given 0 t) e in (r .0, t, r .1, (refl, refl))
+ev-out (suc k) t s e = let r = told s (given (suc k) t) e in (r .0, t, r .1, (refl, refl))
 
 -- line 1
 first-is : (l : Line) → isFirst l ≡ true → (l ≡ TakeRead) ⊎ (l ≡ StealRead)

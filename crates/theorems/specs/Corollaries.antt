@@ -1,7 +1,6 @@
 -- What else is claimed of lists from a fresh bench.
 use mathlib.Core.Path.{_≡_}
 use mathlib.Core.Bool.{true}
-use mathlib.Core.Logic.{_⊎_}
 use mathlib.Core.List.{List}
 use Prim.Native.Nat.{ℕ, _+_, _*_, _^_, _≤_, _<_}
 use lib.ListN.{length}
@@ -53,8 +52,8 @@ pub record Loses (W : World) (cs : List Call) (d : ℕ) : Type 0 where
   pub not-handed-out : (k : ℕ) → Out (played W cs) k task → ⊥
   pub not-standing : Stands (after W cs) task → ⊥
 
--- for each width there is such a list with exactly 2^w puts in one attempt: kind 1 is LIFO, kind 3 double-ended
+-- for each width there is such a list with exactly 2^w puts in one attempt, of a LIFO bench with one slot and one thief
 abbrev pub Tight : Type 0
 Tight =
-    (kind w : ℕ) (store log : List ℕ) → (kind ≡ 1) ⊎ (kind ≡ 3) → 0 < w → w ≤ 15 → 2 ≤ length store → 8 * 2 ^ w + 8 ≤ length log
-    → (freshOf kind w 1 2 store log .answer ≡ Accepted) × ((cs : List Call) × Loses (freshOf kind w 1 2 store log .world) cs (2 ^ w))
+    (w : ℕ) (store log : List ℕ) → 0 < w → w ≤ 15 → 2 ≤ length store → 8 * 2 ^ w + 8 ≤ length log
+    → (freshOf 1 w 1 2 store log .answer ≡ Accepted) × ((cs : List Call) × Loses (freshOf 1 w 1 2 store log .world) cs (2 ^ w))

@@ -44,8 +44,11 @@ abbrev pub Finishes : Task → Played → Type 0
 Finishes t s = (i : ℕ) × (s .answer ≡ Finished i t)
 
 -- a pair is handed out by a step that answers an entry of kind 2; it belongs to the put that has both words
+abbrev pub Belongs : Task → Task → Type 0
+Belongs u t = (u .number ≡ t .number) × (u .payload ≡ t .payload)
+
 abbrev pub HandsOut : Task → Played → Type 0
-HandsOut t s = (i : ℕ) × (s .answer ≡ HandedOut i t)
+HandsOut t s = (i : ℕ) × (u : Task) × (s .answer ≡ HandedOut i u) × Belongs u t
 
 -- worker i is answered EMPTY
 abbrev pub Empties : ℕ → Played → Type 0
@@ -74,9 +77,13 @@ pub record Done (T : List Played) (b j : ℕ) (t : Task) : Type 0 where
   pub later : b < j
   pub finished : At T j (Finishes t)
 
--- the task was handed out at place k; it stands whole in a slot of the window
+-- its task was handed out at place k; it stands whole in a slot of the window
 abbrev pub Out : List Played → ℕ → Task → Type 0
 Out T k t = At T k (HandsOut t)
+
+-- every put finished by place l was handed out before place j
+abbrev pub AllOut : List Played → ℕ → ℕ → Type 0
+AllOut T l j = (b k : ℕ) (t : Task) → Done T b k t → k ≤ l → (o : ℕ) × (o < j) × Out T o t
 
 abbrev pub Stands : World → Task → Type 0
 Stands W t = (i : ℕ) × (i < windowSize W) × (windowWord W i 0 ≡ t .number) × (windowWord W i 1 ≡ t .payload)
@@ -119,9 +126,7 @@ pub record Demand3 (W : World) (cs : List Call) : Type 0 where
   -- each pair handed out belongs to a put finished before it
   pub belongs : (j : ℕ) (t : Task) → Out (played W cs) j t → (b k : ℕ) × (k < j) × Done (played W cs) b k t
   -- each EMPTY was answered only if every put finished by that attempt's line 1 had been handed out before that EMPTY
-  pub none-left : (j i : ℕ) → At (played W cs) j (Empties i)
-      → (l : ℕ) × Attempt (played W cs) i l j
-      × ((b k : ℕ) (t : Task) → Done (played W cs) b k t → k ≤ l → (o : ℕ) × (o < j) × Out (played W cs) o t)
+  pub none-left : (j i : ℕ) → At (played W cs) j (Empties i) → (l : ℕ) × Attempt (played W cs) i l j × AllOut (played W cs) l j
   -- what makes 'the put it belongs to' exact: an entry of kind 1 ends a put that was begun, and no two puts have one number
   pub ended : (j : ℕ) (t : Task) → At (played W cs) j (Finishes t) → (b : ℕ) × Done (played W cs) b j t
   pub numbers : (a b : ℕ) (t u : Task) → At (played W cs) a (Begins t) → At (played W cs) b (Begins u) → t .number ≡ u .number → a ≡ b
