@@ -7,33 +7,12 @@ use lib.Dec.{ltb}
 use borrow.Author.Tests.{ltb-true}
 use Rattle.model.specs.declared.Operation.{Operation}
 use Rattle.model.specs.declared.Refusal.{Refusal}
-use Rattle.model.specs.declared.Refusal.the-variants.{
-  NoSuchWorker,
-  BusyWorker,
-  IdleWorker,
-  WrongHand,
-  NumbersSpent,
-  LogFull,
-  ForeignState,
-}
+use Rattle.model.specs.declared.Refusal.the-variants.{NoSuchWorker, BusyWorker, IdleWorker, WrongHand, NumbersSpent, LogFull, ForeignState}
 use Rattle.model.specs.Tests.{if_then_else_}
 use Rattle.model.specs.Answers.{numberOf}
 use Rattle.model.specs.World.{World, Outcome, refuse, lineAt, isIdle}
 use Rattle.model.specs.Limits.{validOf}
-use Rattle.model.specs.Calls.{
-  rightHand,
-  numbersLeft,
-  begun,
-  beginOf,
-  stepped,
-  noRoom,
-  nextEffect,
-  stepOf,
-  Call,
-  begin,
-  step,
-  callOf,
-}
+use Rattle.model.specs.Calls.{rightHand, numbersLeft, begun, beginOf, stepped, noRoom, nextEffect, stepOf, Call, begin, step, callOf}
 
 -- a property of both branches
 pub pick : (P : Outcome → Type 0) (x : Bool) (D D′ : Outcome) → (x ≡ true → P D) → (x ≡ false → P D′) → P (if x then D else D′)

@@ -11,10 +11,10 @@ use lib.Pow.{pow-mono}
 use lib.ListN.{length, getD, set, take, drop, replicate, List·getD-append, length-set, length-replicate, getD-replicate}
 use lib.Seq.{getD-set-other, getD-set-same, getD-append-add, length-take-le, set-out}
 use borrow.Author.Tests.{eqb-true, leb-true, eq-eqb, le-leb}
-use Rattle.model.specs.Tests.{_and_, _or_}
-use Rattle.model.proofs.Tests.{and-both}
 use Rattle.model.specs.declared.Region.{Region}
 use Rattle.model.specs.declared.Queue.{Queue}
+use Rattle.model.specs.Tests.{_and_, _or_}
+use Rattle.model.proofs.Tests.{and-both}
 use Rattle.model.specs.Memory.{wordAt, setWord, zeros, nowhere, offsetAt, sizeAt}
 use Rattle.model.specs.Lines.{off, size, claiming, publishing}
 use Rattle.model.specs.Limits.{isSize, lengthAt, tidy, taken}

@@ -9,164 +9,164 @@ use Rattle.model.specs.declared.Line.the-variants.{Idle, PutRead, PutTail, PutT
 use Rattle.model.specs.declared.Operation.the-variants.{Put, Take, Steal}
 use Rattle.model.specs.declared.Answer.{Answer}
 use Rattle.model.specs.declared.Answer.the-variants.{Accepted, Numbered, GoesOn, Finished, HandedOut, Empty, Full, Refused}
-use Rattle.model.specs.Calls.{Call, begin, step}
-use Rattle.theorems.specs.Demand3.{Few}
 use Rattle.model.specs.declared.Task.{Task}
+use Rattle.model.specs.Calls.{Call, begin, step}
 use Rattle.model.specs.Answers.{task}
+use Rattle.theorems.specs.Demand3.{Few}
 
-pub data Ev : Type 0 where
-  quiet : Ev
-  read1 : ℕ → Ev
-  done : Task → Ev
-  given : ℕ → Task → Ev
-  missed : ℕ → Ev
-  empty : ℕ → Ev
-  began : Task → Ev
-  full : Task → Ev
+pub data Event : Type 0 where
+  quiet : Event
+  line-1 : ℕ → Event
+  finished-put : Task → Event
+  handed-out : ℕ → Task → Event
+  failed-compare : ℕ → Event
+  found-empty : ℕ → Event
+  began-put : Task → Event
+  found-full : Task → Event
 
-abbrev pub isFirst : Line → Bool
-isFirst Idle = false
-isFirst (PutRead t) = false
-isFirst (PutTail t h) = false
-isFirst (PutTest t r) = false
-isFirst (PutNumber t r) = false
-isFirst (PutPayload t r) = false
-isFirst (PutFinish t r) = false
-isFirst (Claim t) = false
-isFirst (Note t) = false
-isFirst (Copy t h q k) = false
-isFirst (Publish t) = false
-isFirst TakeRead = true
-isFirst (TakeTail h) = false
-isFirst (TakeTest r) = false
-isFirst (TakeNumber r) = false
-isFirst (TakePayload r x) = false
-isFirst (TakeFinish r t) = false
-isFirst StealRead = true
-isFirst (StealTail h) = false
-isFirst (StealTest r) = false
-isFirst (StealNote r) = false
-isFirst (StealNumber r k) = false
-isFirst (StealPayload r k x) = false
-isFirst (StealNext r t) = false
-isFirst (StealCompare r e t) = false
+abbrev pub is-line-1 : Line → Bool
+is-line-1 Idle = false
+is-line-1 (PutRead t) = false
+is-line-1 (PutTail t h) = false
+is-line-1 (PutTest t r) = false
+is-line-1 (PutNumber t r) = false
+is-line-1 (PutPayload t r) = false
+is-line-1 (PutFinish t r) = false
+is-line-1 (Claim t) = false
+is-line-1 (Note t) = false
+is-line-1 (Copy t h q k) = false
+is-line-1 (Publish t) = false
+is-line-1 TakeRead = true
+is-line-1 (TakeTail h) = false
+is-line-1 (TakeTest r) = false
+is-line-1 (TakeNumber r) = false
+is-line-1 (TakePayload r x) = false
+is-line-1 (TakeFinish r t) = false
+is-line-1 StealRead = true
+is-line-1 (StealTail h) = false
+is-line-1 (StealTest r) = false
+is-line-1 (StealNote r) = false
+is-line-1 (StealNumber r k) = false
+is-line-1 (StealPayload r k x) = false
+is-line-1 (StealNext r t) = false
+is-line-1 (StealCompare r e t) = false
 
-abbrev pub isCompare : Line → Bool
-isCompare Idle = false
-isCompare (PutRead t) = false
-isCompare (PutTail t h) = false
-isCompare (PutTest t r) = false
-isCompare (PutNumber t r) = false
-isCompare (PutPayload t r) = false
-isCompare (PutFinish t r) = false
-isCompare (Claim t) = false
-isCompare (Note t) = false
-isCompare (Copy t h q k) = false
-isCompare (Publish t) = false
-isCompare TakeRead = false
-isCompare (TakeTail h) = false
-isCompare (TakeTest r) = false
-isCompare (TakeNumber r) = false
-isCompare (TakePayload r x) = false
-isCompare (TakeFinish r t) = false
-isCompare StealRead = false
-isCompare (StealTail h) = false
-isCompare (StealTest r) = false
-isCompare (StealNote r) = false
-isCompare (StealNumber r k) = false
-isCompare (StealPayload r k x) = false
-isCompare (StealNext r t) = false
-isCompare (StealCompare r e t) = true
+abbrev pub is-compare : Line → Bool
+is-compare Idle = false
+is-compare (PutRead t) = false
+is-compare (PutTail t h) = false
+is-compare (PutTest t r) = false
+is-compare (PutNumber t r) = false
+is-compare (PutPayload t r) = false
+is-compare (PutFinish t r) = false
+is-compare (Claim t) = false
+is-compare (Note t) = false
+is-compare (Copy t h q k) = false
+is-compare (Publish t) = false
+is-compare TakeRead = false
+is-compare (TakeTail h) = false
+is-compare (TakeTest r) = false
+is-compare (TakeNumber r) = false
+is-compare (TakePayload r x) = false
+is-compare (TakeFinish r t) = false
+is-compare StealRead = false
+is-compare (StealTail h) = false
+is-compare (StealTest r) = false
+is-compare (StealNote r) = false
+is-compare (StealNumber r k) = false
+is-compare (StealPayload r k x) = false
+is-compare (StealNext r t) = false
+is-compare (StealCompare r e t) = true
 
 -- the call c, of a worker at the line l, answers a
-abbrev pub evBegin : Call → ℕ → Ev
-evBegin (begin zero (Put p)) n = began (task n p)
-evBegin (begin (suc k) (Put p)) n = quiet
-evBegin (begin i Take) n = quiet
-evBegin (begin i Steal) n = quiet
-evBegin (step i) n = quiet
+abbrev pub event-of-begin : Call → ℕ → Event
+event-of-begin (begin zero (Put p)) n = began-put (task n p)
+event-of-begin (begin (suc k) (Put p)) n = quiet
+event-of-begin (begin i Take) n = quiet
+event-of-begin (begin i Steal) n = quiet
+event-of-begin (step i) n = quiet
 
-abbrev pub evGo : Call → Line → Ev
-evGo (begin i o) l = quiet
-evGo (step i) l = cond (isFirst l) (read1 i) (cond (isCompare l) (missed i) quiet)
+abbrev pub event-of-going-on : Call → Line → Event
+event-of-going-on (begin i o) l = quiet
+event-of-going-on (step i) l = cond (is-line-1 l) (line-1 i) (cond (is-compare l) (failed-compare i) quiet)
 
 -- 0 for the owner's take, which compares nothing
-abbrev pub evOut : Call → Line → Task → Ev
-evOut (begin i o) l t = given 0 t
-evOut (step i) l t = cond (isCompare l) (given i t) (given 0 t)
+abbrev pub event-of-hand-out : Call → Line → Task → Event
+event-of-hand-out (begin i o) l t = handed-out 0 t
+event-of-hand-out (step i) l t = cond (is-compare l) (handed-out i t) (handed-out 0 t)
 
-abbrev pub evOf : Call → Line → Answer → Ev
-evOf c l Accepted = quiet
-evOf c l (Numbered n) = evBegin c n
-evOf c l GoesOn = evGo c l
-evOf c l (Finished i t) = done t
-evOf c l (HandedOut i t) = evOut c l t
-evOf c l (Empty i) = empty i
-evOf c l (Full i t) = full t
-evOf c l (Refused r) = quiet
+abbrev pub event-of : Call → Line → Answer → Event
+event-of c l Accepted = quiet
+event-of c l (Numbered n) = event-of-begin c n
+event-of c l GoesOn = event-of-going-on c l
+event-of c l (Finished i t) = finished-put t
+event-of c l (HandedOut i t) = event-of-hand-out c l t
+event-of c l (Empty i) = found-empty i
+event-of c l (Full i t) = found-full t
+event-of c l (Refused r) = quiet
 
-abbrev pub Hist : Type 0
-Hist = List Ev
+abbrev pub History : Type 0
+History = List Event
 
-abbrev pub Out : Task → Hist → Type 0
-Out t h = (i : ℕ) × List·Memᴰ (given i t) h
+abbrev pub Out : Task → History → Type 0
+Out t h = (i : ℕ) × List·Memᴰ (handed-out i t) h
 
--- puts finished since worker i's newest line 1
-abbrev pub sinceE : ℕ → Ev → ℕ → ℕ
-sinceE i quiet n = n
-sinceE i (read1 j) n = cond (eqb j i) 0 n
-sinceE i (done t) n = suc n
-sinceE i (given j t) n = n
-sinceE i (missed j) n = n
-sinceE i (empty j) n = n
-sinceE i (began t) n = n
-sinceE i (full t) n = n
+-- puts finished puts-since worker i's newest line 1
+abbrev pub puts-since-event : ℕ → Event → ℕ → ℕ
+puts-since-event i quiet n = n
+puts-since-event i (line-1 j) n = cond (eqb j i) 0 n
+puts-since-event i (finished-put t) n = suc n
+puts-since-event i (handed-out j t) n = n
+puts-since-event i (failed-compare j) n = n
+puts-since-event i (found-empty j) n = n
+puts-since-event i (began-put t) n = n
+puts-since-event i (found-full t) n = n
 
-abbrev pub since : ℕ → Hist → ℕ
-since i [] = 0
-since i (e ∷ h) = sinceE i e (since i h)
+abbrev pub puts-since : ℕ → History → ℕ
+puts-since i [] = 0
+puts-since i (e ∷ h) = puts-since-event i e (puts-since i h)
 
 -- the history at worker i's newest line 1
-abbrev pub cutE : ℕ → Ev → Hist → Hist → Hist
-cutE i quiet h r = r
-cutE i (read1 j) h r = cond (eqb j i) h r
-cutE i (done t) h r = r
-cutE i (given j t) h r = r
-cutE i (missed j) h r = r
-cutE i (empty j) h r = r
-cutE i (began t) h r = r
-cutE i (full t) h r = r
+abbrev pub history-at-event : ℕ → Event → History → History → History
+history-at-event i quiet h r = r
+history-at-event i (line-1 j) h r = cond (eqb j i) h r
+history-at-event i (finished-put t) h r = r
+history-at-event i (handed-out j t) h r = r
+history-at-event i (failed-compare j) h r = r
+history-at-event i (found-empty j) h r = r
+history-at-event i (began-put t) h r = r
+history-at-event i (found-full t) h r = r
 
-abbrev pub cut : ℕ → Hist → Hist
-cut i [] = []
-cut i (e ∷ h) = cutE i e h (cut i h)
+abbrev pub history-at : ℕ → History → History
+history-at i [] = []
+history-at i (e ∷ h) = history-at-event i e h (history-at i h)
 
 -- the premise: at a thief's compare, of a queue with a tag
-abbrev pub PremE : Kind → ℕ → Ev → Hist → Type 0
-PremE κ w quiet h = Unit {0}
-PremE κ w (read1 j) h = Unit {0}
-PremE κ w (done t) h = Unit {0}
-PremE κ w (given zero t) h = Unit {0}
-PremE κ w (given (suc k) t) h = List·Memᴰ (read1 (suc k)) h → Few κ w (since (suc k) h)
-PremE κ w (missed j) h = List·Memᴰ (read1 j) h → Few κ w (since j h)
-PremE κ w (empty j) h = Unit {0}
-PremE κ w (began t) h = Unit {0}
-PremE κ w (full t) h = Unit {0}
+abbrev pub PremiseAt : Kind → ℕ → Event → History → Type 0
+PremiseAt κ w quiet h = Unit {0}
+PremiseAt κ w (line-1 j) h = Unit {0}
+PremiseAt κ w (finished-put t) h = Unit {0}
+PremiseAt κ w (handed-out zero t) h = Unit {0}
+PremiseAt κ w (handed-out (suc k) t) h = List·Memᴰ (line-1 (suc k)) h → Few κ w (puts-since (suc k) h)
+PremiseAt κ w (failed-compare j) h = List·Memᴰ (line-1 j) h → Few κ w (puts-since j h)
+PremiseAt κ w (found-empty j) h = Unit {0}
+PremiseAt κ w (began-put t) h = Unit {0}
+PremiseAt κ w (found-full t) h = Unit {0}
 
-abbrev pub Prem : Kind → ℕ → Hist → Type 0
-Prem κ w [] = Unit {0}
-Prem κ w (e ∷ h) = PremE κ w e h × Prem κ w h
+abbrev pub Premise : Kind → ℕ → History → Type 0
+Premise κ w [] = Unit {0}
+Premise κ w (e ∷ h) = PremiseAt κ w e h × Premise κ w h
 
-abbrev pub GoodE : Ev → Hist → Type 0
-GoodE quiet h = Unit {0}
-GoodE (read1 j) h = Unit {0}
-GoodE (done t) h = List·Memᴰ (began t) h
-GoodE (given j t) h = List·Memᴰ (done t) h
-GoodE (missed j) h = Unit {0}
-GoodE (empty j) h = List·Memᴰ (read1 j) h × ((t : Task) → List·Memᴰ (done t) (cut j h) → Out t h)
-GoodE (began t) h = Unit {0}
-GoodE (full t) h = Unit {0}
+abbrev pub GoodEvent : Event → History → Type 0
+GoodEvent quiet h = Unit {0}
+GoodEvent (line-1 j) h = Unit {0}
+GoodEvent (finished-put t) h = List·Memᴰ (began-put t) h
+GoodEvent (handed-out j t) h = List·Memᴰ (finished-put t) h
+GoodEvent (failed-compare j) h = Unit {0}
+GoodEvent (found-empty j) h = List·Memᴰ (line-1 j) h × ((t : Task) → List·Memᴰ (finished-put t) (history-at j h) → Out t h)
+GoodEvent (began-put t) h = Unit {0}
+GoodEvent (found-full t) h = Unit {0}
 
-abbrev pub Good : Hist → Type 0
-Good [] = Unit {0}
-Good (e ∷ h) = GoodE e h × Good h
+abbrev pub GoodHistory : History → Type 0
+GoodHistory [] = Unit {0}
+GoodHistory (e ∷ h) = GoodEvent e h × GoodHistory h

@@ -4,36 +4,35 @@ use mathlib.Core.Bool.{Bool, true, false}
 use mathlib.Core.List.{List, [], List·Memᴰ·not-nil}
 use Prim.Native.Nat.{ℕ, zero, suc, _*_, _≤_, _<_}
 use native.Mathlib.Omega.{arith}
+use native.Mathlib.Nat.{mul-div-cancel-left}
 use lib.Dec.{ltb, leb}
 use lib.Pow.{pow-pos}
 use lib.ListN.{length, replicate}
 use borrow.Author.Tests.{ltb-true, leb-true, eq-eqb}
-use Rattle.model.specs.Tests.{if_then_else_, _and_}
-use Rattle.model.proofs.Tests.{and-both}
 use Rattle.model.specs.declared.Kind.{Kind}
 use Rattle.model.specs.declared.Kind.the-variants.{Lifo, Fifo, Deque}
 use Rattle.model.specs.declared.Line.the-variants.{Idle}
 use Rattle.model.specs.declared.Refusal.{Refusal}
 use Rattle.model.specs.declared.Refusal.the-variants.{UnknownQueue, TagWidth, ArraySize, Crew, ShortStore}
 use Rattle.model.specs.declared.Answer.the-variants.{Accepted}
+use Rattle.model.specs.Tests.{if_then_else_, _and_}
+use Rattle.model.proofs.Tests.{and-both}
 use Rattle.model.specs.World.{World, Outcome, refuse, resting, lineAt}
 use Rattle.model.specs.Answers.{logged}
-use native.Mathlib.Nat.{mul-div-cancel-left}
 use Rattle.model.specs.Memory.{zeros, offsetAt, sizeAt}
 use Rattle.model.specs.Limits.{isSize, widthOk, crewOk}
 use Rattle.model.specs.Calls.{blank, noBench, lent, kindOf, freshOf}
+use Rattle.model.specs.Figures.{anchor}
 use Rattle.theorems.proofs.Remainders.{Size, size-pos}
 use Rattle.theorems.proofs.Words.{zeros-length}
-use Rattle.theorems.proofs.Indices.{Rep}
+use Rattle.theorems.proofs.Indices.{StandsFor}
 use Rattle.theorems.proofs.Invariant.{tops-refl}
 use Rattle.theorems.proofs.Directory.{both, size-yes, numbers-zeros, Arrays}
 use Rattle.theorems.proofs.Shape.{Bounded, Spent, pending}
 use Rattle.theorems.proofs.Valid.{Whole}
 use Rattle.theorems.proofs.SoundRun.{InvOf}
-use Rattle.model.specs.declared.Anchor.{Anchor}
-use Rattle.model.specs.Figures.{anchor}
 
--- what an accepted fresh was given
+-- what an accepted fresh was handed-out
 pub record Given (w c n : ℕ) (m : List ℕ) : Type 0 where
   pub width : (0 < w) × (w ≤ 16)
   pub test : isSize 10 c ≡ true
@@ -140,7 +139,7 @@ module _ (κ : Kind) (w c n : ℕ) (m l : List ℕ) (A : Given w c n m) where
             };
       }
 
-  rep-zero : (κ : Kind) → Rep κ (anchor 0 0 0) 0 0
+  rep-zero : (κ : Kind) → StandsFor κ (anchor 0 0 0) 0 0
   rep-zero Lifo = (refl, refl, refl)
   rep-zero Fifo = (refl, refl)
   rep-zero Deque = (refl, refl)
@@ -150,8 +149,8 @@ module _ (κ : Kind) (w c n : ℕ) (m l : List ℕ) (A : Given w c n m) where
       record {
         lo = 0;
         hi = 0;
-        ol = 0;
-        oh = 0;
+        own-lo = 0;
+        own-hi = 0;
         rep = rep-zero κ;
         tops = tops-refl κ 0;
         core =

@@ -11,26 +11,26 @@ use Rattle.model.specs.declared.Kind.the-variants.{Lifo, Fifo, Deque}
 use Rattle.model.specs.declared.Line.{Line}
 use Rattle.model.specs.declared.Line.the-variants.{Idle, PutRead, PutTail, PutTest, PutNumber, PutPayload, PutFinish, Claim, Note, Copy, Publish, TakeRead, TakeTail, TakeTest, TakeNumber, TakePayload, TakeFinish, StealRead, StealTail, StealTest, StealNote, StealNumber, StealPayload, StealNext, StealCompare}
 use Rattle.model.specs.declared.Queue.{Queue}
-use Rattle.theorems.proofs.Events.{Ev, quiet, read1, done, given, missed, empty, began, full, Hist, Out, since, cut}
-use Rattle.theorems.proofs.Words.{W}
+use Rattle.model.specs.declared.Task.{Task}
+use Rattle.model.specs.declared.Anchor.{Anchor}
 use Rattle.model.specs.Memory.{offsetAt, sizeAt}
 use Rattle.model.specs.Lines.{off, size}
+use Rattle.model.specs.Figures.{anchor}
+use Rattle.theorems.proofs.Events.{Event, quiet, line-1, finished-put, handed-out, failed-compare, found-empty, began-put, found-full, History, Out, puts-since, history-at}
+use Rattle.theorems.proofs.Words.{cell}
 use Rattle.theorems.proofs.Remainders.{tag-next, Size}
 use Rattle.theorems.proofs.Window.{View, word, taskAt, Core, later}
 use Rattle.theorems.proofs.Seen.{Dir, Got, Noted, Frame, Still, dir-keep, got-keep, noted-keep}
-use Rattle.theorems.proofs.Indices.{Rep, Start, Small, stolen-ix, taken-ix}
-use Rattle.model.specs.declared.Task.{Task}
-use Rattle.model.specs.declared.Anchor.{Anchor}
-use Rattle.model.specs.Figures.{anchor}
+use Rattle.theorems.proofs.Indices.{StandsFor, Start, Small, stolen-ix, taken-ix}
 
 abbrev pub view : Queue → List ℕ → ℕ → ℕ → View
-view Q μ ol oh = record { m = μ; d = Q .arrays; n = Q .published; b = off Q; z = size Q; ol = ol; oh = oh }
+view Q μ own-lo own-hi = record { store = μ; directory = Q .arrays; published = Q .published; base = off Q; slots = size Q; own-lo = own-lo; own-hi = own-hi }
 
 -- but in LIFO, only the owner moves the upper end
 abbrev pub Tops : Kind → ℕ → ℕ → Type 0
-Tops Lifo hi oh = Unit {0}
-Tops Fifo hi oh = hi ≡ oh
-Tops Deque hi oh = hi ≡ oh
+Tops Lifo hi own-hi = Unit {0}
+Tops Fifo hi own-hi = hi ≡ own-hi
+Tops Deque hi own-hi = hi ≡ own-hi
 
 abbrev pub IsFifo : Kind → Type 0
 IsFifo Lifo = ⊥
@@ -38,48 +38,48 @@ IsFifo Fifo = Unit {0}
 IsFifo Deque = ⊥
 
 -- all puts that were finished at worker i's line 1 have been handed out
-abbrev pub Emptied : ℕ → Hist → Type 0
-Emptied i h = (t : Task) → List·Memᴰ (done t) (cut i h) → Out t h
+abbrev pub Emptied : ℕ → History → Type 0
+Emptied i h = (t : Task) → List·Memᴰ (finished-put t) (history-at i h) → Out t h
 
 -- the claimed array
 abbrev pub Claimed : View → Type 0
 Claimed v =
-    (v .b + 2 * v .z + 4 * v .z ≤ length (v .m)) × (2 * v .z ≤ 1024) × (offsetAt (v .d) (v .n) ≡ v .b + 2 * v .z)
-    × (sizeAt (v .d) (v .n) ≡ 2 * v .z) × (0 < v .n)
+    (v .base + 2 * v .slots + 4 * v .slots ≤ length (v .store)) × (2 * v .slots ≤ 1024) × (offsetAt (v .directory) (v .published) ≡ v .base + 2 * v .slots)
+    × (sizeAt (v .directory) (v .published) ≡ 2 * v .slots) × (0 < v .published)
 
 -- the indices from lo up to hi are in the claimed array
 abbrev pub Copied : View → ℕ → ℕ → Type 0
-Copied v lo hi = (i j : ℕ) → lo ≤ i → i < hi → j < 2 → W (v .m) (v .b + 2 * v .z) (2 * v .z) i j ≡ word v i j
+Copied v lo hi = (i j : ℕ) → lo ≤ i → i < hi → j < 2 → cell (v .store) (v .base + 2 * v .slots) (2 * v .slots) i j ≡ word v i j
 
 pub record Copying (κ : Kind) (v : View) (a q k : ℕ) : Type 0 where
   pub from : ℕ
   pub start : Start κ a from
-  pub low : from ≤ v .ol
-  pub high : v .oh ≤ from + q
-  pub few : q ≤ v .z
+  pub low : from ≤ v .own-lo
+  pub high : v .own-hi ≤ from + q
+  pub few : q ≤ v .slots
   pub more : k < q
   pub copied : Copied v from (from + k)
 
-abbrev pub OwnerOk : Kind → View → ℕ → Hist → Line → Type 0
+abbrev pub OwnerOk : Kind → View → ℕ → History → Line → Type 0
 OwnerOk κ v g h Idle = Unit {0}
-OwnerOk κ v g h (PutRead t) = List·Memᴰ (began t) h
-OwnerOk κ v g h (PutTail t a) = List·Memᴰ (began t) h × (IsFifo κ × (v .ol ≡ a))
-OwnerOk κ v g h (PutTest t r) = List·Memᴰ (began t) h × (Rep κ r (v .ol) (v .oh) × (r .tag ≡ g))
-OwnerOk κ v g h (PutNumber t r) = List·Memᴰ (began t) h × (Rep κ r (v .ol) (v .oh) × (r .tag ≡ g) × (v .oh < v .ol + v .z))
-OwnerOk κ v g h (PutPayload t r) = List·Memᴰ (began t) h × (Rep κ r (v .ol) (v .oh) × (r .tag ≡ g) × (v .oh < v .ol + v .z) × (word v (v .oh) 0 ≡ t .number))
+OwnerOk κ v g h (PutRead t) = List·Memᴰ (began-put t) h
+OwnerOk κ v g h (PutTail t a) = List·Memᴰ (began-put t) h × (IsFifo κ × (v .own-lo ≡ a))
+OwnerOk κ v g h (PutTest t r) = List·Memᴰ (began-put t) h × (StandsFor κ r (v .own-lo) (v .own-hi) × (r .tag ≡ g))
+OwnerOk κ v g h (PutNumber t r) = List·Memᴰ (began-put t) h × (StandsFor κ r (v .own-lo) (v .own-hi) × (r .tag ≡ g) × (v .own-hi < v .own-lo + v .slots))
+OwnerOk κ v g h (PutPayload t r) = List·Memᴰ (began-put t) h × (StandsFor κ r (v .own-lo) (v .own-hi) × (r .tag ≡ g) × (v .own-hi < v .own-lo + v .slots) × (word v (v .own-hi) 0 ≡ t .number))
 OwnerOk κ v g h (PutFinish t r) =
-    List·Memᴰ (began t) h × (Rep κ r (v .ol) (v .oh) × (r .tag ≡ g) × (v .oh < v .ol + v .z) × (taskAt v (v .oh) ≡ t))
-OwnerOk κ v g h (Claim t) = List·Memᴰ (began t) h
-OwnerOk κ v g h (Note t) = List·Memᴰ (began t) h × (Claimed v)
-OwnerOk κ v g h (Copy t a q k) = List·Memᴰ (began t) h × Claimed v × Copying κ v a q k
-OwnerOk κ v g h (Publish t) = List·Memᴰ (began t) h × Claimed v × Copied v (v .ol) (v .oh)
+    List·Memᴰ (began-put t) h × (StandsFor κ r (v .own-lo) (v .own-hi) × (r .tag ≡ g) × (v .own-hi < v .own-lo + v .slots) × (taskAt v (v .own-hi) ≡ t))
+OwnerOk κ v g h (Claim t) = List·Memᴰ (began-put t) h
+OwnerOk κ v g h (Note t) = List·Memᴰ (began-put t) h × (Claimed v)
+OwnerOk κ v g h (Copy t a q k) = List·Memᴰ (began-put t) h × Claimed v × Copying κ v a q k
+OwnerOk κ v g h (Publish t) = List·Memᴰ (began-put t) h × Claimed v × Copied v (v .own-lo) (v .own-hi)
 OwnerOk κ v g h TakeRead = Unit {0}
-OwnerOk κ v g h (TakeTail a) = IsFifo κ × (v .ol ≡ a) × (v .ol ≡ v .oh → Emptied 0 h) × List·Memᴰ (read1 0) h
-OwnerOk κ v g h (TakeTest r) = Rep κ r (v .ol) (v .oh) × (r .tag ≡ g) × (v .ol ≡ v .oh → Emptied 0 h) × List·Memᴰ (read1 0) h
-OwnerOk κ v g h (TakeNumber r) = Rep κ r (v .ol) (v .oh) × (r .tag ≡ g) × (v .ol < v .oh)
-OwnerOk κ v g h (TakePayload r x) = Rep κ r (v .ol) (v .oh) × (r .tag ≡ g) × (v .ol < v .oh) × (x ≡ word v (taken-ix κ (v .ol) (v .oh)) 0)
+OwnerOk κ v g h (TakeTail a) = IsFifo κ × (v .own-lo ≡ a) × (v .own-lo ≡ v .own-hi → Emptied 0 h) × List·Memᴰ (line-1 0) h
+OwnerOk κ v g h (TakeTest r) = StandsFor κ r (v .own-lo) (v .own-hi) × (r .tag ≡ g) × (v .own-lo ≡ v .own-hi → Emptied 0 h) × List·Memᴰ (line-1 0) h
+OwnerOk κ v g h (TakeNumber r) = StandsFor κ r (v .own-lo) (v .own-hi) × (r .tag ≡ g) × (v .own-lo < v .own-hi)
+OwnerOk κ v g h (TakePayload r x) = StandsFor κ r (v .own-lo) (v .own-hi) × (r .tag ≡ g) × (v .own-lo < v .own-hi) × (x ≡ word v (taken-ix κ (v .own-lo) (v .own-hi)) 0)
 OwnerOk κ v g h (TakeFinish r t) =
-    Rep κ r (v .ol) (v .oh) × (r .tag ≡ g) × (v .ol < v .oh) × (t ≡ taskAt v (taken-ix κ (v .ol) (v .oh)))
+    StandsFor κ r (v .own-lo) (v .own-hi) × (r .tag ≡ g) × (v .own-lo < v .own-hi) × (t ≡ taskAt v (taken-ix κ (v .own-lo) (v .own-hi)))
 OwnerOk κ v g h StealRead = ⊥
 OwnerOk κ v g h (StealTail a) = ⊥
 OwnerOk κ v g h (StealTest r) = ⊥
@@ -97,9 +97,9 @@ Tag Deque w g d r = (r < 2 ^ w) × (g ≡ (r + d) % 2 ^ w)
 
 -- where a window read lies, against the owner's
 abbrev pub Hold : Kind → View → ℕ → ℕ → ℕ → Type 0
-Hold Lifo v d lo hi = hi ≤ v .z
-Hold Fifo v d lo hi = hi ≤ v .oh
-Hold Deque v d lo hi = (lo ≤ v .ol + 1024) × (d ≡ 0 → v .oh ≤ hi)
+Hold Lifo v d lo hi = hi ≤ v .slots
+Hold Fifo v d lo hi = hi ≤ v .own-hi
+Hold Deque v d lo hi = (lo ≤ v .own-lo + 1024) × (d ≡ 0 → v .own-hi ≤ hi)
 
 -- what may have broken the words read
 abbrev pub stale : Kind → ℕ → ℕ
@@ -107,25 +107,25 @@ stale Lifo d = d
 stale Fifo d = 0
 stale Deque d = d
 
-pub record Reads (κ : Kind) (w : ℕ) (v : View) (g : ℕ) (h : Hist) (k : ℕ) (r : Anchor) : Type 0 where
+pub record Reads (κ : Kind) (w : ℕ) (v : View) (g : ℕ) (h : History) (k : ℕ) (r : Anchor) : Type 0 where
   pub lo : ℕ
   pub hi : ℕ
-  pub rep : Rep κ r lo hi
+  pub rep : StandsFor κ r lo hi
   pub le : lo ≤ hi
-  pub begun : List·Memᴰ (read1 k) h
-  pub tag : Tag κ w g (since k h) (r .tag)
-  pub hold : Hold κ v (since k h) lo hi
+  pub begun : List·Memᴰ (line-1 k) h
+  pub tag : Tag κ w g (puts-since k h) (r .tag)
+  pub hold : Hold κ v (puts-since k h) lo hi
 
 abbrev pub NotedAt : ℕ → View → ℕ → ℕ → ℕ → Type 0
 NotedAt st v b z i = Dir v b z × Noted st v b z i
 
-abbrev pub GotV : (κ : Kind) → (w : ℕ) → (v : View) → (g : ℕ) → (h : Hist) → (k : ℕ) (r : Anchor) → Reads κ w v g h k r → ℕ → ℕ → Type 0
-GotV κ w v g h k r R j x = Got (stale κ (since k h)) v (stolen-ix κ (R .lo) (R .hi)) j x
+abbrev pub GotV : (κ : Kind) → (w : ℕ) → (v : View) → (g : ℕ) → (h : History) → (k : ℕ) (r : Anchor) → Reads κ w v g h k r → ℕ → ℕ → Type 0
+GotV κ w v g h k r R j x = Got (stale κ (puts-since k h)) v (stolen-ix κ (R .lo) (R .hi)) j x
 
-abbrev pub NotedV : (κ : Kind) → (w : ℕ) → (v : View) → (g : ℕ) → (h : Hist) → (k : ℕ) (r : Anchor) → Reads κ w v g h k r → ℕ → Type 0
+abbrev pub NotedV : (κ : Kind) → (w : ℕ) → (v : View) → (g : ℕ) → (h : History) → (k : ℕ) (r : Anchor) → Reads κ w v g h k r → ℕ → Type 0
 NotedV κ w v g h k r R b =
-    (b < v .n) × (Size (sizeAt (v .d) b) × Small κ (sizeAt (v .d) b) (R .hi))
-    × NotedAt (stale κ (since k h)) v (offsetAt (v .d) b) (sizeAt (v .d) b) (stolen-ix κ (R .lo) (R .hi))
+    (b < v .published) × (Size (sizeAt (v .directory) b) × Small κ (sizeAt (v .directory) b) (R .hi))
+    × NotedAt (stale κ (puts-since k h)) v (offsetAt (v .directory) b) (sizeAt (v .directory) b) (stolen-ix κ (R .lo) (R .hi))
 
 -- double-ended line 5
 abbrev pub Next : Kind → ℕ → ℕ → Type 0
@@ -133,10 +133,10 @@ Next Lifo a e = Unit {0}
 Next Fifo a e = Unit {0}
 Next Deque a e = e ≡ (a + 1) % 2048
 
-abbrev pub ThiefOk : Kind → ℕ → View → ℕ → Hist → ℕ → Line → Type 0
+abbrev pub ThiefOk : Kind → ℕ → View → ℕ → History → ℕ → Line → Type 0
 ThiefOk κ w v g h k Idle = Unit {0}
 ThiefOk κ w v g h k StealRead = Unit {0}
-ThiefOk κ w v g h k (StealTail a) = IsFifo κ × (e : ℕ) × (a ≤ e) × (e ≤ v .oh) × (a ≡ e → Emptied k h) × List·Memᴰ (read1 k) h
+ThiefOk κ w v g h k (StealTail a) = IsFifo κ × (e : ℕ) × (a ≤ e) × (e ≤ v .own-hi) × (a ≡ e → Emptied k h) × List·Memᴰ (line-1 k) h
 ThiefOk κ w v g h k (StealTest r) = (R : Reads κ w v g h k r) × (R .lo ≡ R .hi → Emptied k h)
 ThiefOk κ w v g h k (StealNote r) = (R : Reads κ w v g h k r) × (R .lo < R .hi)
 ThiefOk κ w v g h k (StealNumber r b) = (R : Reads κ w v g h k r) × (R .lo < R .hi) × NotedV κ w v g h k r R b
@@ -165,47 +165,47 @@ ThiefOk κ w v g h k (TakePayload r x) = ⊥
 ThiefOk κ w v g h k (TakeFinish r t) = ⊥
 
 -- o: the owner's line; φ k: thief k's
-pub record Inv (κ : Kind) (w : ℕ) (Q : Queue) (μ : List ℕ) (o : Line) (φ : ℕ → Line) (h : Hist) : Type 0 where
+pub record Inv (κ : Kind) (w : ℕ) (Q : Queue) (μ : List ℕ) (o : Line) (φ : ℕ → Line) (h : History) : Type 0 where
   pub lo : ℕ
   pub hi : ℕ
-  pub ol : ℕ
-  pub oh : ℕ
-  pub rep : Rep κ (Q .anchor) lo hi
-  pub tops : Tops κ hi oh
-  pub core : Core (view Q μ ol oh) lo hi h
+  pub own-lo : ℕ
+  pub own-hi : ℕ
+  pub rep : StandsFor κ (Q .anchor) lo hi
+  pub tops : Tops κ hi own-hi
+  pub core : Core (view Q μ own-lo own-hi) lo hi h
   pub sized : Size (size Q)
   pub room : off Q + 2 * size Q ≤ length μ
   pub tag : Q .anchor .tag < 2 ^ w
-  pub own : OwnerOk κ (view Q μ ol oh) (Q .anchor .tag) h o
-  pub th : (k : ℕ) → ThiefOk κ w (view Q μ ol oh) (Q .anchor .tag) h (suc k) (φ k)
+  pub own : OwnerOk κ (view Q μ own-lo own-hi) (Q .anchor .tag) h o
+  pub th : (k : ℕ) → ThiefOk κ w (view Q μ own-lo own-hi) (Q .anchor .tag) h (suc k) (φ k)
 
 -- what a step of another worker does to thief k
 abbrev pub Grow : Kind → View → View → Type 0
 Grow Lifo v v′ = Unit {0}
-Grow Fifo v v′ = v .oh ≤ v′ .oh
+Grow Fifo v v′ = v .own-hi ≤ v′ .own-hi
 Grow Deque v v′ = Unit {0}
 
-pub record Move (κ : Kind) (w : ℕ) (v v′ : View) (g g′ : ℕ) (h h′ : Hist) (k : ℕ) : Type 0 where
+pub record Move (κ : Kind) (w : ℕ) (v v′ : View) (g g′ : ℕ) (h h′ : History) (k : ℕ) : Type 0 where
   pub frame : Frame v v′
   pub grow : Grow κ v v′
-  pub still : since k h′ ≡ 0 → (since k h ≡ 0) × (v′ .oh ≤ v .oh)
-  pub tags : (x : ℕ) → Tag κ w g (since k h) x → Tag κ w g′ (since k h′) x
+  pub still : puts-since k h′ ≡ 0 → (puts-since k h ≡ 0) × (v′ .own-hi ≤ v .own-hi)
+  pub tags : (x : ℕ) → Tag κ w g (puts-since k h) x → Tag κ w g′ (puts-since k h′) x
   pub emp : Emptied k h → Emptied k h′
-  pub grown : {e : Ev} → List·Memᴰ e h → List·Memᴰ e h′
+  pub grown : {e : Event} → List·Memᴰ e h → List·Memᴰ e h′
 
-hold-keep : (κ : Kind) (v v′ : View) (d d′ lo hi : ℕ) → v .ol ≤ v′ .ol → v .z ≤ v′ .z → Grow κ v v′ → (d′ ≡ 0 → (d ≡ 0) × (v′ .oh ≤ v .oh))
+hold-keep : (κ : Kind) (v v′ : View) (d d′ lo hi : ℕ) → v .own-lo ≤ v′ .own-lo → v .slots ≤ v′ .slots → Grow κ v v′ → (d′ ≡ 0 → (d ≡ 0) × (v′ .own-hi ≤ v .own-hi))
     → Hold κ v d lo hi → Hold κ v′ d′ lo hi
 hold-keep Lifo v v′ d d′ lo hi u b G S H = omega arith
 hold-keep Fifo v v′ d d′ lo hi u b G S H = omega arith
 hold-keep Deque v v′ d d′ lo hi u b G S H = (omega arith, λ e. omega (arith, S e .1, H .1 (S e .0)))
 
-still-of : (κ : Kind) (v v′ : View) (d d′ lo hi : ℕ) → (d′ ≡ 0 → (d ≡ 0) × (v′ .oh ≤ v .oh))
+still-of : (κ : Kind) (v v′ : View) (d d′ lo hi : ℕ) → (d′ ≡ 0 → (d ≡ 0) × (v′ .own-hi ≤ v .own-hi))
     → Hold κ v d lo hi → lo < hi → Still (stale κ d) (stale κ d′) v v′ (stolen-ix κ lo hi)
 still-of Lifo v v′ d d′ lo hi S H l e = (S e .0, λ q. omega (arith, S e .1))
 still-of Fifo v v′ d d′ lo hi S H l e = (refl, λ q. omega arith)
 still-of Deque v v′ d d′ lo hi S H l e = (S e .0, λ q. omega (arith, S e .1))
 
-module _ {κ : Kind} {w : ℕ} {v v′ : View} {g g′ : ℕ} {h h′ : Hist} {k : ℕ} (M : Move κ w v v′ g g′ h h′ k) where
+module _ {κ : Kind} {w : ℕ} {v v′ : View} {g g′ : ℕ} {h h′ : History} {k : ℕ} (M : Move κ w v v′ g g′ h h′ k) where
   reads-keep : {r : Anchor} → Reads κ w v g h k r → Reads κ w v′ g′ h′ k r
   reads-keep {r} R =
       record {
@@ -215,11 +215,11 @@ module _ {κ : Kind} {w : ℕ} {v v′ : View} {g g′ : ℕ} {h h′ : Hist} {k
         le = R .le;
         begun = M .grown (R .begun);
         tag = M .tags (r .tag) (R .tag);
-        hold = hold-keep κ v v′ (since k h) (since k h′) (R .lo) (R .hi) (M .frame .up) (M .frame .larger) (M .grow) (M .still) (R .hold);
+        hold = hold-keep κ v v′ (puts-since k h) (puts-since k h′) (R .lo) (R .hi) (M .frame .up) (M .frame .larger) (M .grow) (M .still) (R .hold);
       }
 
-  st : {r : Anchor} (R : Reads κ w v g h k r) → R .lo < R .hi → Still (stale κ (since k h)) (stale κ (since k h′)) v v′ (stolen-ix κ (R .lo) (R .hi))
-  st R l = still-of κ v v′ (since k h) (since k h′) (R .lo) (R .hi) (M .still) (R .hold) l
+  st : {r : Anchor} (R : Reads κ w v g h k r) → R .lo < R .hi → Still (stale κ (puts-since k h)) (stale κ (puts-since k h′)) v v′ (stolen-ix κ (R .lo) (R .hi))
+  st R l = still-of κ v v′ (puts-since k h) (puts-since k h′) (R .lo) (R .hi) (M .still) (R .hold) l
 
   place-keep : {r : Anchor} (b : ℕ) (R : Reads κ w v g h k r) → R .lo < R .hi → NotedV κ w v g h k r R b → NotedV κ w v′ g′ h′ k r (reads-keep R) b
   unfolding reads-keep
@@ -227,10 +227,10 @@ module _ {κ : Kind} {w : ℕ} {v v′ : View} {g g′ : ℕ} {h h′ : Hist} {k
       let P = M .frame .places b p in
       (P .0, rw (P .2) s, rw (P .1, P .2) (dir-keep (M .frame) (N .0), noted-keep (M .frame) (st R l) (N .0) (N .1)))
 
-  oh-le : IsFifo κ → v .oh ≤ v′ .oh
+  oh-le : IsFifo κ → v .own-hi ≤ v′ .own-hi
   oh-le f = go κ f (M .grow)
     where
-      go : (κ : Kind) → IsFifo κ → Grow κ v v′ → v .oh ≤ v′ .oh
+      go : (κ : Kind) → IsFifo κ → Grow κ v v′ → v .own-hi ≤ v′ .own-hi
       go Lifo f q = absurd f
       go Fifo f q = q
       go Deque f q = absurd f
@@ -267,70 +267,70 @@ module _ {κ : Kind} {w : ℕ} {v v′ : View} {g g′ : ℕ} {h h′ : Hist} {k
   thief-holds (TakeFinish r t) o = absurd o
 
 -- events that leave worker k's attempt as it is
-abbrev pub Calm : ℕ → Ev → Type 0
+abbrev pub Calm : ℕ → Event → Type 0
 Calm k quiet = Unit {0}
-Calm k (read1 j) = j ≢ k
-Calm k (done t) = ⊥
-Calm k (given j t) = Unit {0}
-Calm k (missed j) = Unit {0}
-Calm k (empty j) = Unit {0}
-Calm k (began t) = Unit {0}
-Calm k (full t) = Unit {0}
+Calm k (line-1 j) = j ≢ k
+Calm k (finished-put t) = ⊥
+Calm k (handed-out j t) = Unit {0}
+Calm k (failed-compare j) = Unit {0}
+Calm k (found-empty j) = Unit {0}
+Calm k (began-put t) = Unit {0}
+Calm k (found-full t) = Unit {0}
 
-calm-since : (k : ℕ) (h : Hist) (e : Ev) → Calm k e → since k (e ∷ h) ≡ since k h
+calm-since : (k : ℕ) (h : History) (e : Event) → Calm k e → puts-since k (e ∷ h) ≡ puts-since k h
 calm-since k h quiet c = refl
-calm-since k h (read1 j) c = rw (ne-eqb j k c)
-calm-since k h (done t) c = absurd c
-calm-since k h (given j t) c = refl
-calm-since k h (missed j) c = refl
-calm-since k h (empty j) c = refl
-calm-since k h (began t) c = refl
-calm-since k h (full t) c = refl
+calm-since k h (line-1 j) c = rw (ne-eqb j k c)
+calm-since k h (finished-put t) c = absurd c
+calm-since k h (handed-out j t) c = refl
+calm-since k h (failed-compare j) c = refl
+calm-since k h (found-empty j) c = refl
+calm-since k h (began-put t) c = refl
+calm-since k h (found-full t) c = refl
 
-calm-cut : (k : ℕ) (h : Hist) (e : Ev) → Calm k e → cut k (e ∷ h) ≡ cut k h
+calm-cut : (k : ℕ) (h : History) (e : Event) → Calm k e → history-at k (e ∷ h) ≡ history-at k h
 calm-cut k h quiet c = refl
-calm-cut k h (read1 j) c = rw (ne-eqb j k c)
-calm-cut k h (done t) c = absurd c
-calm-cut k h (given j t) c = refl
-calm-cut k h (missed j) c = refl
-calm-cut k h (empty j) c = refl
-calm-cut k h (began t) c = refl
-calm-cut k h (full t) c = refl
+calm-cut k h (line-1 j) c = rw (ne-eqb j k c)
+calm-cut k h (finished-put t) c = absurd c
+calm-cut k h (handed-out j t) c = refl
+calm-cut k h (failed-compare j) c = refl
+calm-cut k h (found-empty j) c = refl
+calm-cut k h (began-put t) c = refl
+calm-cut k h (found-full t) c = refl
 
-pub emp-calm : (k : ℕ) (h : Hist) (e : Ev) → Calm k e → Emptied k h → Emptied k (e ∷ h)
-emp-calm k h e c E t d = later e (E t (subst (λ (x : Hist). List·Memᴰ (done t) x) (calm-cut k h e c) d))
+pub emp-calm : (k : ℕ) (h : History) (e : Event) → Calm k e → Emptied k h → Emptied k (e ∷ h)
+emp-calm k h e c E t d = later e (E t (subst (λ (x : History). List·Memᴰ (finished-put t) x) (calm-cut k h e c) d))
 
 -- the newest line 1
-pub cut-now : (i : ℕ) (h : Hist) → cut i (read1 i ∷ h) ≡ h
+pub cut-now : (i : ℕ) (h : History) → history-at i (line-1 i ∷ h) ≡ h
 cut-now i h = rw (eq-eqb i i refl)
 
-pub since-now : (i : ℕ) (h : Hist) → since i (read1 i ∷ h) ≡ 0
+pub since-now : (i : ℕ) (h : History) → puts-since i (line-1 i ∷ h) ≡ 0
 since-now i h = rw (eq-eqb i i refl)
 
-pub emp-now : {v : View} {lo hi : ℕ} {h : Hist} (i : ℕ) → Core v lo hi h → lo ≡ hi → Emptied i (read1 i ∷ h)
-emp-now {v} {lo} {hi} {h} i C e t d = go (C .all t (subst (λ (l : Hist). List·Memᴰ (done t) l) (cut-now i h) d))
+pub emp-now : {v : View} {lo hi : ℕ} {h : History} (i : ℕ) → Core v lo hi h → lo ≡ hi → Emptied i (line-1 i ∷ h)
+emp-now {v} {lo} {hi} {h} i C e t d = go (C .all t (subst (λ (l : History). List·Memᴰ (finished-put t) l) (cut-now i h) d))
   where
-    go : Out t h ⊎ ((i : ℕ) × (lo ≤ i) × (i < hi) × (taskAt v i ≡ t)) → Out t (read1 i ∷ h)
-    go (inl o) = later (read1 i) o
+    go : Out t h ⊎ ((i : ℕ) × (lo ≤ i) × (i < hi) × (taskAt v i ≡ t)) → Out t (line-1 i ∷ h)
+    go (inl o) = later (line-1 i) o
     go (inr (k, a, b, x)) = absurd (omega arith)
 
 tag-calm : (κ : Kind) (w g d d′ r : ℕ) → d′ ≡ d → Tag κ w g d r → Tag κ w g d′ r
 tag-calm κ w g d d′ r e t = rw e t
 
-pub move-calm : {κ : Kind} {w : ℕ} {v v′ : View} {g : ℕ} {h : Hist} {k : ℕ} (e : Ev) → Calm k e → Frame v v′ → Grow κ v v′ → v′ .oh ≤ v .oh
+pub move-calm : {κ : Kind} {w : ℕ} {v v′ : View} {g : ℕ} {h : History} {k : ℕ} (e : Event) → Calm k e → Frame v v′ → Grow κ v v′ → v′ .own-hi ≤ v .own-hi
     → Move κ w v v′ g g h (e ∷ h) k
 move-calm {κ} {w} {v} {v′} {g} {h} {k} e c F G l =
     record {
       frame = F;
       grow = G;
       still = λ q. (sym (calm-since k h e c) ∙ q, l);
-      tags = λ r. tag-calm κ w g (since k h) (since k (e ∷ h)) r (calm-since k h e c);
+      tags = λ r. tag-calm κ w g (puts-since k h) (puts-since k (e ∷ h)) r (calm-since k h e c);
       emp = emp-calm k h e c;
       grown = List·Memᴰ·tail;
     }
 
 -- nothing happened
-pub move-none : {κ : Kind} {w : ℕ} {v v′ : View} {g : ℕ} {h : Hist} {k : ℕ} → Frame v v′ → Grow κ v v′ → v′ .oh ≤ v .oh → Move κ w v v′ g g h h k
+pub move-none : {κ : Kind} {w : ℕ} {v v′ : View} {g : ℕ} {h : History} {k : ℕ} → Frame v v′ → Grow κ v v′ → v′ .own-hi ≤ v .own-hi → Move κ w v v′ g g h h k
 move-none {κ} {w} {v} {v′} {g} {h} {k} F G l =
     record { frame = F; grow = G; still = λ q. (q, l); tags = λ r t. t; emp = λ E. E; grown = λ m. m }
 
@@ -345,20 +345,20 @@ tag-put Lifo w g d r t = (t .0, tag-next g r d (2 ^ w) (t .1))
 tag-put Fifo w g d r t = tt
 tag-put Deque w g d r t = (t .0, tag-next g r d (2 ^ w) (t .1))
 
-pub move-put : {κ : Kind} {w : ℕ} {v v′ : View} {g : ℕ} {h : Hist} {k : ℕ} (t : Task) → Frame v v′ → Grow κ v v′
-    → Move κ w v v′ g (tagAfter κ w g) h (done t ∷ h) k
+pub move-put : {κ : Kind} {w : ℕ} {v v′ : View} {g : ℕ} {h : History} {k : ℕ} (t : Task) → Frame v v′ → Grow κ v v′
+    → Move κ w v v′ g (tagAfter κ w g) h (finished-put t ∷ h) k
 move-put {κ} {w} {v} {v′} {g} {h} {k} t F G =
     record {
       frame = F;
       grow = G;
       still = λ q. absurd (omega arith);
-      tags = λ r. tag-put κ w g (since k h) r;
-      emp = λ E t′ d. later (done t) (E t′ d);
+      tags = λ r. tag-put κ w g (puts-since k h) r;
+      emp = λ E t′ d. later (finished-put t) (E t′ d);
       grown = List·Memᴰ·tail;
     }
 
 -- a step of a thief, seen by the owner
-pub own-keep : (κ : Kind) (v : View) (g : ℕ) (h : Hist) (e : Ev) → Calm 0 e → (o : Line) → OwnerOk κ v g h o → OwnerOk κ v g (e ∷ h) o
+pub own-keep : (κ : Kind) (v : View) (g : ℕ) (h : History) (e : Event) → Calm 0 e → (o : Line) → OwnerOk κ v g h o → OwnerOk κ v g (e ∷ h) o
 own-keep κ v gc h e c Idle k = k
 own-keep κ v gc h e c (PutRead t) k = List·Memᴰ·tail k
 own-keep κ v gc h e c (PutTail t a) (b, k) = (List·Memᴰ·tail b, k)
@@ -391,13 +391,13 @@ tops-refl Fifo n = refl
 tops-refl Deque n = refl
 
 -- the owner's window keeps its upper end
-pub grow-same : (κ : Kind) (v v′ : View) → v′ .oh ≡ v .oh → Grow κ v v′
+pub grow-same : (κ : Kind) (v v′ : View) → v′ .own-hi ≡ v .own-hi → Grow κ v v′
 grow-same Lifo v v′ e = tt
 grow-same Fifo v v′ e = omega arith
 grow-same Deque v v′ e = tt
 
 -- the owner's window comes to be the queue's
-pub grow-read : (κ : Kind) (v v′ : View) (hi : ℕ) → v′ .oh ≡ hi → Tops κ hi (v .oh) → Grow κ v v′
+pub grow-read : (κ : Kind) (v v′ : View) (hi : ℕ) → v′ .own-hi ≡ hi → Tops κ hi (v .own-hi) → Grow κ v v′
 grow-read Lifo v v′ hi e t = tt
 grow-read Fifo v v′ hi e t = omega arith
 grow-read Deque v v′ hi e t = tt

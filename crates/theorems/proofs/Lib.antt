@@ -27,3 +27,4 @@ pub mod WidestTag
 pub mod Rounds
 pub mod TightList
 pub mod Tight
+pub mod Examples

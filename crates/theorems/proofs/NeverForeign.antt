@@ -1,39 +1,12 @@
 -- No state reached from fresh is refused 12: every state reached is whole, and a whole state keeps the limits.
-use mathlib.Core.Path.{_≡_, refl, sym, _∙_, ap}
+use mathlib.Core.Path.{_≡_, refl, ap}
 use mathlib.Core.Bool.{Bool, true, false}
 use mathlib.Core.List.{List, [], _∷_}
 use Prim.Native.Nat.{ℕ, zero, suc}
 use native.Mathlib.Omega.{arith}
-use Rattle.model.specs.Tests.{if_then_else_}
 use Rattle.model.specs.declared.Kind.{Kind}
 use Rattle.model.specs.declared.Line.{Line}
-use Rattle.model.specs.declared.Line.the-variants.{
-  Idle,
-  PutRead,
-  PutTail,
-  PutTest,
-  PutNumber,
-  PutPayload,
-  PutFinish,
-  Claim,
-  Note,
-  Copy,
-  Publish,
-  TakeRead,
-  TakeTail,
-  TakeTest,
-  TakeNumber,
-  TakePayload,
-  TakeFinish,
-  StealRead,
-  StealTail,
-  StealTest,
-  StealNote,
-  StealNumber,
-  StealPayload,
-  StealNext,
-  StealCompare,
-}
+use Rattle.model.specs.declared.Line.the-variants.{Idle, PutRead, PutTail, PutTest, PutNumber, PutPayload, PutFinish, Claim, Note, Copy, Publish, TakeRead, TakeTail, TakeTest, TakeNumber, TakePayload, TakeFinish, StealRead, StealTail, StealTest, StealNote, StealNumber, StealPayload, StealNext, StealCompare}
 use Rattle.model.specs.declared.Queue.{Queue}
 use Rattle.model.specs.declared.Operation.{Operation}
 use Rattle.model.specs.declared.Operation.the-variants.{Put, Take, Steal}
@@ -41,13 +14,14 @@ use Rattle.model.specs.declared.Refusal.{Refusal}
 use Rattle.model.specs.declared.Refusal.the-variants.{ForeignState}
 use Rattle.model.specs.declared.Answer.{Answer}
 use Rattle.model.specs.declared.Answer.the-variants.{Refused}
+use Rattle.model.specs.Tests.{if_then_else_}
 use Rattle.model.specs.Figures.{isEmpty, isSame}
 use Rattle.model.specs.Lines.{Effect, fits, lineStep}
 use Rattle.model.specs.World.{World, Outcome, refuse, lineAt}
 use Rattle.model.specs.Limits.{validOf}
 use Rattle.model.specs.Calls.{beginAnswer, Call, callOf}
 use Rattle.model.specs.Listing.{isRefused}
-use Rattle.model.specs.Run.{played, after}
+use Rattle.model.specs.Run.{played}
 use Rattle.theorems.specs.Demand3.{At}
 use Rattle.theorems.specs.Corollaries.{NoneForeign}
 use Rattle.theorems.proofs.Cases.{Lawful, call-cases}

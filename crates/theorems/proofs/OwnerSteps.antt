@@ -7,29 +7,29 @@ use lib.ListN.{length, getD}
 use Rattle.model.specs.declared.Kind.{Kind}
 use Rattle.model.specs.declared.Line.{Line}
 use Rattle.model.specs.declared.Queue.{Queue}
-use Rattle.theorems.proofs.Events.{Ev, quiet, Hist, GoodE, evOf}
-use Rattle.theorems.proofs.Words.{W}
 use Rattle.model.specs.Calls.{step}
 use Rattle.model.specs.Lines.{Effect, off, size}
+use Rattle.model.specs.Figures.{anchor}
+use Rattle.theorems.proofs.Events.{Event, quiet, History, GoodEvent, event-of}
+use Rattle.theorems.proofs.Words.{cell}
 use Rattle.theorems.proofs.Window.{View, NotDone, core-words, core-ev, core-read}
 use Rattle.theorems.proofs.Seen.{frame-same, frame-store}
 use Rattle.theorems.proofs.Invariant.{view, OwnerOk, Inv, Calm, move-calm, thief-holds, tops-refl, grow-same, grow-read}
-use Rattle.model.specs.Figures.{anchor}
 
 -- the owner's line o leaves E
-abbrev pub Kept : Kind → ℕ → (ℕ → Line) → Hist → Line → Effect → Type 0
+abbrev pub Kept : Kind → ℕ → (ℕ → Line) → History → Line → Effect → Type 0
 Kept κ w φ h o E =
-    Inv κ w (E .queue) (E .store) (E .line) φ (evOf (step 0) o (E .answer) ∷ h) × GoodE (evOf (step 0) o (E .answer)) h
+    Inv κ w (E .queue) (E .store) (E .line) φ (event-of (step 0) o (E .answer) ∷ h) × GoodEvent (event-of (step 0) o (E .answer)) h
 
 -- a line that changes only what the owner has read
-pub own-same : (κ : Kind) (w : ℕ) (Q : Queue) (μ : List ℕ) (φ : ℕ → Line) (h : Hist) (o o′ : Line) (e : Ev) → NotDone e → ((k : ℕ) → Calm (suc k) e)
-    → (I : Inv κ w Q μ o φ h) → OwnerOk κ (view Q μ (I .ol) (I .oh)) (Q .anchor .tag) (e ∷ h) o′ → Inv κ w Q μ o′ φ (e ∷ h)
+pub own-same : (κ : Kind) (w : ℕ) (Q : Queue) (μ : List ℕ) (φ : ℕ → Line) (h : History) (o o′ : Line) (e : Event) → NotDone e → ((k : ℕ) → Calm (suc k) e)
+    → (I : Inv κ w Q μ o φ h) → OwnerOk κ (view Q μ (I .own-lo) (I .own-hi)) (Q .anchor .tag) (e ∷ h) o′ → Inv κ w Q μ o′ φ (e ∷ h)
 own-same κ w Q μ φ h o o′ e nd c I k =
     record {
       lo = I .lo;
       hi = I .hi;
-      ol = I .ol;
-      oh = I .oh;
+      own-lo = I .own-lo;
+      own-hi = I .own-hi;
       rep = I .rep;
       tops = I .tops;
       core = core-ev e nd (I .core);
@@ -38,21 +38,21 @@ own-same κ w Q μ φ h o o′ e nd c I k =
       tag = I .tag;
       own = k;
       th = λ i.
-          thief-holds (move-calm e (c i) (frame-same v (I .ol) (I .oh) (omega arith)) (grow-same κ v v refl) (omega arith)) (φ i) (I .th i);
+          thief-holds (move-calm e (c i) (frame-same v (I .own-lo) (I .own-hi) (omega arith)) (grow-same κ v v refl) (omega arith)) (φ i) (I .th i);
     }
   where
     v : View
-    v = view Q μ (I .ol) (I .oh)
+    v = view Q μ (I .own-lo) (I .own-hi)
 
 -- a line that reads the window
-pub own-read : (κ : Kind) (w : ℕ) (Q : Queue) (μ : List ℕ) (φ : ℕ → Line) (h : Hist) (o o′ : Line) (e : Ev) → NotDone e → ((k : ℕ) → Calm (suc k) e)
+pub own-read : (κ : Kind) (w : ℕ) (Q : Queue) (μ : List ℕ) (φ : ℕ → Line) (h : History) (o o′ : Line) (e : Event) → NotDone e → ((k : ℕ) → Calm (suc k) e)
     → (I : Inv κ w Q μ o φ h) → OwnerOk κ (view Q μ (I .lo) (I .hi)) (Q .anchor .tag) (e ∷ h) o′ → Inv κ w Q μ o′ φ (e ∷ h)
 own-read κ w Q μ φ h o o′ e nd c I k =
     record {
       lo = I .lo;
       hi = I .hi;
-      ol = I .lo;
-      oh = I .hi;
+      own-lo = I .lo;
+      own-hi = I .hi;
       rep = I .rep;
       tops = tops-refl κ (I .hi);
       core = core-ev e nd (core-read (I .core));
@@ -62,23 +62,23 @@ own-read κ w Q μ φ h o o′ e nd c I k =
       own = k;
       th = λ i.
           thief-holds
-          (move-calm e (c i) (frame-same (view Q μ (I .ol) (I .oh)) (I .lo) (I .hi) (I .core .low))
-          (grow-read κ (view Q μ (I .ol) (I .oh)) (view Q μ (I .lo) (I .hi)) (I .hi) refl (I .tops)) (I .core .high)) (φ i) (I .th i);
+          (move-calm e (c i) (frame-same (view Q μ (I .own-lo) (I .own-hi)) (I .lo) (I .hi) (I .core .low))
+          (grow-read κ (view Q μ (I .own-lo) (I .own-hi)) (view Q μ (I .lo) (I .hi)) (I .hi) refl (I .tops)) (I .core .high)) (φ i) (I .th i);
     }
 
 -- a line that stores words outside the owner's window
-pub own-store : (κ : Kind) (w : ℕ) (Q : Queue) (μ : List ℕ) (φ : ℕ → Line) (h : Hist) (o o′ : Line) (m : List ℕ) (I : Inv κ w Q μ o φ h)
+pub own-store : (κ : Kind) (w : ℕ) (Q : Queue) (μ : List ℕ) (φ : ℕ → Line) (h : History) (o o′ : Line) (m : List ℕ) (I : Inv κ w Q μ o φ h)
     → length m ≡ length μ
-    → ((i j : ℕ) → I .ol ≤ i → i < I .oh → j < 2 → W m (off Q) (size Q) i j ≡ W μ (off Q) (size Q) i j)
+    → ((i j : ℕ) → I .own-lo ≤ i → i < I .own-hi → j < 2 → cell m (off Q) (size Q) i j ≡ cell μ (off Q) (size Q) i j)
     → ((a : ℕ) → a < off Q → getD m a 0 ≡ getD μ a 0)
-    → OwnerOk κ (view Q m (I .ol) (I .oh)) (Q .anchor .tag) (quiet ∷ h) o′
+    → OwnerOk κ (view Q m (I .own-lo) (I .own-hi)) (Q .anchor .tag) (quiet ∷ h) o′
     → Inv κ w Q m o′ φ (quiet ∷ h)
 own-store κ w Q μ φ h o o′ m I len same low k =
     record {
       lo = I .lo;
       hi = I .hi;
-      ol = I .ol;
-      oh = I .oh;
+      own-lo = I .own-lo;
+      own-hi = I .own-hi;
       rep = I .rep;
       tops = I .tops;
       core = core-ev quiet tt (core-words m (Q .arrays) (Q .published) (off Q) (size Q) (I .core) (I .core .fit) same);
@@ -86,8 +86,8 @@ own-store κ w Q μ φ h o o′ m I len same low k =
       room = omega (arith, I .room);
       tag = I .tag;
       own = k;
-      th = λ i. thief-holds (move-calm quiet tt (frame-store v m same low (I .oh)) (grow-same κ v _ refl) (omega arith)) (φ i) (I .th i);
+      th = λ i. thief-holds (move-calm quiet tt (frame-store v m same low (I .own-hi)) (grow-same κ v _ refl) (omega arith)) (φ i) (I .th i);
     }
   where
     v : View
-    v = view Q μ (I .ol) (I .oh)
+    v = view Q μ (I .own-lo) (I .own-hi)

@@ -1,29 +1,29 @@
 -- One round of take and put while a thief waits at its compare: the states of the tightness list.
-use native.Mathlib.Numerals.{add-one}
 use mathlib.Core.Path.{_≡_, refl, _∙_, ap, subst}
 use mathlib.Core.Bool.{Bool, true, false}
 use mathlib.Core.List.{List, [], _∷_, _++_}
 use Prim.Native.Nat.{ℕ, suc, _+_, _%_, _^_}
+use native.Mathlib.Numerals.{add-one}
 use lib.Dec.{eqb, ltb}
 use lib.ListN.{length, replicate}
-use Rattle.model.specs.Tests.{if_then_else_, unless_then_else_, _and_, _or_}
 use Rattle.model.specs.declared.Kind.the-variants.{Lifo}
 use Rattle.model.specs.declared.Task.{Task}
 use Rattle.model.specs.declared.Line.{Line}
-use Rattle.model.specs.declared.Line.the-variants.{Idle, PutRead, PutFinish, TakeFinish, StealRead, StealCompare}
+use Rattle.model.specs.declared.Line.the-variants.{Idle, PutFinish, TakeFinish, StealRead, StealCompare}
 use Rattle.model.specs.declared.Operation.the-variants.{Put, Take, Steal}
 use Rattle.model.specs.declared.Answer.{Answer}
 use Rattle.model.specs.declared.Answer.the-variants.{Accepted, Numbered, GoesOn, Finished, HandedOut}
+use Rattle.model.specs.declared.Refusal.the-variants.{NoSuchWorker, BusyWorker, IdleWorker, WrongHand, NumbersSpent, LogFull, ForeignState}
+use Rattle.model.specs.Tests.{if_then_else_, unless_then_else_, _and_, _or_}
 use Rattle.model.specs.Lines.{eff, anchored, lineStep}
 use Rattle.model.specs.World.{World, Outcome, refuse, resting, lineAt, isIdle}
-use Rattle.model.specs.declared.Refusal.the-variants.{NoSuchWorker, BusyWorker, IdleWorker, WrongHand, NumbersSpent, LogFull, ForeignState}
 use Rattle.model.specs.Calls.{rightHand, numbersLeft, begun, beginOf, stepped, commit, nextEffect, stepOf, Call, begin, step, callOf}
 use Rattle.model.specs.Answers.{entry, writeEntry, task}
 use Rattle.model.specs.Memory.{wordAt, setWord, nowhere, offsetAt, sizeAt}
-use Rattle.theorems.proofs.Valid.{Whole, valid}
-use Rattle.theorems.proofs.WholeRun.{call-whole}
 use Rattle.model.specs.Run.{Played, played, after}
 use Rattle.model.specs.Figures.{anchor}
+use Rattle.theorems.proofs.Valid.{Whole, valid}
+use Rattle.theorems.proofs.WholeRun.{call-whole}
 
 -- the calls without the test of refusal 12
 abbrev pub rawOf : World → Call → Outcome

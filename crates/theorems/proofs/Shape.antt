@@ -3,18 +3,18 @@ use mathlib.Core.Path.{_≡_}
 use mathlib.Core.List.{List}
 use Prim.Native.Nat.{ℕ, _+_, _^_, _≤_, _<_}
 use native.Mathlib.Omega.{arith}
-use Rattle.model.specs.Tests.{if_then_else_}
 use Rattle.model.specs.declared.Kind.{Kind}
 use Rattle.model.specs.declared.Kind.the-variants.{Lifo, Fifo, Deque}
 use Rattle.model.specs.declared.Line.{Line}
 use Rattle.model.specs.declared.Line.the-variants.{Idle, PutRead, PutTail, PutTest, PutNumber, PutPayload, PutFinish, Claim, Note, Copy, Publish, TakeRead, TakeTail, TakeTest, TakeNumber, TakePayload, TakeFinish, StealRead, StealTail, StealTest, StealNote, StealNumber, StealPayload, StealNext, StealCompare}
 use Rattle.model.specs.declared.Queue.{Queue}
+use Rattle.model.specs.declared.Anchor.{Anchor}
+use Rattle.model.specs.Tests.{if_then_else_}
 use Rattle.model.specs.Memory.{sizeAt}
 use Rattle.model.specs.Lines.{size}
 use Rattle.model.specs.World.{isExpanding}
-use Rattle.theorems.proofs.Directory.{Arrays}
-use Rattle.model.specs.declared.Anchor.{Anchor}
 use Rattle.model.specs.Figures.{anchor}
+use Rattle.theorems.proofs.Directory.{Arrays}
 
 -- FIFO's tail
 abbrev pub tail : Kind → Queue → ℕ

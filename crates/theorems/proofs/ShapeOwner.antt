@@ -2,32 +2,32 @@
 use mathlib.Core.Path.{_≡_, refl, _∙_}
 use mathlib.Core.Bool.{Bool, true, false}
 use mathlib.Core.List.{List}
-use Prim.Native.Nat.{ℕ, _+_, _-_, _*_, _%_, _^_, _≤_, _<_}
+use Prim.Native.Nat.{ℕ, _+_, _-_, _*_, _≤_, _<_}
 use native.Mathlib.Omega.{arith}
 use native.Mathlib.Nat.{mod-lt}
 use lib.Dec.{eqb, leb}
 use lib.Pow.{pow-pos}
 use lib.ListN.{length, length-set}
 use borrow.Author.Tests.{eqb-false, leb-true}
-use Rattle.model.specs.Tests.{if_then_else_}
 use Rattle.model.specs.declared.Kind.{Kind}
 use Rattle.model.specs.declared.Kind.the-variants.{Lifo, Fifo, Deque}
 use Rattle.model.specs.declared.Line.{Line}
 use Rattle.model.specs.declared.Line.the-variants.{Idle, PutRead, PutTail, PutTest, PutNumber, PutPayload, PutFinish, Claim, Note, Copy, Publish, TakeRead, TakeTail, TakeTest, TakeNumber, TakePayload, TakeFinish, StealRead, StealTail, StealTest, StealNote, StealNumber, StealPayload, StealNext, StealCompare}
 use Rattle.model.specs.declared.Queue.{Queue}
+use Rattle.model.specs.declared.Answer.the-variants.{GoesOn, Full, Empty}
+use Rattle.model.specs.declared.Task.{Task}
+use Rattle.model.specs.declared.Anchor.{Anchor}
+use Rattle.model.specs.Tests.{if_then_else_}
 use Rattle.model.specs.Memory.{wordAt, setWord, zeros, offsetAt, sizeAt}
 use Rattle.model.specs.Lines.{Effect, eff, off, size, claiming, publishing, anchored, fits, copied, lineStep}
 use Rattle.model.specs.Figures.{slot, takeIndex, isFull, isEmpty, afterPut, afterTake, noteAll, anchor}
-use Rattle.model.specs.declared.Answer.the-variants.{GoesOn, Full, Empty}
 use Rattle.model.specs.World.{isExpanding}
 use Rattle.model.specs.Limits.{taken}
+use Rattle.model.specs.Answers.{task}
 use Rattle.theorems.proofs.Remainders.{size-pos}
 use Rattle.theorems.proofs.Words.{set-place}
 use Rattle.theorems.proofs.Directory.{both, Arrays, now, number-now, numbers-number, numbers-payload, arrays-store, arrays-claim, arrays-publish, tidy-proper}
 use Rattle.theorems.proofs.Shape.{tail, Bounded, OwnRead, Room, Some, Span, pending, Spent, OwnShape, InArray, Shape, Larger, thief-keep}
-use Rattle.model.specs.declared.Task.{Task}
-use Rattle.model.specs.declared.Anchor.{Anchor}
-use Rattle.model.specs.Answers.{task}
 
 pub larger-refl : (κ : Kind) (q : Queue) → Larger κ q q
 larger-refl κ q = record { sized = omega arith; later = omega arith; more = omega arith; same = λ k h. refl }
@@ -191,7 +191,7 @@ slot-in Deque z i l u = mod-lt i l
 copy-x3 : (κ : Kind) (w used : ℕ) (q : Queue) (m : List ℕ) (φ : ℕ → Line) (t : Task) (h j k : ℕ) (x : Bool) → eqb (k + 1) j ≡ x → Shape κ w used q m (Copy t h j k) φ
     → Shape κ w used q (copied κ q m (h + k)) (if x then Publish t else Copy t h j (k + 1)) φ
 unfolding if_then_else_
-copy-x3 κ w used q m φ t h j k x e S = done x e
+copy-x3 κ w used q m φ t h j k x e S = finished-put x e
   where
     A : Arrays q m
     A = S .arrays
@@ -212,9 +212,9 @@ copy-x3 κ w used q m φ t h j k x e S = done x e
         arrays-store (copied κ q m (h + k)) A (set-length _ _ _ _ _ ∙ set-length m _ _ _ _)
         (numbers-payload _ (taken q) _ _ _ (even .0) (even .1) (numbers-number m (taken q) _ _ _ value (A .numbers)))
 
-    done : (x : Bool) → eqb (k + 1) j ≡ x → Shape κ w used q (copied κ q m (h + k)) (if x then Publish t else Copy t h j (k + 1)) φ
-    done true e = go-on S _ (Publish t) (S .low) A′ refl (spent-put κ _ _ (Copy t h j k) (Publish t) refl (S .spent)) (S .anchor) (S .own .0)
-    done false e =
+    finished-put : (x : Bool) → eqb (k + 1) j ≡ x → Shape κ w used q (copied κ q m (h + k)) (if x then Publish t else Copy t h j (k + 1)) φ
+    finished-put true e = go-on S _ (Publish t) (S .low) A′ refl (spent-put κ _ _ (Copy t h j k) (Publish t) refl (S .spent)) (S .anchor) (S .own .0)
+    finished-put false e =
         go-on S _ (Copy t h j (k + 1)) (S .low) A′ refl (spent-put κ _ _ (Copy t h j k) (Copy t h j (k + 1)) refl (S .spent)) (S .anchor)
         (S .own .0, S .own .1, S .own .2, omega (arith, S .own .3, eqb-false (k + 1) j e))
 

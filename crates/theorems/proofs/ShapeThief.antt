@@ -7,23 +7,23 @@ use Prim.Native.Nat.{ℕ, suc, _+_, _-_, _%_, _≤_, _<_}
 use native.Mathlib.Omega.{arith}
 use native.Mathlib.Nat.{mod-lt}
 use borrow.Author.Tests.{eqb-true, eqb-false}
-use Rattle.model.specs.Tests.{if_then_else_}
 use Rattle.model.specs.declared.Kind.{Kind}
 use Rattle.model.specs.declared.Kind.the-variants.{Lifo, Fifo, Deque}
 use Rattle.model.specs.declared.Line.{Line}
 use Rattle.model.specs.declared.Line.the-variants.{Idle, PutRead, PutTail, PutTest, PutNumber, PutPayload, PutFinish, Claim, Note, Copy, Publish, TakeRead, TakeTail, TakeTest, TakeNumber, TakePayload, TakeFinish, StealRead, StealTail, StealTest, StealNote, StealNumber, StealPayload, StealNext, StealCompare}
 use Rattle.model.specs.declared.Queue.{Queue}
+use Rattle.model.specs.declared.Answer.the-variants.{GoesOn, HandedOut, Empty}
+use Rattle.model.specs.declared.Task.{Task}
+use Rattle.model.specs.declared.Anchor.{Anchor}
+use Rattle.model.specs.Tests.{if_then_else_}
 use Rattle.model.specs.Memory.{wordAt, offsetAt, sizeAt}
 use Rattle.model.specs.Lines.{Effect, eff, size, anchored, lineStep}
 use Rattle.model.specs.Answers.{task}
 use Rattle.model.specs.Figures.{isSame, slot, stealIndex, isEmpty, afterSteal, stealRead, stealLast, anchor}
-use Rattle.model.specs.declared.Answer.the-variants.{GoesOn, HandedOut, Empty}
 use Rattle.theorems.proofs.Remainders.{le-or-lt, size-pos}
 use Rattle.theorems.proofs.Directory.{number, tidy-proper}
 use Rattle.theorems.proofs.Shape.{tail, Bounded, Early, ThiefRead, Some, Slot, After, Double, Spent, OwnShape, ThiefShape, Shape, Larger, thief-keep}
 use Rattle.theorems.proofs.ShapeOwner.{larger-refl, larger-anchor}
-use Rattle.model.specs.declared.Task.{Task}
-use Rattle.model.specs.declared.Anchor.{Anchor}
 
 -- thief k's line leaves E: the lines φ′ are as φ but for k's
 abbrev pub ShapeKeptT : Kind → ℕ → ℕ → Line → (ℕ → Line) → ℕ → Effect → Type 0

@@ -1,8 +1,7 @@
 -- Every call keeps the invariant, where the premise holds.
 use mathlib.Core.Path.{_≡_, refl, sym, _∙_, subst, subst₂}
-use mathlib.Core.Bool.{true}
 use mathlib.Core.List.{List, [], _∷_, List·Memᴰ·head}
-use Prim.Native.Nat.{ℕ, zero, suc, _+_, _*_, _≤_, _<_}
+use Prim.Native.Nat.{ℕ, zero, suc, _*_, _≤_, _<_}
 use native.Mathlib.Omega.{arith}
 use lib.ListN.{length}
 use Rattle.model.specs.declared.Kind.{Kind}
@@ -12,10 +11,10 @@ use Rattle.model.specs.declared.Operation.{Operation}
 use Rattle.model.specs.declared.Operation.the-variants.{Put, Take, Steal}
 use Rattle.model.specs.declared.Refusal.{Refusal}
 use Rattle.model.specs.Lines.{Effect, size}
-use Rattle.model.specs.World.{World, Outcome, refuse, isIdle, lineAt}
-use Rattle.model.specs.Calls.{firstLine, beginAnswer, begun, stepped, nextEffect, Call, begin, step, callOf}
+use Rattle.model.specs.World.{World, Outcome, refuse, lineAt}
+use Rattle.model.specs.Calls.{firstLine, begun, stepped, nextEffect, Call, begin, step, callOf}
 use Rattle.model.specs.Run.{Played, played, after}
-use Rattle.theorems.proofs.Events.{Ev, quiet, began, Hist, Prem, PremE, Good, GoodE, evOf}
+use Rattle.theorems.proofs.Events.{Event, quiet, began-put, History, Premise, PremiseAt, GoodHistory, GoodEvent, event-of}
 use Rattle.theorems.proofs.Invariant.{Inv, own-keep}
 use Rattle.theorems.proofs.OwnerLines.{own-kept}
 use Rattle.theorems.proofs.OwnerSteps.{own-same}
@@ -31,24 +30,24 @@ abbrev pub workerOf : Call → ℕ
 workerOf (begin i op) = i
 workerOf (step i) = i
 
-abbrev pub evAt : Played → Ev
-evAt s = evOf (s .call) (lineAt (s .before .bench .workers) (workerOf (s .call))) (s .answer)
+abbrev pub event-at : Played → Event
+event-at s = event-of (s .call) (lineAt (s .before .bench .workers) (workerOf (s .call))) (s .answer)
 
-abbrev pub events : List Played → List Ev
+abbrev pub events : List Played → List Event
 events [] = []
-events (s ∷ T) = evAt s ∷ events T
+events (s ∷ T) = event-at s ∷ events T
 
-abbrev pub InvOf : World → Hist → Type 0
+abbrev pub InvOf : World → History → Type 0
 InvOf W h = Inv (W .bench .kind) (W .bench .width) (W .bench .queue) (W .store) (lineAt (W .bench .workers) 0) (thieves (W .bench .workers)) h
 
 -- the call c of a worker at the line l keeps the invariant, and answers well
-abbrev Fine : World → Hist → Call → Line → Outcome → Type 0
+abbrev Fine : World → History → Call → Line → Outcome → Type 0
 Fine W h c l D =
-    PremE (W .bench .kind) (W .bench .width) (evOf c l (D .answer)) h
-    → InvOf (D .world) (evOf c l (D .answer) ∷ h) × GoodE (evOf c l (D .answer)) h
+    PremiseAt (W .bench .kind) (W .bench .width) (event-of c l (D .answer)) h
+    → InvOf (D .world) (event-of c l (D .answer) ∷ h) × GoodEvent (event-of c l (D .answer)) h
 
-module _ (W : World) (H : Whole W) (h : Hist) (I : InvOf W h) where
-  abbrev InvLines : Hist → Line → (ℕ → Line) → Type 0
+module _ (W : World) (H : Whole W) (h : History) (I : InvOf W h) where
+  abbrev InvLines : History → Line → (ℕ → Line) → Type 0
   InvLines h o φ = Inv (W .bench .kind) (W .bench .width) (W .bench .queue) (W .store) o φ h
 
   refused-kept : (c : Call) (l : Line) (r : Refusal) → Fine W h c l (refuse W r)
@@ -60,7 +59,7 @@ module _ (W : World) (H : Whole W) (h : Hist) (I : InvOf W h) where
   )
 
   -- the owner begins: its line 1 follows the event e
-  own-begun : (op : Operation) (e : Ev) → MayBegin W 0 op
+  own-begun : (op : Operation) (e : Event) → MayBegin W 0 op
       → (InvLines h Idle (thieves (W .bench .workers)) → InvLines (e ∷ h) (firstLine op (W .bench .used)) (thieves (W .bench .workers)))
       → InvOf (begun W 0 op .world) (e ∷ h)
   own-begun op e B f =
@@ -68,7 +67,7 @@ module _ (W : World) (H : Whole W) (h : Hist) (I : InvOf W h) where
       (f (subst (λ (o : Line). InvLines h o (thieves (W .bench .workers))) (idle-is _ (B .idle)) I))
 
   begun-kept : (i : ℕ) (op : Operation) (l : Line) → MayBegin W i op → Fine W h (begin i op) l (begun W i op)
-  begun-kept zero (Put p) l B f = (own-begun (Put p) _ B (λ J. own-same _ _ _ _ _ h Idle (PutRead _) (began _) tt (λ k. tt) J (List·Memᴰ·head refl)), tt)
+  begun-kept zero (Put p) l B f = (own-begun (Put p) _ B (λ J. own-same _ _ _ _ _ h Idle (PutRead _) (began-put _) tt (λ k. tt) J (List·Memᴰ·head refl)), tt)
   begun-kept (suc k) (Put p) l B f = not-thief k (B .hand)
   begun-kept zero Take l B f = (own-begun Take _ B (λ J. own-same _ _ _ _ _ h Idle TakeRead quiet tt (λ k. tt) J tt), tt)
   begun-kept (suc k) Take l B f = not-thief k (B .hand)
@@ -82,16 +81,16 @@ module _ (W : World) (H : Whole W) (h : Hist) (I : InvOf W h) where
   space : 2 * size (W .bench .queue) ≤ 1024 → W .bench .queue .published < length (W .bench .queue .arrays)
   space l = omega (arith, roomy (H .shape .arrays) l, H .shape .arrays .slots)
 
-  abbrev InvAfter : Effect → Hist → Line → (ℕ → Line) → Type 0
+  abbrev InvAfter : Effect → History → Line → (ℕ → Line) → Type 0
   InvAfter E h o φ = Inv (W .bench .kind) (W .bench .width) (E .queue) (E .store) o φ h
 
   stepped-kept : (i : ℕ) → MayStep W i → Fine W h (step i) (lineAt (W .bench .workers) i) (stepped W i (nextEffect W i))
   stepped-kept zero M f =
       let K = own-kept (W .bench .kind) (W .bench .width) (W .bench .queue) (W .store) (thieves (W .bench .workers)) h (lineAt (W .bench .workers) 0) (H .shape .arrays .some) space I in
-      (own-back (InvAfter (nextEffect W 0) (evOf (step 0) (lineAt (W .bench .workers) 0) (nextEffect W 0 .answer) ∷ h)) (W .bench .workers) (nextEffect W 0 .line) (in-crew H 0 (M .member)) (K .0), K .1)
+      (own-back (InvAfter (nextEffect W 0) (event-of (step 0) (lineAt (W .bench .workers) 0) (nextEffect W 0 .answer) ∷ h)) (W .bench .workers) (nextEffect W 0 .line) (in-crew H 0 (M .member)) (K .0), K .1)
   stepped-kept (suc k) M f =
       let K = thief-kept (W .bench .kind) (W .bench .width) (W .bench .queue) (W .store) (lineAt (W .bench .workers) 0) (thieves (W .bench .workers)) h k (thieves (W .bench .workers) k) I (I .th k) (H .shape .arrays .some) f in
-      (thief-back (InvAfter (nextEffect W (suc k)) (evOf (step (suc k)) (lineAt (W .bench .workers) (suc k)) (nextEffect W (suc k) .answer) ∷ h)) (W .bench .workers) k (nextEffect W (suc k) .line) (in-crew H (suc k) (M .member)) (K .0), K .1)
+      (thief-back (InvAfter (nextEffect W (suc k)) (event-of (step (suc k)) (lineAt (W .bench .workers) (suc k)) (nextEffect W (suc k) .answer) ∷ h)) (W .bench .workers) k (nextEffect W (suc k) .line) (in-crew H (suc k) (M .member)) (K .0), K .1)
 
   pub call-kept : (c : Call) → Fine W h c (lineAt (W .bench .workers) (workerOf c)) (callOf W c)
   call-kept (begin i op) =
@@ -108,19 +107,19 @@ call-like : (W : World) (c : Call) → Like W (callOf W c)
 call-like W c = call-cases (Like W) W (λ r l. (refl, refl)) (λ i op B. (refl, refl)) (λ i M. (refl, refl)) c
 
 -- the whole list
-prem-tail : (κ : Kind) (w : ℕ) (T : List Ev) (h : Hist) → Prem κ w (rev T h) → Prem κ w h
+prem-tail : (κ : Kind) (w : ℕ) (T : List Event) (h : History) → Premise κ w (rev T h) → Premise κ w h
 unfolding rev
 prem-tail κ w [] h f = f
 prem-tail κ w (e ∷ T) h f = prem-tail κ w T (e ∷ h) f .1
 
-pub run-kept : (κ : Kind) (w : ℕ) (cs : List Call) (W : World) (h : Hist) → W .bench .kind ≡ κ → W .bench .width ≡ w → Whole W → InvOf W h → Good h
-    → Prem κ w (rev (events (played W cs)) h) → InvOf (after W cs) (rev (events (played W cs)) h) × Good (rev (events (played W cs)) h)
+pub run-kept : (κ : Kind) (w : ℕ) (cs : List Call) (W : World) (h : History) → W .bench .kind ≡ κ → W .bench .width ≡ w → Whole W → InvOf W h → GoodHistory h
+    → Premise κ w (rev (events (played W cs)) h) → InvOf (after W cs) (rev (events (played W cs)) h) × GoodHistory (rev (events (played W cs)) h)
 unfolding rev played after
 run-kept κ w [] W h ek ew H I G f = (I, G)
 run-kept κ w (c ∷ cs) W h ek ew H I G f =
     let D = callOf W c in
-    let e = evOf c (lineAt (W .bench .workers) (workerOf c)) (D .answer) in
+    let e = event-of c (lineAt (W .bench .workers) (workerOf c)) (D .answer) in
     let p = prem-tail κ w (events (played (D .world) cs)) (e ∷ h) f in
-    let k = call-kept W H h I c (subst₂ (λ (y : Kind) (x : ℕ). PremE y x e h) (sym ek) (sym ew) (p .0)) in
+    let k = call-kept W H h I c (subst₂ (λ (y : Kind) (x : ℕ). PremiseAt y x e h) (sym ek) (sym ew) (p .0)) in
     let l = call-like W c in
     run-kept κ w cs (D .world) (e ∷ h) (l .0 ∙ ek) (l .1 ∙ ew) (call-whole H c) (k .0) (k .1, G) f

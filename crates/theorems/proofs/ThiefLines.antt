@@ -8,37 +8,37 @@ use native.Mathlib.Omega.{arith}
 use native.Mathlib.Nat.{mod-eq-of-lt, add-zero, mod-add-mod}
 use lib.Dec.{eqb}
 use borrow.Author.Tests.{eqb-true}
-use Rattle.model.specs.Tests.{if_then_else_, _and_}
 use Rattle.model.specs.declared.Kind.{Kind}
 use Rattle.model.specs.declared.Kind.the-variants.{Lifo, Fifo, Deque}
 use Rattle.model.specs.declared.Line.{Line}
 use Rattle.model.specs.declared.Line.the-variants.{Idle, PutRead, PutTail, PutTest, PutNumber, PutPayload, PutFinish, Claim, Note, Copy, Publish, TakeRead, TakeTail, TakeTest, TakeNumber, TakePayload, TakeFinish, StealRead, StealTail, StealTest, StealNote, StealNumber, StealPayload, StealNext, StealCompare}
 use Rattle.model.specs.declared.Queue.{Queue}
-use Rattle.theorems.proofs.Events.{Ev, quiet, read1, given, missed, empty, Hist, Out, since, PremE, GoodE, evOf}
-use Rattle.theorems.proofs.Words.{W, word-W}
-use Rattle.model.specs.Memory.{wordAt, offsetAt, sizeAt}
-use Rattle.theorems.specs.Demand3.{Few}
-use Rattle.model.specs.Calls.{step}
 use Rattle.model.specs.declared.Answer.the-variants.{GoesOn, HandedOut, Empty}
-use Rattle.model.specs.Lines.{Effect, eff, off, size, anchored, lineStep}
+use Rattle.model.specs.declared.Task.{Task}
+use Rattle.model.specs.declared.Anchor.{Anchor}
+use Rattle.model.specs.Tests.{if_then_else_, _and_}
+use Rattle.model.specs.Memory.{wordAt, offsetAt, sizeAt}
+use Rattle.model.specs.Calls.{step}
+use Rattle.model.specs.Lines.{Effect, eff, size, anchored, lineStep}
 use Rattle.model.specs.Answers.{task}
 use Rattle.model.specs.Figures.{isSame, stealLast, slot, stealIndex, isEmpty, afterSteal, stealRead, anchor}
+use Rattle.theorems.specs.Demand3.{Few}
+use Rattle.theorems.proofs.Events.{Event, quiet, line-1, handed-out, failed-compare, found-empty, History, Out, puts-since, PremiseAt, GoodEvent, event-of}
+use Rattle.theorems.proofs.Words.{word-W}
 use Rattle.theorems.proofs.Remainders.{le-or-lt, tag-zero, size-pos, size-le, same-head}
 use Rattle.theorems.proofs.Directory.{both}
 use Rattle.theorems.proofs.Window.{taskAt, both-words, View, NotDone, core-window, core-ev}
 use Rattle.theorems.proofs.Seen.{frame-same}
-use Rattle.theorems.proofs.Indices.{Rep, Small, steal-ix, empty-yes, empty-no}
+use Rattle.theorems.proofs.Indices.{StandsFor, Small, steal-ix, empty-yes, empty-no}
 use Rattle.theorems.proofs.Invariant.{view, Tops, Hold, Reads, GotV, Next, ThiefOk, Inv, Calm, move-calm, thief-holds, own-keep, emp-now, since-now, emp-calm, grow-same}
-use Rattle.model.specs.declared.Task.{Task}
-use Rattle.model.specs.declared.Anchor.{Anchor}
 
 -- thief k's line θ leaves E: the lines φ′ are as φ but for k's
-abbrev pub ThiefKept : Kind → ℕ → Line → (ℕ → Line) → Hist → ℕ → Line → Effect → Type 0
+abbrev pub ThiefKept : Kind → ℕ → Line → (ℕ → Line) → History → ℕ → Line → Effect → Type 0
 ThiefKept κ w o φ h k θ E =
-    ((φ′ : ℕ → Line) → φ′ k ≡ E .line → ((i : ℕ) → i ≢ k → φ′ i ≡ φ i) → Inv κ w (E .queue) (E .store) o φ′ (evOf (step (suc k)) θ (E .answer) ∷ h))
-    × GoodE (evOf (step (suc k)) θ (E .answer)) h
+    ((φ′ : ℕ → Line) → φ′ k ≡ E .line → ((i : ℕ) → i ≢ k → φ′ i ≡ φ i) → Inv κ w (E .queue) (E .store) o φ′ (event-of (step (suc k)) θ (E .answer) ∷ h))
+    × GoodEvent (event-of (step (suc k)) θ (E .answer)) h
 
-others : (κ : Kind) (w : ℕ) (v : View) (g : ℕ) (h : Hist) (φ φ′ : ℕ → Line) (k : ℕ) (θ : Line) (e : Ev)
+others : (κ : Kind) (w : ℕ) (v : View) (g : ℕ) (h : History) (φ φ′ : ℕ → Line) (k : ℕ) (θ : Line) (e : Event)
     → ((i : ℕ) → i ≢ k → Calm (suc i) e) → φ′ k ≡ θ → ((i : ℕ) → i ≢ k → φ′ i ≡ φ i)
     → ((i : ℕ) → ThiefOk κ w v g h (suc i) (φ i))
     → ThiefOk κ w v g (e ∷ h) (suc k) θ
@@ -48,7 +48,7 @@ others κ w v g h φ φ′ k θ e c is rest old new i = go (le-or-lt i k) (le-or
     other : i ≢ k → ThiefOk κ w v g (e ∷ h) (suc i) (φ′ i)
     other ne =
         rw (rest i ne)
-        (thief-holds (move-calm e (c i ne) (frame-same v (v .ol) (v .oh) (omega arith)) (grow-same κ v v refl) (omega arith)) (φ i) (old i))
+        (thief-holds (move-calm e (c i ne) (frame-same v (v .own-lo) (v .own-hi) (omega arith)) (grow-same κ v v refl) (omega arith)) (φ i) (old i))
 
     go : (i ≤ k) ⊎ (k < i) → (k ≤ i) ⊎ (i < k) → ThiefOk κ w v g (e ∷ h) (suc i) (φ′ i)
     go (inr b) q = other (omega arith)
@@ -59,16 +59,16 @@ others κ w v g h φ φ′ k θ e c is rest old new i = go (le-or-lt i k) (le-or
         is-k = omega arith
 
 -- a line that changes only what thief k has read
-pub thief-same : (κ : Kind) (w : ℕ) (Q : Queue) (μ : List ℕ) (o : Line) (φ : ℕ → Line) (h : Hist) (k : ℕ) (θ : Line) (e : Ev)
+pub thief-same : (κ : Kind) (w : ℕ) (Q : Queue) (μ : List ℕ) (o : Line) (φ : ℕ → Line) (h : History) (k : ℕ) (θ : Line) (e : Event)
     → NotDone e → Calm 0 e → ((i : ℕ) → i ≢ k → Calm (suc i) e)
-    → (I : Inv κ w Q μ o φ h) → ThiefOk κ w (view Q μ (I .ol) (I .oh)) (Q .anchor .tag) (e ∷ h) (suc k) θ
+    → (I : Inv κ w Q μ o φ h) → ThiefOk κ w (view Q μ (I .own-lo) (I .own-hi)) (Q .anchor .tag) (e ∷ h) (suc k) θ
     → (φ′ : ℕ → Line) → φ′ k ≡ θ → ((i : ℕ) → i ≢ k → φ′ i ≡ φ i) → Inv κ w Q μ o φ′ (e ∷ h)
 thief-same κ w Q μ o φ h k θ e nd c0 c I new φ′ is rest =
     record {
       lo = I .lo;
       hi = I .hi;
-      ol = I .ol;
-      oh = I .oh;
+      own-lo = I .own-lo;
+      own-hi = I .own-hi;
       rep = I .rep;
       tops = I .tops;
       core = core-ev e nd (I .core);
@@ -80,38 +80,38 @@ thief-same κ w Q μ o φ h k θ e nd c0 c I new φ′ is rest =
     }
 
 -- a steal: the window comes to be [A, C), and t is the task of the index that leaves
-steal-end : (κ : Kind) (w : ℕ) (Q : Queue) (μ : List ℕ) (o : Line) (φ : ℕ → Line) (h : Hist) (k : ℕ) (r : Anchor) (e : ℕ) (t : Task) (r′ : Anchor) (A C n : ℕ) (I : Inv κ w Q μ o φ h)
+steal-end : (κ : Kind) (w : ℕ) (Q : Queue) (μ : List ℕ) (o : Line) (φ : ℕ → Line) (h : History) (k : ℕ) (r : Anchor) (e : ℕ) (t : Task) (r′ : Anchor) (A C n : ℕ) (I : Inv κ w Q μ o φ h)
     → I .lo ≤ A → A ≤ C → C ≤ I .hi → I .lo ≤ n → n < I .hi
     → ((i : ℕ) → I .lo ≤ i → i < I .hi → (i < A) ⊎ (C ≤ i) → i ≡ n)
-    → Rep κ r′ A C → r′ .tag ≡ Q .anchor .tag → Tops κ C (I .oh) → t ≡ taskAt (view Q μ (I .ol) (I .oh)) n
+    → StandsFor κ r′ A C → r′ .tag ≡ Q .anchor .tag → Tops κ C (I .own-hi) → t ≡ taskAt (view Q μ (I .own-lo) (I .own-hi)) n
     → ThiefKept κ w o φ h k (StealCompare r e t) (eff (anchored Q r′) μ Idle (HandedOut (suc k) t))
 steal-end κ w Q μ o φ h k r e t r′ A C n I l m u ln un only R eg tops is-t = (
   λ φ′ is rest. record {
     lo = A;
     hi = C;
-    ol = I .ol;
-    oh = I .oh;
+    own-lo = I .own-lo;
+    own-hi = I .own-hi;
     rep = R;
     tops = tops;
     core =
-        core-window (given (suc k) t) (I .ol) (I .oh) A C tt (I .core) (omega arith) (omega (arith, I .core .low)) m
+        core-window (handed-out (suc k) t) (I .own-lo) (I .own-hi) A C tt (I .core) (omega arith) (omega (arith, I .core .low)) m
         (omega (arith, I .core .high)) (omega arith) leave;
     sized = I .sized;
     room = I .room;
     tag = rw eg (I .tag);
-    own = rw eg (own-keep κ _ (Q .anchor .tag) h (given (suc k) t) tt o (I .own));
-    th = rw eg (others κ w _ (Q .anchor .tag) h φ φ′ k Idle (given (suc k) t) (λ i q. tt) is rest (I .th) tt);
+    own = rw eg (own-keep κ _ (Q .anchor .tag) h (handed-out (suc k) t) tt o (I .own));
+    th = rw eg (others κ w _ (Q .anchor .tag) h φ φ′ k Idle (handed-out (suc k) t) (λ i q. tt) is rest (I .th) tt);
   },
   rw is-t (I .core .whole n (omega (arith, I .core .low)) (omega (arith, I .core .high))),
 )
   where
     leave : (i : ℕ) → I .lo ≤ i → i < I .hi → (i < A) ⊎ (C ≤ i)
-        → Out (taskAt (view Q μ (I .ol) (I .oh)) i) (given (suc k) t ∷ h)
-    leave i p q z = (suc k, List·Memᴰ·head {x = given (suc k) t} (rw (only i p q z, is-t)))
+        → Out (taskAt (view Q μ (I .own-lo) (I .own-hi)) i) (handed-out (suc k) t ∷ h)
+    leave i p q z = (suc k, List·Memᴰ·head {x = handed-out (suc k) t} (rw (only i p q z, is-t)))
 
 -- the compare finds the anchor that was read
-steal-wins : (κ : Kind) (w : ℕ) (Q : Queue) (μ : List ℕ) (o : Line) (φ : ℕ → Line) (h : Hist) (k : ℕ) (r : Anchor) (e : ℕ) (t : Task) → isSame κ (Q .anchor) r ≡ true → (List·Memᴰ (read1 (suc k)) h → Few κ w (since (suc k) h))
-    → (I : Inv κ w Q μ o φ h) → ThiefOk κ w (view Q μ (I .ol) (I .oh)) (Q .anchor .tag) h (suc k) (StealCompare r e t)
+steal-wins : (κ : Kind) (w : ℕ) (Q : Queue) (μ : List ℕ) (o : Line) (φ : ℕ → Line) (h : History) (k : ℕ) (r : Anchor) (e : ℕ) (t : Task) → isSame κ (Q .anchor) r ≡ true → (List·Memᴰ (line-1 (suc k)) h → Few κ w (puts-since (suc k) h))
+    → (I : Inv κ w Q μ o φ h) → ThiefOk κ w (view Q μ (I .own-lo) (I .own-hi)) (Q .anchor .tag) h (suc k) (StealCompare r e t)
     → ThiefKept κ w o φ h k (StealCompare r e t) (eff (anchored Q (afterSteal κ (Q .anchor) r e)) μ Idle (HandedOut (suc k) t))
 steal-wins Lifo w Q μ o φ h k r e t q f I (R, l, G0, G1, N) =
     steal-end Lifo w Q μ o φ h k r e t _ (I .lo) (I .hi - 1) (R .hi - 1) I (omega (arith, hi-is, lo-is)) (omega (arith, hi-is, lo-is)) (omega (arith, hi-is, lo-is)) (omega (arith, hi-is, lo-is)) (omega (arith, hi-is, lo-is))
@@ -124,8 +124,8 @@ steal-wins Lifo w Q μ o φ h k r e t q f I (R, l, G0, G1, N) =
     tag : Q .anchor .tag ≡ r .tag
     tag = eqb-true (Q .anchor .tag) (r .tag) (tests .1)
 
-    none : since (suc k) h ≡ 0
-    none = tag-zero (r .tag) (since (suc k) h) (2 ^ w) (R .tag .0) (omega (arith, f (R .begun))) (sym tag ∙ R .tag .1)
+    none : puts-since (suc k) h ≡ 0
+    none = tag-zero (r .tag) (puts-since (suc k) h) (2 ^ w) (R .tag .0) (omega (arith, f (R .begun))) (sym tag ∙ R .tag .1)
 
     hi-is : I .hi ≡ R .hi
     hi-is = I .rep .2 ∙ eqb-true (Q .anchor .count) (r .count) (tests .0) ∙ sym (R .rep .2)
@@ -133,7 +133,7 @@ steal-wins Lifo w Q μ o φ h k r e t q f I (R, l, G0, G1, N) =
     lo-is : I .lo ≡ R .lo
     lo-is = I .rep .1 ∙ sym (R .rep .1)
 
-    top : R .hi - 1 < I .oh
+    top : R .hi - 1 < I .own-hi
     top = omega (arith, hi-is, I .core .high)
 
     only : (i : ℕ) → I .lo ≤ i → i < I .hi → (i < I .lo) ⊎ (I .hi - 1 ≤ i) → i ≡ R .hi - 1
@@ -147,7 +147,7 @@ steal-wins Fifo w Q μ o φ h k r e t q f I (R, l, G0, G1, N) =
     lo-is : I .lo ≡ R .lo
     lo-is = I .rep .0 ∙ eqb-true (Q .anchor .head) (r .head) q ∙ sym (R .rep .0)
 
-    top : R .lo < I .oh
+    top : R .lo < I .own-hi
     top = omega (arith, R .hold)
 
     in-window : R .lo < I .hi
@@ -170,8 +170,8 @@ steal-wins Deque w Q μ o φ h k r e t q f I (R, l, G0, G1, N) =
     tag : Q .anchor .tag ≡ r .tag
     tag = eqb-true (Q .anchor .tag) (r .tag) (tests′ .1)
 
-    none : since (suc k) h ≡ 0
-    none = tag-zero (r .tag) (since (suc k) h) (2 ^ w) (R .tag .0) (omega (arith, f (R .begun))) (sym tag ∙ R .tag .1)
+    none : puts-since (suc k) h ≡ 0
+    none = tag-zero (r .tag) (puts-since (suc k) h) (2 ^ w) (R .tag .0) (omega (arith, f (R .begun))) (sym tag ∙ R .tag .1)
 
     count : Q .anchor .count ≡ r .count
     count = eqb-true (Q .anchor .count) (r .count) (tests′ .0)
@@ -187,7 +187,7 @@ steal-wins Deque w Q μ o φ h k r e t q f I (R, l, G0, G1, N) =
     hi-is : I .hi ≡ R .hi
     hi-is = omega (arith, lo-is, count, I .rep .1, R .rep .1)
 
-    top : R .lo < I .oh
+    top : R .lo < I .own-hi
     top = omega (arith, hi-is, I .core .high)
 
     head : e ≡ (I .lo + 1) % 2048
@@ -197,25 +197,25 @@ steal-wins Deque w Q μ o φ h k r e t q f I (R, l, G0, G1, N) =
     only i a b (inl z) = omega (arith, lo-is)
     only i a b (inr z) = omega (arith, lo-is)
 
-steal-compare : (κ : Kind) (w : ℕ) (Q : Queue) (μ : List ℕ) (o : Line) (φ : ℕ → Line) (h : Hist) (k : ℕ) (r : Anchor) (e : ℕ) (t : Task) (z : Bool) → isSame κ (Q .anchor) r ≡ z
-    → (I : Inv κ w Q μ o φ h) → ThiefOk κ w (view Q μ (I .ol) (I .oh)) (Q .anchor .tag) h (suc k) (StealCompare r e t)
+steal-compare : (κ : Kind) (w : ℕ) (Q : Queue) (μ : List ℕ) (o : Line) (φ : ℕ → Line) (h : History) (k : ℕ) (r : Anchor) (e : ℕ) (t : Task) (z : Bool) → isSame κ (Q .anchor) r ≡ z
+    → (I : Inv κ w Q μ o φ h) → ThiefOk κ w (view Q μ (I .own-lo) (I .own-hi)) (Q .anchor .tag) h (suc k) (StealCompare r e t)
     → let R : Effect = (if z then eff (anchored Q (afterSteal κ (Q .anchor) r e)) μ Idle (HandedOut (suc k) t) else eff Q μ StealRead GoesOn) in
-    PremE κ w (evOf (step (suc k)) (StealCompare r e t) (R .answer)) h → ThiefKept κ w o φ h k (StealCompare r e t) R
+    PremiseAt κ w (event-of (step (suc k)) (StealCompare r e t) (R .answer)) h → ThiefKept κ w o φ h k (StealCompare r e t) R
 unfolding if_then_else_
 steal-compare κ w Q μ o φ h k r e t true q I ok f = steal-wins κ w Q μ o φ h k r e t q f I ok
-steal-compare κ w Q μ o φ h k r e t false q I ok f = (thief-same κ w Q μ o φ h k StealRead (missed (suc k)) tt tt (λ i q. tt) I tt, tt)
+steal-compare κ w Q μ o φ h k r e t false q I ok f = (thief-same κ w Q μ o φ h k StealRead (failed-compare (suc k)) tt tt (λ i q. tt) I tt, tt)
 
 -- what a thief has read, after a step that goes on
-soon : (κ : Kind) (w : ℕ) (v : View) (g : ℕ) (h : Hist) (k : ℕ) (θ : Line) → ThiefOk κ w v g h k θ → ThiefOk κ w v g (quiet ∷ h) k θ
-soon κ w v g h k θ o = thief-holds (move-calm quiet tt (frame-same v (v .ol) (v .oh) (omega arith)) (grow-same κ v v refl) (omega arith)) θ o
+soon : (κ : Kind) (w : ℕ) (v : View) (g : ℕ) (h : History) (k : ℕ) (θ : Line) → ThiefOk κ w v g h k θ → ThiefOk κ w v g (quiet ∷ h) k θ
+soon κ w v g h k θ o = thief-holds (move-calm quiet tt (frame-same v (v .own-lo) (v .own-hi) (omega arith)) (grow-same κ v v refl) (omega arith)) θ o
 
 -- the test for EMPTY
-steal-test : (κ : Kind) (w : ℕ) (Q : Queue) (μ : List ℕ) (o : Line) (φ : ℕ → Line) (h : Hist) (k : ℕ) (r : Anchor) (x : Bool) → isEmpty κ r ≡ x
-    → (I : Inv κ w Q μ o φ h) → ThiefOk κ w (view Q μ (I .ol) (I .oh)) (Q .anchor .tag) h (suc k) (StealTest r)
+steal-test : (κ : Kind) (w : ℕ) (Q : Queue) (μ : List ℕ) (o : Line) (φ : ℕ → Line) (h : History) (k : ℕ) (r : Anchor) (x : Bool) → isEmpty κ r ≡ x
+    → (I : Inv κ w Q μ o φ h) → ThiefOk κ w (view Q μ (I .own-lo) (I .own-hi)) (Q .anchor .tag) h (suc k) (StealTest r)
     → ThiefKept κ w o φ h k (StealTest r) (if x then eff Q μ Idle (Empty (suc k)) else eff Q μ (StealNote r) GoesOn)
 unfolding if_then_else_
 steal-test κ w Q μ o φ h k r true e I (R, E) =
-    (thief-same κ w Q μ o φ h k Idle (empty (suc k)) tt tt (λ i q. tt) I tt, (R .begun, E (empty-yes κ r (R .lo) (R .hi) (R .rep) e)))
+    (thief-same κ w Q μ o φ h k Idle (found-empty (suc k)) tt tt (λ i q. tt) I tt, (R .begun, E (empty-yes κ r (R .lo) (R .hi) (R .rep) e)))
 steal-test κ w Q μ o φ h k r false e I (R, E) = (
   thief-same κ w Q μ o φ h k (StealNote r) quiet tt tt (λ i q. tt) I
       (soon κ w _ (Q .anchor .tag) h (suc k) (StealNote r) (R, empty-no κ r (R .lo) (R .hi) (R .rep) (R .le) e)),
@@ -223,11 +223,11 @@ steal-test κ w Q μ o φ h k r false e I (R, E) = (
 )
 
 -- line 1
-tag-now : (w : ℕ) (Q : Queue) (h : Hist) (k : ℕ) → Q .anchor .tag < 2 ^ w → Q .anchor .tag ≡ (Q .anchor .tag + since (suc k) (read1 (suc k) ∷ h)) % 2 ^ w
+tag-now : (w : ℕ) (Q : Queue) (h : History) (k : ℕ) → Q .anchor .tag < 2 ^ w → Q .anchor .tag ≡ (Q .anchor .tag + puts-since (suc k) (line-1 (suc k) ∷ h)) % 2 ^ w
 tag-now w Q h k l = rw (since-now (suc k) h, add-zero, mod-eq-of-lt l)
 
-steal-read : (κ : Kind) (w : ℕ) (Q : Queue) (μ : List ℕ) (o : Line) (φ : ℕ → Line) (h : Hist) (k : ℕ) (I : Inv κ w Q μ o φ h)
-    → ThiefOk κ w (view Q μ (I .ol) (I .oh)) (Q .anchor .tag) (read1 (suc k) ∷ h) (suc k) (stealRead κ (Q .anchor))
+steal-read : (κ : Kind) (w : ℕ) (Q : Queue) (μ : List ℕ) (o : Line) (φ : ℕ → Line) (h : History) (k : ℕ) (I : Inv κ w Q μ o φ h)
+    → ThiefOk κ w (view Q μ (I .own-lo) (I .own-hi)) (Q .anchor .tag) (line-1 (suc k) ∷ h) (suc k) (stealRead κ (Q .anchor))
 steal-read Lifo w Q μ o φ h k I =
     (record { lo = I .lo; hi = I .hi; rep = I .rep; le = I .core .mid; begun = List·Memᴰ·head refl; tag = (I .tag, tag-now w Q h k (I .tag)); hold = omega (arith, I .core .high, I .core .fit, I .core .low, I .rep .1) }, emp-now (suc k) (I .core))
 steal-read Fifo w Q μ o φ h k I =
@@ -246,9 +246,9 @@ steal-read Deque w Q μ o φ h k I = (
 )
 
 -- FIFO's line 2
-steal-tail : (κ : Kind) (w : ℕ) (Q : Queue) (μ : List ℕ) (o : Line) (φ : ℕ → Line) (h : Hist) (k a : ℕ) (I : Inv κ w Q μ o φ h)
-    → ThiefOk κ w (view Q μ (I .ol) (I .oh)) (Q .anchor .tag) h (suc k) (StealTail a)
-    → ThiefOk κ w (view Q μ (I .ol) (I .oh)) (Q .anchor .tag) (quiet ∷ h) (suc k) (StealTest (anchor a (Q .anchor .count) (Q .anchor .tag)))
+steal-tail : (κ : Kind) (w : ℕ) (Q : Queue) (μ : List ℕ) (o : Line) (φ : ℕ → Line) (h : History) (k a : ℕ) (I : Inv κ w Q μ o φ h)
+    → ThiefOk κ w (view Q μ (I .own-lo) (I .own-hi)) (Q .anchor .tag) h (suc k) (StealTail a)
+    → ThiefOk κ w (view Q μ (I .own-lo) (I .own-hi)) (Q .anchor .tag) (quiet ∷ h) (suc k) (StealTest (anchor a (Q .anchor .count) (Q .anchor .tag)))
 steal-tail Lifo w Q μ o φ h k a I ok = absurd (ok .0)
 steal-tail Fifo w Q μ o φ h k a I (f, e, p, q, E, b) = (
   record { lo = a; hi = Q .anchor .count; rep = (refl, refl); le = up; begun = List·Memᴰ·tail b; tag = tt; hold = omega (arith, I .rep .1, I .tops) },
@@ -259,13 +259,13 @@ steal-tail Fifo w Q μ o φ h k a I (f, e, p, q, E, b) = (
     up = omega (arith, I .rep .1, I .tops)
 steal-tail Deque w Q μ o φ h k a I ok = absurd (ok .0)
 
-small-now : (κ : Kind) (Q : Queue) (lo hi : ℕ) (v : View) (d : ℕ) → Hold κ v d lo hi → v .z ≡ size Q → Small κ (size Q) hi
+small-now : (κ : Kind) (Q : Queue) (lo hi : ℕ) (v : View) (d : ℕ) → Hold κ v d lo hi → v .slots ≡ size Q → Small κ (size Q) hi
 small-now Lifo Q lo hi v d H e = omega arith
 small-now Fifo Q lo hi v d H e = tt
 small-now Deque Q lo hi v d H e = tt
 
 -- both words are read
-steal-words : (κ : Kind) (w : ℕ) (v : View) (gc : ℕ) (h : Hist) (k : ℕ) (r : Anchor) (t : Task) (R : Reads κ w v gc h k r) → R .lo < R .hi
+steal-words : (κ : Kind) (w : ℕ) (v : View) (gc : ℕ) (h : History) (k : ℕ) (r : Anchor) (t : Task) (R : Reads κ w v gc h k r) → R .lo < R .hi
     → GotV κ w v gc h k r R 0 (t .number) → GotV κ w v gc h k r R 1 (t .payload) → ThiefOk κ w v gc h k (stealLast κ r t)
 steal-words Lifo w v gc h k r t R l G G′ = (R, l, G, G′, tt)
 steal-words Fifo w v gc h k r t R l G G′ = (R, l, G, G′, tt)
@@ -277,17 +277,17 @@ steal-next Lifo a = tt
 steal-next Fifo a = tt
 steal-next Deque a = refl
 
-pub thief-kept : (κ : Kind) (w : ℕ) (Q : Queue) (μ : List ℕ) (o : Line) (φ : ℕ → Line) (h : Hist) (k : ℕ) (θ : Line) (I : Inv κ w Q μ o φ h) → ThiefOk κ w (view Q μ (I .ol) (I .oh)) (Q .anchor .tag) h (suc k) θ → 0 < Q .published
-    → PremE κ w (evOf (step (suc k)) θ (lineStep κ w Q μ (suc k) θ .answer)) h → ThiefKept κ w o φ h k θ (lineStep κ w Q μ (suc k) θ)
+pub thief-kept : (κ : Kind) (w : ℕ) (Q : Queue) (μ : List ℕ) (o : Line) (φ : ℕ → Line) (h : History) (k : ℕ) (θ : Line) (I : Inv κ w Q μ o φ h) → ThiefOk κ w (view Q μ (I .own-lo) (I .own-hi)) (Q .anchor .tag) h (suc k) θ → 0 < Q .published
+    → PremiseAt κ w (event-of (step (suc k)) θ (lineStep κ w Q μ (suc k) θ .answer)) h → ThiefKept κ w o φ h k θ (lineStep κ w Q μ (suc k) θ)
 unfolding lineStep
 thief-kept κ w Q μ o φ h k Idle I ok pos f = (thief-same κ w Q μ o φ h k Idle quiet tt tt (λ i q. tt) I tt, tt)
 thief-kept κ w Q μ o φ h k StealRead I ok pos f =
-    (thief-same κ w Q μ o φ h k (stealRead κ (Q .anchor)) (read1 (suc k)) tt (omega arith) (λ i ne. omega arith) I (steal-read κ w Q μ o φ h k I), tt)
+    (thief-same κ w Q μ o φ h k (stealRead κ (Q .anchor)) (line-1 (suc k)) tt (omega arith) (λ i ne. omega arith) I (steal-read κ w Q μ o φ h k I), tt)
 thief-kept κ w Q μ o φ h k (StealTail a) I ok pos f = (thief-same κ w Q μ o φ h k (StealTest (anchor a (Q .anchor .count) (Q .anchor .tag))) quiet tt tt (λ i q. tt) I (steal-tail κ w Q μ o φ h k a I ok), tt)
 thief-kept κ w Q μ o φ h k (StealTest r) I ok pos f = steal-test κ w Q μ o φ h k r (isEmpty κ r) refl I ok
 thief-kept κ w Q μ o φ h k (StealNote r) I (R, l) pos f = (
   thief-same κ w Q μ o φ h k _ quiet tt tt (λ i q. tt) I
-      (soon κ w _ (Q .anchor .tag) h (suc k) (StealNumber r _) (R, l, (omega arith, (I .sized, small-now κ Q (R .lo) (R .hi) (view Q μ (I .ol) (I .oh)) _ (R .hold) refl), ((size-pos (I .sized), inl (refl, refl)), λ j q x y z. refl)))),
+      (soon κ w _ (Q .anchor .tag) h (suc k) (StealNumber r _) (R, l, (omega arith, (I .sized, small-now κ Q (R .lo) (R .hi) (view Q μ (I .own-lo) (I .own-hi)) _ (R .hold) refl), ((size-pos (I .sized), inl (refl, refl)), λ j q x y z. refl)))),
   tt,
 )
 thief-kept κ w Q μ o φ h k (StealNumber r b) I (R, l, (p, n, (d, q))) pos f = (

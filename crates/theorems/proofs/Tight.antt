@@ -5,36 +5,35 @@ use mathlib.Core.Logic.{inl, inr}
 use mathlib.Core.List.{List, [], _∷_, _++_, append-assoc}
 use Prim.Native.Nat.{ℕ, zero, suc, _+_, _-_, _*_, _%_, _^_, _≤_, _<_}
 use native.Mathlib.Omega.{arith}
+use native.Mathlib.Nat.{mod-add-mod, add-mod-right}
 use lib.Dec.{eqb, ltb}
 use lib.Pow.{pow-pos, pow-mono}
 use lib.ListN.{length, take, drop, length-append}
+use lib.Seq.{take-at}
 use borrow.Author.Tests.{lt-ltb, le-ltb, le-leb, eq-eqb}
-use Rattle.model.specs.Tests.{if_then_else_, _and_, _or_}
 use Rattle.model.specs.declared.Kind.the-variants.{Lifo}
 use Rattle.model.specs.declared.Line.{Line}
 use Rattle.model.specs.declared.Line.the-variants.{Idle, TakeRead, StealRead, StealTest, StealNote, StealNumber, StealPayload, StealCompare}
 use Rattle.model.specs.declared.Operation.the-variants.{Put, Steal}
 use Rattle.model.specs.declared.Answer.{Answer}
 use Rattle.model.specs.declared.Answer.the-variants.{Accepted, Numbered, GoesOn, Finished, HandedOut, Refused}
+use Rattle.model.specs.declared.Refusal.{Refusal}
+use Rattle.model.specs.Tests.{if_then_else_, _and_, _or_}
 use Rattle.model.specs.Lines.{lineStep}
 use Rattle.model.specs.World.{World, Outcome, lineAt}
 use Rattle.model.specs.Calls.{freshOf, Call, begin, step, callOf}
 use Rattle.model.specs.Answers.{entry, writeEntry, task}
-use native.Mathlib.Nat.{mod-add-mod, add-mod-right}
-use lib.Seq.{take-at}
 use Rattle.model.specs.Memory.{zeros, wordAt, offsetAt, sizeAt}
+use Rattle.model.specs.Run.{Played, played, after}
+use Rattle.model.specs.Figures.{anchor}
+use Rattle.theorems.specs.Demand3.{At, Begins, Finishes, Line1, Compares, Attempt, puts, between, Stands}
+use Rattle.theorems.specs.Corollaries.{Loses, Tight}
 use Rattle.theorems.proofs.Valid.{Whole}
 use Rattle.theorems.proofs.WholeRun.{entry-length, whole-run}
 use Rattle.theorems.proofs.Fresh.{start, fresh-whole}
-use Rattle.model.specs.declared.Refusal.{Refusal}
 use Rattle.theorems.proofs.Translate.{at-map}
 use Rattle.theorems.proofs.Rounds.{rawOf, raw-is, rawAfter, rawAnswers, answers, after-raw, answers-raw, after-append, answers-append, here, putting, taking, stealing, fiveSteps, putAnswers, takeAnswers, put-run, put-says, take-run, take-says, steal-run, steal-says, win-run}
-use Rattle.model.specs.Run.{Played, played, after}
-use Rattle.theorems.specs.Demand3.{At, Begins, Finishes, Line1, Compares, Attempt, puts, between, Stands}
-use Rattle.theorems.specs.Corollaries.{Loses, Tight}
 use Rattle.theorems.proofs.TightList.{played1, at-split, at-unsplit, at-answer, no-thief, total, total-is, answers-drop, answers-take, AllUnder, under-append, under-not, script, firstAnswers, rounds-own, rounds-length, script-length, script-total, script-under, rounds, first, tightList}
-use Rattle.model.specs.declared.Anchor.{Anchor}
-use Rattle.model.specs.Figures.{anchor}
 
 module _ (w x y : ℕ) (rest l : List ℕ) (low : 0 < w) (high : w ≤ 15) (long : 8 * 2 ^ w + 8 ≤ length l) where
   abbrev B : World
@@ -360,7 +359,7 @@ module _ (w x y : ℕ) (rest l : List ℕ) (low : 0 < w) (high : w ≤ 15) (long
         compare = length (prefix (2 ^ w));
         compares = compares;
         attempt = attempt;
-        puts-between = counted;
+        puts-between = omega (arith, counted);
         begun = length (prefix r′ ++ taking);
         finished = length until;
         task = task (suc (suc r′)) 7;

@@ -6,13 +6,12 @@ use native.Mathlib.Omega.{arith}
 use lib.ListN.{length, take, drop, length-append}
 use Rattle.model.specs.declared.Answer.{Answer}
 use Rattle.model.specs.declared.Answer.the-variants.{Accepted, Numbered, GoesOn, Finished, HandedOut, Empty, Full, Refused}
+use Rattle.model.specs.declared.Task.{Task}
 use Rattle.model.specs.World.{World}
 use Rattle.model.specs.Calls.{Call, begin, step, callOf}
-use Rattle.theorems.proofs.Rounds.{answers, putting, taking, stealing, putAnswers, takeAnswers}
 use Rattle.model.specs.Run.{Played, played, after}
 use Rattle.theorems.specs.Demand3.{At, HandsOut, finishes, puts}
-use Rattle.model.specs.declared.Task.{Task}
-use Rattle.model.specs.Answers.{task}
+use Rattle.theorems.proofs.Rounds.{answers, putting, taking, stealing, putAnswers, takeAnswers}
 
 -- places in a list of calls, and of answers
 abbrev pub played1 : World → Call → Played

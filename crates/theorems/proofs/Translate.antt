@@ -3,11 +3,9 @@ use mathlib.Core.Path.{_≡_, refl, sym, _∙_, ap, subst}
 use mathlib.Core.Bool.{Bool, true, false, cond}
 use mathlib.Core.Logic.{_⊎_, inl, inr}
 use mathlib.Core.List.{List, [], _∷_}
-use Prim.Native.Nat.{ℕ, zero, suc, _+_, _-_, _<_}
+use Prim.Native.Nat.{ℕ, zero, suc, _-_, _<_}
 use native.Mathlib.Omega.{arith}
-use lib.Dec.{ltb}
-use lib.ListN.{length, take, drop}
-use Rattle.model.specs.Tests.{_and_}
+use lib.ListN.{take, drop}
 use Rattle.model.specs.declared.Kind.{Kind}
 use Rattle.model.specs.declared.Line.{Line}
 use Rattle.model.specs.declared.Line.the-variants.{Idle, PutRead, PutTail, PutTest, PutNumber, PutPayload, PutFinish, Claim, Note, Copy, Publish, TakeRead, TakeTail, TakeTest, TakeNumber, TakePayload, TakeFinish, StealRead, StealTail, StealTest, StealNote, StealNumber, StealPayload, StealNext, StealCompare}
@@ -15,21 +13,19 @@ use Rattle.model.specs.declared.Queue.{Queue}
 use Rattle.model.specs.declared.Operation.the-variants.{Put, Take, Steal}
 use Rattle.model.specs.declared.Answer.{Answer}
 use Rattle.model.specs.declared.Answer.the-variants.{Accepted, Numbered, GoesOn, Finished, HandedOut, Empty, Full, Refused}
-use Rattle.model.specs.Lines.{Effect, lineStep}
-use Rattle.model.specs.World.{World, Outcome, refuse, isIdle, lineAt}
-use Rattle.model.specs.Answers.{ends}
-use Rattle.model.specs.Calls.{nextEffect, Call, begin, step, callOf}
-use Rattle.model.specs.Limits.{validOf}
-use Rattle.theorems.proofs.Events.{Ev, quiet, read1, done, given, missed, empty, began, full, isFirst, isCompare, evBegin, evGo, evOut, evOf}
-use Rattle.theorems.proofs.Window.{both-words}
-use Rattle.theorems.proofs.Places.{EvAt, EvLine1, isDone, dones, evBetween, EvCompares, EvFew}
-use Rattle.theorems.proofs.Cases.{step-cases}
-use Rattle.theorems.proofs.SoundRun.{workerOf, evAt, events}
-use Rattle.model.specs.Run.{Played, played}
-use Rattle.theorems.specs.Demand3.{At, Begins, Finishes, HandsOut, Empties, Line1, Compares, Attempt, finishes, puts, between, Few, FewPuts}
 use Rattle.model.specs.declared.Task.{Task}
 use Rattle.model.specs.declared.Anchor.{Anchor}
 use Rattle.model.specs.declared.Refusal.{Refusal}
+use Rattle.model.specs.Lines.{lineStep}
+use Rattle.model.specs.World.{World, Outcome, lineAt}
+use Rattle.model.specs.Calls.{nextEffect, Call, begin, step, callOf}
+use Rattle.model.specs.Run.{Played, played}
+use Rattle.theorems.specs.Demand3.{Belongs, At, Begins, Finishes, HandsOut, Empties, Line1, Compares, Attempt, finishes, puts, between, Few, FewPuts}
+use Rattle.theorems.proofs.Events.{Event, quiet, line-1, finished-put, handed-out, failed-compare, found-empty, began-put, found-full, is-line-1, is-compare, event-of-begin, event-of-going-on, event-of-hand-out, event-of}
+use Rattle.theorems.proofs.Window.{both-words}
+use Rattle.theorems.proofs.Places.{EventAt, EventLine1, finishes-put, finished-puts, events-between, EventCompares, EventFew}
+use Rattle.theorems.proofs.Cases.{step-cases}
+use Rattle.theorems.proofs.SoundRun.{workerOf, event-at, events}
 
 -- places
 pub at-map : (T : List Played) (j : ℕ) (P Q : Played → Type 0) → ((s : Played) → P s → Q s) → At T j P → At T j Q
@@ -42,12 +38,12 @@ at-some [] j P a = absurd a
 at-some (x ∷ T) zero P a = a
 at-some (x ∷ T) (suc j) P a = at-some T j P a
 
-pub to-ev : (T : List Played) (j : ℕ) (e : Ev) → At T j (λ s. evAt s ≡ e) → EvAt (events T) j e
+pub to-ev : (T : List Played) (j : ℕ) (e : Event) → At T j (λ s. event-at s ≡ e) → EventAt (events T) j e
 to-ev [] j e a = a
 to-ev (x ∷ T) zero e a = a
 to-ev (x ∷ T) (suc j) e a = to-ev T j e a
 
-pub from-ev : (T : List Played) (j : ℕ) (e : Ev) → EvAt (events T) j e → At T j (λ s. evAt s ≡ e)
+pub from-ev : (T : List Played) (j : ℕ) (e : Event) → EventAt (events T) j e → At T j (λ s. event-at s ≡ e)
 from-ev [] j e a = a
 from-ev (x ∷ T) zero e a = a
 from-ev (x ∷ T) (suc j) e a = from-ev T j e a
@@ -63,29 +59,29 @@ at-true (c ∷ cs) W zero P Q f a = f _ refl a
 at-true (c ∷ cs) W (suc j) P Q f a = at-true cs (callOf W c .world) j P Q f a
 
 -- what an event says of the call
-abbrev Says : Call → Line → Answer → Ev → Type 0
+abbrev Says : Call → Line → Answer → Event → Type 0
 Says c l a quiet = Unit {0}
-Says c l a (read1 i) = (c ≡ step i) × (isFirst l ≡ true) × (a ≡ GoesOn)
-Says c l a (done t) = (i : ℕ) × (a ≡ Finished i t)
-Says c l a (given zero t) = (i : ℕ) × (a ≡ HandedOut i t)
-Says c l a (given (suc k) t) = (i : ℕ) × (a ≡ HandedOut i t) × (c ≡ step (suc k)) × (isCompare l ≡ true)
-Says c l a (missed i) = (c ≡ step i) × (isCompare l ≡ true) × (a ≡ GoesOn)
-Says c l a (empty i) = a ≡ Empty i
-Says c l a (began t) = (c ≡ begin 0 (Put (t .payload))) × (a ≡ Numbered (t .number))
-Says c l a (full t) = Unit {0}
+Says c l a (line-1 i) = (c ≡ step i) × (is-line-1 l ≡ true) × (a ≡ GoesOn)
+Says c l a (finished-put t) = (i : ℕ) × (a ≡ Finished i t)
+Says c l a (handed-out zero t) = (i : ℕ) × (a ≡ HandedOut i t)
+Says c l a (handed-out (suc k) t) = (i : ℕ) × (a ≡ HandedOut i t) × (c ≡ step (suc k)) × (is-compare l ≡ true)
+Says c l a (failed-compare i) = (c ≡ step i) × (is-compare l ≡ true) × (a ≡ GoesOn)
+Says c l a (found-empty i) = a ≡ Empty i
+Says c l a (began-put t) = (c ≡ begin 0 (Put (t .payload))) × (a ≡ Numbered (t .number))
+Says c l a (found-full t) = Unit {0}
 
-says-go : (i : ℕ) (l : Line) (x y : Bool) → isFirst l ≡ x → isCompare l ≡ y → Says (step i) l GoesOn (cond x (read1 i) (cond y (missed i) quiet))
+says-go : (i : ℕ) (l : Line) (x y : Bool) → is-line-1 l ≡ x → is-compare l ≡ y → Says (step i) l GoesOn (cond x (line-1 i) (cond y (failed-compare i) quiet))
 says-go i l true y p q = (refl, p, refl)
 says-go i l false true p q = (refl, q, refl)
 says-go i l false false p q = tt
 
-says-out : (i : ℕ) (l : Line) (j : ℕ) (t : Task) (y : Bool) → isCompare l ≡ y → Says (step i) l (HandedOut j t) (cond y (given i t) (given 0 t))
+says-out : (i : ℕ) (l : Line) (j : ℕ) (t : Task) (y : Bool) → is-compare l ≡ y → Says (step i) l (HandedOut j t) (cond y (handed-out i t) (handed-out 0 t))
 says-out zero l j t true q = (j, refl)
 says-out (suc k) l j t true q = (j, refl, refl, q)
 says-out zero l j t false q = (j, refl)
 says-out (suc k) l j t false q = (j, refl)
 
-says : (c : Call) (l : Line) (a : Answer) → Says c l a (evOf c l a)
+says : (c : Call) (l : Line) (a : Answer) → Says c l a (event-of c l a)
 says c l Accepted = tt
 says (begin zero (Put p)) l (Numbered n) = (refl, refl)
 says (begin (suc k) (Put p)) l (Numbered n) = tt
@@ -93,10 +89,10 @@ says (begin i Take) l (Numbered n) = tt
 says (begin i Steal) l (Numbered n) = tt
 says (step i) l (Numbered n) = tt
 says (begin i op) l GoesOn = tt
-says (step i) l GoesOn = says-go i l (isFirst l) (isCompare l) refl refl
+says (step i) l GoesOn = says-go i l (is-line-1 l) (is-compare l) refl refl
 says c l (Finished i t) = (i, refl)
 says (begin i op) l (HandedOut j t) = (j, refl)
-says (step i) l (HandedOut j t) = says-out i l j t (isCompare l) refl
+says (step i) l (HandedOut j t) = says-out i l j t (is-compare l) refl
 says c l (Empty i) = refl
 says c l (Full i t) = tt
 says c l (Refused r) = tt
@@ -104,40 +100,44 @@ says c l (Refused r) = tt
 abbrev lineOf : Played → Line
 lineOf s = lineAt (s .before .bench .workers) (workerOf (s .call))
 
-pub told : (s : Played) (e : Ev) → evAt s ≡ e → Says (s .call) (lineOf s) (s .answer) e
+pub told : (s : Played) (e : Event) → event-at s ≡ e → Says (s .call) (lineOf s) (s .answer) e
 told s e q = subst (Says (s .call) (lineOf s) (s .answer)) q (says (s .call) (lineOf s) (s .answer))
 
 -- finished, begun, EMPTY
-pub done-ev : (t : Task) (s : Played) → Finishes t s → evAt s ≡ done t
-done-ev t s (i, e) = ap (evOf (s .call) (lineOf s)) e
+pub done-ev : (t : Task) (s : Played) → Finishes t s → event-at s ≡ finished-put t
+done-ev t s (i, e) = ap (event-of (s .call) (lineOf s)) e
 
-pub ev-done : (t : Task) (s : Played) → evAt s ≡ done t → Finishes t s
-ev-done t s e = told s (done t) e
+pub ev-done : (t : Task) (s : Played) → event-at s ≡ finished-put t → Finishes t s
+ev-done t s e = told s (finished-put t) e
 
-pub ev-began : (t : Task) (s : Played) → evAt s ≡ began t → Begins t s
-ev-began t s e = told s (began t) e
+pub ev-began : (t : Task) (s : Played) → event-at s ≡ began-put t → Begins t s
+ev-began t s e = told s (began-put t) e
 
-pub empty-ev : (i : ℕ) (s : Played) → Empties i s → evAt s ≡ empty i
-empty-ev i s e = ap (evOf (s .call) (lineOf s)) e
+pub empty-ev : (i : ℕ) (s : Played) → Empties i s → event-at s ≡ found-empty i
+empty-ev i s e = ap (event-of (s .call) (lineOf s)) e
+
+-- a pair that belongs to a put is its task
+belongs-is : (u t : Task) → Belongs u t → u ≡ t
+belongs-is u t b = both-words {x = u .number} {x′ = t .number} {y = u .payload} {y′ = t .payload} (b .0) (b .1)
 
 -- handed out
-out-is : (c : Call) (l : Line) (t : Task) → (i : ℕ) × (evOut c l t ≡ given i t)
+out-is : (c : Call) (l : Line) (t : Task) → (i : ℕ) × (event-of-hand-out c l t ≡ handed-out i t)
 out-is (begin i op) l t = (0, refl)
-out-is (step i) l t = go (isCompare l)
+out-is (step i) l t = go (is-compare l)
   where
-    go : (x : Bool) → (j : ℕ) × (cond x (given i t) (given 0 t) ≡ given j t)
+    go : (x : Bool) → (j : ℕ) × (cond x (handed-out i t) (handed-out 0 t) ≡ handed-out j t)
     go true = (i, refl)
     go false = (0, refl)
 
-pub out-ev : (t : Task) (s : Played) → HandsOut t s → (i : ℕ) × (evAt s ≡ given i t)
-out-ev t s (j, u, e, b) = let r = out-is (s .call) (lineOf s) t in (r .0, ap (evOf (s .call) (lineOf s)) (e ∙ ap (HandedOut j) (both-words (b .0) (b .1))) ∙ r .1)
+pub out-ev : (t : Task) (s : Played) → HandsOut t s → (i : ℕ) × (event-at s ≡ handed-out i t)
+out-ev t s (j, u, e, b) = let r = out-is (s .call) (lineOf s) t in (r .0, ap (event-of (s .call) (lineOf s)) (e ∙ ap (HandedOut j) (belongs-is u t b)) ∙ r .1)
 
-pub ev-out : (i : ℕ) (t : Task) (s : Played) → evAt s ≡ given i t → HandsOut t s
-ev-out zero t s e = let r = told s (given 0 t) e in (r .0, t, r .1, (refl, refl))
-ev-out (suc k) t s e = let r = told s (given (suc k) t) e in (r .0, t, r .1, (refl, refl))
+pub ev-out : (i : ℕ) (t : Task) (s : Played) → event-at s ≡ handed-out i t → HandsOut t s
+ev-out zero t s e = let r = told s (handed-out 0 t) e in (r .0, t, r .1, (refl, refl))
+ev-out (suc k) t s e = let r = told s (handed-out (suc k) t) e in (r .0, t, r .1, (refl, refl))
 
 -- line 1
-first-is : (l : Line) → isFirst l ≡ true → (l ≡ TakeRead) ⊎ (l ≡ StealRead)
+first-is : (l : Line) → is-line-1 l ≡ true → (l ≡ TakeRead) ⊎ (l ≡ StealRead)
 first-is Idle e = absurd (let z : _≡_ {A = ℕ} 0 1 = cc in omega arith)
 first-is (PutRead t) e = absurd (let z : _≡_ {A = ℕ} 0 1 = cc in omega arith)
 first-is (PutTail t h) e = absurd (let z : _≡_ {A = ℕ} 0 1 = cc in omega arith)
@@ -164,7 +164,7 @@ first-is (StealPayload r k x) e = absurd (let z : _≡_ {A = ℕ} 0 1 = cc in om
 first-is (StealNext r t) e = absurd (let z : _≡_ {A = ℕ} 0 1 = cc in omega arith)
 first-is (StealCompare r i t) e = absurd (let z : _≡_ {A = ℕ} 0 1 = cc in omega arith)
 
-compare-is : (l : Line) → isCompare l ≡ true → (r : Anchor) × (e : ℕ) × (t : Task) × (l ≡ StealCompare r e t)
+compare-is : (l : Line) → is-compare l ≡ true → (r : Anchor) × (e : ℕ) × (t : Task) × (l ≡ StealCompare r e t)
 compare-is Idle e = absurd (let z : _≡_ {A = ℕ} 0 1 = cc in omega arith)
 compare-is (PutRead t) e = absurd (let z : _≡_ {A = ℕ} 0 1 = cc in omega arith)
 compare-is (PutTail t h) e = absurd (let z : _≡_ {A = ℕ} 0 1 = cc in omega arith)
@@ -197,11 +197,11 @@ not-refused a e r q = let z : _≡_ {A = ℕ} 0 1 = cc in omega arith
 of-step : (s : Played) (i : ℕ) → s .call ≡ step i → lineOf s ≡ lineAt (s .before .bench .workers) i
 of-step s i e = ap (λ (c : Call). lineAt (s .before .bench .workers) (workerOf c)) e
 
-pub ev-line1 : (i : ℕ) (s : Played) → evAt s ≡ read1 i → Line1 i s
+pub ev-line1 : (i : ℕ) (s : Played) → event-at s ≡ line-1 i → Line1 i s
 ev-line1 i s e = go (first-is (lineOf s) (T .1))
   where
-    T : (s .call ≡ step i) × (isFirst (lineOf s) ≡ true) × (s .answer ≡ GoesOn)
-    T = told s (read1 i) e
+    T : (s .call ≡ step i) × (is-line-1 (lineOf s) ≡ true) × (s .answer ≡ GoesOn)
+    T = told s (line-1 i) e
 
     go : (lineOf s ≡ TakeRead) ⊎ (lineOf s ≡ StealRead) → Line1 i s
     go (inl q) = inl (T .0, sym (of-step s i (T .0)) ∙ q, not-refused (s .answer) (T .2))
@@ -227,13 +227,13 @@ accepted-is : (W : World) (i : ℕ) (a b : Answer) → nextEffect W i .answer �
 accepted-is W i a b e n (inl (r, q)) = absurd (n r q)
 accepted-is W i a b e n (inr q) = q ∙ e
 
-line1-is : (i : ℕ) (s : Played) (l : Line) → isFirst l ≡ true → s .call ≡ step i → lineAt (s .before .bench .workers) i ≡ l → s .answer ≡ GoesOn → evAt s ≡ read1 i
+line1-is : (i : ℕ) (s : Played) (l : Line) → is-line-1 l ≡ true → s .call ≡ step i → lineAt (s .before .bench .workers) i ≡ l → s .answer ≡ GoesOn → event-at s ≡ line-1 i
 line1-is i s l f ec el ea =
-    ap (evOf (s .call) (lineOf s)) ea ∙ ap (λ (c : Call). evGo c (lineOf s)) ec
-    ∙ ap (λ (x : Line). cond (isFirst x) (read1 i) (cond (isCompare x) (missed i) quiet)) (of-step s i ec ∙ el)
-    ∙ ap (λ (x : Bool). cond x (read1 i) (cond (isCompare l) (missed i) quiet)) f
+    ap (event-of (s .call) (lineOf s)) ea ∙ ap (λ (c : Call). event-of-going-on c (lineOf s)) ec
+    ∙ ap (λ (x : Line). cond (is-line-1 x) (line-1 i) (cond (is-compare x) (failed-compare i) quiet)) (of-step s i ec ∙ el)
+    ∙ ap (λ (x : Bool). cond x (line-1 i) (cond (is-compare l) (failed-compare i) quiet)) f
 
-pub line1-ev : (i : ℕ) (s : Played) → True s → Line1 i s → evAt s ≡ read1 i
+pub line1-ev : (i : ℕ) (s : Played) → True s → Line1 i s → event-at s ≡ line-1 i
 line1-ev i s t (inl (ec, el, n)) =
     line1-is i s TakeRead refl ec el
     (accepted-is (s .before) i (s .answer) GoesOn (goes-take _ _ _ _ i _ el) n (subst (Stepped (s .before) i) (sym (t ∙ ap (λ (c : Call). callOf (s .before) c .answer) ec)) (step-answer (s .before) i)))
@@ -242,7 +242,7 @@ line1-ev i s t (inr (ec, el, n)) =
     (accepted-is (s .before) i (s .answer) GoesOn (goes-steal _ _ _ _ i _ el) n (subst (Stepped (s .before) i) (sym (t ∙ ap (λ (c : Call). callOf (s .before) c .answer) ec)) (step-answer (s .before) i)))
 
 -- compares
-compares-is : (i : ℕ) (s : Played) → s .call ≡ step i → isCompare (lineOf s) ≡ true → ((r : Refusal) → s .answer ≡ Refused r → ⊥) → Compares i s
+compares-is : (i : ℕ) (s : Played) → s .call ≡ step i → is-compare (lineOf s) ≡ true → ((r : Refusal) → s .answer ≡ Refused r → ⊥) → Compares i s
 compares-is i s ec f n =
     let C = compare-is (lineOf s) f in
     (C .0, C .1, C .2, (ec, sym (of-step s i ec) ∙ C .3, n))
@@ -250,42 +250,42 @@ compares-is i s ec f n =
 out-not-refused : (a : Answer) (i : ℕ) (t : Task) → a ≡ HandedOut i t → (r : Refusal) → a ≡ Refused r → ⊥
 out-not-refused a i t e r q = let z : _≡_ {A = ℕ} 0 1 = cc in omega arith
 
-pub missed-compares : (i : ℕ) (s : Played) → evAt s ≡ missed i → Compares i s
-missed-compares i s e = let T = told s (missed i) e in compares-is i s (T .0) (T .1) (not-refused (s .answer) (T .2))
+pub missed-compares : (i : ℕ) (s : Played) → event-at s ≡ failed-compare i → Compares i s
+missed-compares i s e = let T = told s (failed-compare i) e in compares-is i s (T .0) (T .1) (not-refused (s .answer) (T .2))
 
-pub stolen-compares : (k : ℕ) (t : Task) (s : Played) → evAt s ≡ given (suc k) t → Compares (suc k) s
+pub stolen-compares : (k : ℕ) (t : Task) (s : Played) → event-at s ≡ handed-out (suc k) t → Compares (suc k) s
 stolen-compares k t s e =
-    let T = told s (given (suc k) t) e in
+    let T = told s (handed-out (suc k) t) e in
     compares-is (suc k) s (T .2) (T .3) (out-not-refused (s .answer) (T .0) t (T .1))
 
 -- how many puts finish
-done-go : (c : Call) (l : Line) → isDone (evGo c l) ≡ 0
+done-go : (c : Call) (l : Line) → finishes-put (event-of-going-on c l) ≡ 0
 done-go (begin i op) l = refl
-done-go (step i) l = go (isFirst l) (isCompare l)
+done-go (step i) l = go (is-line-1 l) (is-compare l)
   where
-    go : (x y : Bool) → isDone (cond x (read1 i) (cond y (missed i) quiet)) ≡ 0
+    go : (x y : Bool) → finishes-put (cond x (line-1 i) (cond y (failed-compare i) quiet)) ≡ 0
     go true y = refl
     go false true = refl
     go false false = refl
 
-done-begin : (c : Call) (n : ℕ) → isDone (evBegin c n) ≡ 0
+done-begin : (c : Call) (n : ℕ) → finishes-put (event-of-begin c n) ≡ 0
 done-begin (begin zero (Put p)) n = refl
 done-begin (begin (suc k) (Put p)) n = refl
 done-begin (begin i Take) n = refl
 done-begin (begin i Steal) n = refl
 done-begin (step i) n = refl
 
-done-is : (c : Call) (l : Line) (a : Answer) → isDone (evOf c l a) ≡ finishes a
+done-is : (c : Call) (l : Line) (a : Answer) → finishes-put (event-of c l a) ≡ finishes a
 done-is c l Accepted = refl
 done-is c l (Numbered n) = done-begin c n
 done-is c l GoesOn = done-go c l
 done-is c l (Finished i t) = refl
-done-is c l (HandedOut i t) = let r = out-is c l t in ap isDone (r .1)
+done-is c l (HandedOut i t) = let r = out-is c l t in ap finishes-put (r .1)
 done-is c l (Empty i) = refl
 done-is c l (Full i t) = refl
 done-is c l (Refused r) = refl
 
-puts-is : (T : List Played) → dones (events T) ≡ puts T
+puts-is : (T : List Played) → finished-puts (events T) ≡ puts T
 puts-is [] = refl
 puts-is (s ∷ T) = omega (arith, puts-is T, done-is (s .call) (lineOf s) (s .answer))
 
@@ -297,30 +297,30 @@ events-drop (s ∷ T) (suc n) = events-drop T n
 events-take : (T : List Played) (n : ℕ) → take n (events T) ≡ events (take n T)
 events-take T zero = refl
 events-take [] (suc n) = refl
-events-take (s ∷ T) (suc n) = ap (λ (l : List Ev). evAt s ∷ l) (events-take T n)
+events-take (s ∷ T) (suc n) = ap (λ (l : List Event). event-at s ∷ l) (events-take T n)
 
-pub between-is : (T : List Played) (l j : ℕ) → dones (evBetween l j (events T)) ≡ puts (between l j T)
+pub between-is : (T : List Played) (l j : ℕ) → finished-puts (events-between l j (events T)) ≡ puts (between l j T)
 between-is T l j =
-    ap (λ (x : List Ev). dones (take (j - suc l) x)) (events-drop T (suc l)) ∙ ap dones (events-take (drop (suc l) T) (j - suc l))
+    ap (λ (x : List Event). finished-puts (take (j - suc l) x)) (events-drop T (suc l)) ∙ ap finished-puts (events-take (drop (suc l) T) (j - suc l))
     ∙ puts-is (between l j T)
 
 -- attempts
-pub ev-attempt : (cs : List Call) (W : World) (i l j : ℕ) → EvLine1 (events (played W cs)) i l j → Attempt (played W cs) i l j
+pub ev-attempt : (cs : List Call) (W : World) (i l j : ℕ) → EventLine1 (events (played W cs)) i l j → Attempt (played W cs) i l j
 ev-attempt cs W i l j L =
     record {
       before = L .before;
-      line1 = at-map (played W cs) l (λ s. evAt s ≡ read1 i) (Line1 i) (ev-line1 i) (from-ev (played W cs) l (read1 i) (L .here));
-      newest = λ k a b x. L .newest k a b (to-ev (played W cs) k (read1 i) (at-true cs W k (Line1 i) (λ s. evAt s ≡ read1 i) (line1-ev i) x));
+      line1 = at-map (played W cs) l (λ s. event-at s ≡ line-1 i) (Line1 i) (ev-line1 i) (from-ev (played W cs) l (line-1 i) (L .here));
+      newest = λ k a b x. L .newest k a b (to-ev (played W cs) k (line-1 i) (at-true cs W k (Line1 i) (λ s. event-at s ≡ line-1 i) (line1-ev i) x));
     }
 
-pub few-ev : (cs : List Call) (W : World) → FewPuts W cs → EvFew (W .bench .kind) (W .bench .width) (events (played W cs))
+pub few-ev : (cs : List Call) (W : World) → FewPuts W cs → EventFew (W .bench .kind) (W .bench .width) (events (played W cs))
 few-ev cs W f i l j c L =
     subst (Few (W .bench .kind) (W .bench .width)) (sym (between-is (played W cs) l j)) (f i l j (go c) (ev-attempt cs W i l j L))
   where
-    stolen : (i : ℕ) (t : Task) → 0 < i → EvAt (events (played W cs)) j (given i t) → At (played W cs) j (Compares i)
+    stolen : (i : ℕ) (t : Task) → 0 < i → EventAt (events (played W cs)) j (handed-out i t) → At (played W cs) j (Compares i)
     stolen zero t z a = absurd (omega arith)
-    stolen (suc k) t z a = at-map (played W cs) j (λ s. evAt s ≡ given (suc k) t) (Compares (suc k)) (stolen-compares k t) (from-ev (played W cs) j (given (suc k) t) a)
+    stolen (suc k) t z a = at-map (played W cs) j (λ s. event-at s ≡ handed-out (suc k) t) (Compares (suc k)) (stolen-compares k t) (from-ev (played W cs) j (handed-out (suc k) t) a)
 
-    go : EvCompares (events (played W cs)) j i → At (played W cs) j (Compares i)
-    go (inl a) = at-map (played W cs) j (λ s. evAt s ≡ missed i) (Compares i) (missed-compares i) (from-ev (played W cs) j (missed i) a)
+    go : EventCompares (events (played W cs)) j i → At (played W cs) j (Compares i)
+    go (inl a) = at-map (played W cs) j (λ s. event-at s ≡ failed-compare i) (Compares i) (missed-compares i) (from-ev (played W cs) j (failed-compare i) a)
     go (inr (t, z, a)) = stolen i t z a

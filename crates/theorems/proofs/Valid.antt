@@ -4,24 +4,24 @@ use mathlib.Core.Bool.{Bool, true, false}
 use mathlib.Core.List.{List}
 use Prim.Native.Nat.{ℕ, zero, suc, _+_, _-_, _^_, _≤_, _<_}
 use native.Mathlib.Omega.{arith}
-use lib.Dec.{ltb, leb}
+use lib.Dec.{ltb}
 use lib.ListN.{length}
 use borrow.Author.Tests.{eq-eqb, le-leb, lt-ltb, ltb-false}
-use Rattle.model.specs.Tests.{if_then_else_, _and_, _or_}
-use Rattle.model.proofs.Tests.{and-both}
 use Rattle.model.specs.declared.Kind.{Kind}
 use Rattle.model.specs.declared.Kind.the-variants.{Lifo, Fifo, Deque}
 use Rattle.model.specs.declared.Line.{Line}
 use Rattle.model.specs.declared.Line.the-variants.{Idle, PutRead, PutTail, PutTest, PutNumber, PutPayload, PutFinish, Claim, Note, Copy, Publish, TakeRead, TakeTail, TakeTest, TakeNumber, TakePayload, TakeFinish, StealRead, StealTail, StealTest, StealNote, StealNumber, StealPayload, StealNext, StealCompare}
 use Rattle.model.specs.declared.Queue.{Queue}
 use Rattle.model.specs.declared.Worker.{Worker}
+use Rattle.model.specs.declared.Anchor.{Anchor}
+use Rattle.model.specs.Tests.{if_then_else_, _and_, _or_}
+use Rattle.model.proofs.Tests.{and-both}
 use Rattle.model.specs.Lines.{size}
 use Rattle.model.specs.World.{World, lineAt, isIdle}
 use Rattle.model.specs.Limits.{numberOk, anchorOk, readOk, headOk, roomOk, someOk, notedOk, slotOk, isDeque, nextOk, ownerOk, thiefOk, thievesOk, validOf}
+use Rattle.model.specs.Figures.{anchor}
 use Rattle.theorems.proofs.Directory.{Arrays}
 use Rattle.theorems.proofs.Shape.{tail, Bounded, Head, OwnRead, Room, Some, Span, Early, ThiefRead, Slot, Double, After, pending, Spent, OwnShape, ThiefShape, Shape}
-use Rattle.model.specs.declared.Anchor.{Anchor}
-use Rattle.model.specs.Figures.{anchor}
 
 -- the last head that a FIFO's owner read is no higher than the tail
 abbrev LowOk : Kind → ℕ → ℕ → Type 0

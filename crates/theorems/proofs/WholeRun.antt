@@ -9,41 +9,15 @@ use lib.Dec.{eqb, ltb}
 use lib.ListN.{length, set, length-set}
 use lib.Seq.{getD-set-other, getD-set-same}
 use borrow.Author.Tests.{ltb-true, ltb-false, eqb-true}
-use Rattle.model.specs.Tests.{if_then_else_, _and_}
 use Rattle.model.specs.declared.Kind.{Kind}
 use Rattle.model.specs.declared.Kind.the-variants.{Lifo, Fifo, Deque}
 use Rattle.model.specs.declared.Line.{Line}
-use Rattle.model.specs.declared.Line.the-variants.{
-  Idle,
-  PutRead,
-  PutTail,
-  PutTest,
-  PutNumber,
-  PutPayload,
-  PutFinish,
-  Claim,
-  Note,
-  Copy,
-  Publish,
-  TakeRead,
-  TakeTail,
-  TakeTest,
-  TakeNumber,
-  TakePayload,
-  TakeFinish,
-  StealRead,
-  StealTail,
-  StealTest,
-  StealNote,
-  StealNumber,
-  StealPayload,
-  StealNext,
-  StealCompare,
-}
+use Rattle.model.specs.declared.Line.the-variants.{Idle, PutRead, PutTail, PutTest, PutNumber, PutPayload, PutFinish, Claim, Note, Copy, Publish, TakeRead, TakeTail, TakeTest, TakeNumber, TakePayload, TakeFinish, StealRead, StealTail, StealTest, StealNote, StealNumber, StealPayload, StealNext, StealCompare}
 use Rattle.model.specs.declared.Queue.{Queue}
 use Rattle.model.specs.declared.Worker.{Worker}
 use Rattle.model.specs.declared.Operation.{Operation}
 use Rattle.model.specs.declared.Operation.the-variants.{Put, Take, Steal}
+use Rattle.model.specs.Tests.{if_then_else_, _and_}
 use Rattle.model.specs.Answers.{Entry, entryOf, ends, writeEntry, logged, task}
 use Rattle.model.specs.Lines.{Effect}
 use Rattle.model.specs.World.{World, Outcome, resting, lineAt, isIdle}

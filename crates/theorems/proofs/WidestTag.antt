@@ -1,13 +1,11 @@
 -- At width 16 demand 3 needs no premise: a list finishes at most as many puts as there are numbers, 65,535.
-use mathlib.Core.Path.{_≡_, refl, sym, ap, subst}
+use mathlib.Core.Path.{_≡_, refl, ap}
 use mathlib.Core.Bool.{Bool, true, false}
 use mathlib.Core.List.{List, [], _∷_}
-use Prim.Native.Nat.{ℕ, zero, suc, _+_, _-_, _≤_, _<_}
+use Prim.Native.Nat.{ℕ, zero, suc, _+_, _-_, _≤_}
 use native.Mathlib.Omega.{arith}
-use lib.Dec.{eqb, ltb}
-use lib.ListN.{length, take, drop}
-use borrow.Author.Tests.{ltb-true}
-use Rattle.model.specs.Tests.{if_then_else_, _and_}
+use lib.Dec.{eqb}
+use lib.ListN.{take, drop}
 use Rattle.model.specs.declared.Kind.{Kind}
 use Rattle.model.specs.declared.Kind.the-variants.{Lifo, Fifo, Deque}
 use Rattle.model.specs.declared.Line.{Line}
@@ -15,23 +13,22 @@ use Rattle.model.specs.declared.Line.the-variants.{Idle, PutRead, PutTail, PutT
 use Rattle.model.specs.declared.Queue.{Queue}
 use Rattle.model.specs.declared.Operation.{Operation}
 use Rattle.model.specs.declared.Operation.the-variants.{Put, Take, Steal}
+use Rattle.model.specs.declared.Task.{Task}
+use Rattle.model.specs.Tests.{if_then_else_}
 use Rattle.model.specs.Lines.{Effect, size, lineStep, fits}
 use Rattle.model.specs.Answers.{task}
 use Rattle.model.specs.Figures.{isSame, isFull, isEmpty, putRead, takeRead, note, anchor}
-use Rattle.model.specs.World.{World, Outcome, refuse, isIdle, lineAt}
-use Rattle.model.specs.Answers.{ends, task}
+use Rattle.model.specs.World.{World, Outcome, isIdle, lineAt}
 use Rattle.model.specs.Calls.{freshOf, begun, stepped, nextEffect, Call, callOf}
-use Rattle.model.specs.Limits.{validOf}
+use Rattle.model.specs.Run.{Played, played, after}
+use Rattle.theorems.specs.Demand3.{finishes, puts, Few, FewPuts}
+use Rattle.theorems.specs.Corollaries.{WidestTag}
 use Rattle.theorems.proofs.Shape.{pending, OwnShape, ThiefShape}
 use Rattle.theorems.proofs.Valid.{Whole}
 use Rattle.theorems.proofs.Cases.{MayBegin, MayStep, call-cases}
 use Rattle.theorems.proofs.WholeRun.{idle-is, line-same, line-other, not-thief, not-owner, in-crew, call-whole, whole-run}
 use Rattle.theorems.proofs.Fresh.{Started, fresh-started}
 use Rattle.theorems.proofs.NothingLost.{demand3}
-use Rattle.model.specs.Run.{Played, played, after}
-use Rattle.theorems.specs.Demand3.{finishes, puts, between, Few, FewPuts}
-use Rattle.theorems.specs.Corollaries.{WidestTag}
-use Rattle.model.specs.declared.Task.{Task}
 
 -- a line of the owner finishes at most the put that is open
 abbrev Ends : Effect → ℕ → Type 0
@@ -184,10 +181,10 @@ puts-take (s ∷ T) (suc n) = omega (arith, puts-take T n)
 few-puts : (W : World) (w : ℕ) → Started W w → (cs : List Call) → puts (played W cs) ≤ 65535
 few-puts W w F cs = omega (arith, run-count cs W (F .whole), whole-run cs W (F .whole) .used, F .none-open)
 
-few16 : (κ : Kind) (d : ℕ) → d ≤ 65535 → Few κ 16 d
-few16 Lifo d h = omega arith
-few16 Fifo d h = tt
-few16 Deque d h = omega arith
+few16 : (κ : Kind) (w d : ℕ) → w ≡ 16 → d ≤ 65535 → Few κ w d
+few16 Lifo w d e h = rw e (omega arith)
+few16 Fifo w d e h = tt
+few16 Deque w d e h = rw e (omega arith)
 
 pub widest-tag : WidestTag
 widest-tag k w c n m l e is16 cs = demand3 k w c n m l e cs few
@@ -197,6 +194,10 @@ widest-tag k w c n m l e is16 cs = demand3 k w c n m l e cs few
 
     few : FewPuts U cs
     few i l′ j x a =
-        subst (λ (w : ℕ). Few (U .bench .kind) w (puts (between l′ j (played U cs)))) (sym is16)
-        (few16 (U .bench .kind) _
-        (omega (arith, few-puts U w (fresh-started k w c n m l e) cs, puts-take (drop (suc l′) (played U cs)) (j - suc l′), puts-drop (played U cs) (suc l′))))
+        few16 (U .bench .kind) (U .bench .width) _ (omega (arith, is16))
+        (omega (
+          arith,
+          few-puts U w (fresh-started k w c n m l e) cs,
+          puts-take (drop (suc l′) (played U cs)) (j - suc l′),
+          puts-drop (played U cs) (suc l′),
+        ))

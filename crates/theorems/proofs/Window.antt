@@ -4,25 +4,25 @@ use mathlib.Core.Logic.{_⊎_, inl, inr}
 use mathlib.Core.List.{List, _∷_, List·Memᴰ, List·Memᴰ·head, List·Memᴰ·tail, List·Memᴰ·cases-cons}
 use Prim.Native.Nat.{ℕ, _+_, _≤_, _<_}
 use native.Mathlib.Omega.{arith}
-use Rattle.theorems.proofs.Remainders.{le-or-lt}
 use Rattle.model.specs.declared.Region.{Region}
-use Rattle.theorems.proofs.Events.{Ev, quiet, read1, done, given, missed, empty, began, full, Hist, Out}
-use Rattle.theorems.proofs.Words.{W}
 use Rattle.model.specs.declared.Task.{Task}
 use Rattle.model.specs.Answers.{task}
+use Rattle.theorems.proofs.Remainders.{le-or-lt}
+use Rattle.theorems.proofs.Events.{Event, quiet, line-1, finished-put, handed-out, failed-compare, found-empty, began-put, found-full, History, Out}
+use Rattle.theorems.proofs.Words.{cell}
 
 -- the store, the directory (n arrays of d are published), the current array and the owner's window
 pub record View : Type 0 where
-  pub m : List ℕ
-  pub d : List Region
-  pub n : ℕ
-  pub b : ℕ
-  pub z : ℕ
-  pub ol : ℕ
-  pub oh : ℕ
+  pub store : List ℕ
+  pub directory : List Region
+  pub published : ℕ
+  pub base : ℕ
+  pub slots : ℕ
+  pub own-lo : ℕ
+  pub own-hi : ℕ
 
 abbrev pub word : View → ℕ → ℕ → ℕ
-word v i j = W (v .m) (v .b) (v .z) i j
+word v i j = cell (v .store) (v .base) (v .slots) i j
 
 -- the task at index i
 abbrev pub taskAt : View → ℕ → Task
@@ -31,42 +31,42 @@ taskAt v i = task (word v i 0) (word v i 1)
 pub both-words : {x x′ y y′ : ℕ} → x ≡ x′ → y ≡ y′ → task x y ≡ task x′ y′
 both-words p q = rw (p, q)
 
-pub record Core (v : View) (lo hi : ℕ) (h : Hist) : Type 0 where
-  pub low : v .ol ≤ lo
+pub record Core (v : View) (lo hi : ℕ) (h : History) : Type 0 where
+  pub low : v .own-lo ≤ lo
   pub mid : lo ≤ hi
-  pub high : hi ≤ v .oh
-  pub fit : v .oh ≤ v .ol + v .z
-  pub whole : (i : ℕ) → v .ol ≤ i → i < v .oh → List·Memᴰ (done (taskAt v i)) h
-  pub outL : (i : ℕ) → v .ol ≤ i → i < lo → Out (taskAt v i) h
-  pub outH : (i : ℕ) → hi ≤ i → i < v .oh → Out (taskAt v i) h
-  pub all : (t : Task) → List·Memᴰ (done t) h → Out t h ⊎ ((i : ℕ) × (lo ≤ i) × (i < hi) × (taskAt v i ≡ t))
+  pub high : hi ≤ v .own-hi
+  pub fit : v .own-hi ≤ v .own-lo + v .slots
+  pub whole : (i : ℕ) → v .own-lo ≤ i → i < v .own-hi → List·Memᴰ (finished-put (taskAt v i)) h
+  pub outL : (i : ℕ) → v .own-lo ≤ i → i < lo → Out (taskAt v i) h
+  pub outH : (i : ℕ) → hi ≤ i → i < v .own-hi → Out (taskAt v i) h
+  pub all : (t : Task) → List·Memᴰ (finished-put t) h → Out t h ⊎ ((i : ℕ) × (lo ≤ i) × (i < hi) × (taskAt v i ≡ t))
 
-abbrev pub NotDone : Ev → Type 0
+abbrev pub NotDone : Event → Type 0
 NotDone quiet = Unit {0}
-NotDone (read1 j) = Unit {0}
-NotDone (done t) = ⊥
-NotDone (given j t) = Unit {0}
-NotDone (missed j) = Unit {0}
-NotDone (empty j) = Unit {0}
-NotDone (began t) = Unit {0}
-NotDone (full t) = Unit {0}
+NotDone (line-1 j) = Unit {0}
+NotDone (finished-put t) = ⊥
+NotDone (handed-out j t) = Unit {0}
+NotDone (failed-compare j) = Unit {0}
+NotDone (found-empty j) = Unit {0}
+NotDone (began-put t) = Unit {0}
+NotDone (found-full t) = Unit {0}
 
-pub later : {t : Task} {h : Hist} (e : Ev) → Out t h → Out t (e ∷ h)
+pub later : {t : Task} {h : History} (e : Event) → Out t h → Out t (e ∷ h)
 later e o = (o .0, List·Memᴰ·tail (o .1))
 
-pub old-done : {t : Task} {e : Ev} {h : Hist} → NotDone e → List·Memᴰ (done t) (e ∷ h) → List·Memᴰ (done t) h
+pub old-done : {t : Task} {e : Event} {h : History} → NotDone e → List·Memᴰ (finished-put t) (e ∷ h) → List·Memᴰ (finished-put t) h
 old-done {t} {e} {h} nd d = go (List·Memᴰ·cases-cons d)
   where
-    go : (done t ≡ e) ⊎ List·Memᴰ (done t) h → List·Memᴰ (done t) h
+    go : (finished-put t ≡ e) ⊎ List·Memᴰ (finished-put t) h → List·Memᴰ (finished-put t) h
     go (inl q) = absurd (subst NotDone (sym q) nd)
     go (inr r) = r
 
 -- another window inside the owner's window: what leaves the window has been handed out
-pub core-window : {v : View} {lo hi : ℕ} {h : Hist} (e : Ev) (ol oh a c : ℕ) → NotDone e → Core v lo hi h
-    → v .ol ≤ ol → ol ≤ a → a ≤ c → c ≤ oh → oh ≤ v .oh
+pub core-window : {v : View} {lo hi : ℕ} {h : History} (e : Event) (own-lo own-hi a c : ℕ) → NotDone e → Core v lo hi h
+    → v .own-lo ≤ own-lo → own-lo ≤ a → a ≤ c → c ≤ own-hi → own-hi ≤ v .own-hi
     → ((i : ℕ) → lo ≤ i → i < hi → (i < a) ⊎ (c ≤ i) → Out (taskAt v i) (e ∷ h))
-    → Core (record { m = v .m; b = v .b; z = v .z; d = v .d; n = v .n; ol = ol; oh = oh }) a c (e ∷ h)
-core-window {v} {lo} {hi} {h} e ol oh a c nd C h1 h2 h3 h4 h5 leave =
+    → Core (record { store = v .store; base = v .base; slots = v .slots; directory = v .directory; published = v .published; own-lo = own-lo; own-hi = own-hi }) a c (e ∷ h)
+core-window {v} {lo} {hi} {h} e own-lo own-hi a c nd C h1 h2 h3 h4 h5 leave =
     record {
       low = h2;
       mid = h3;
@@ -78,7 +78,7 @@ core-window {v} {lo} {hi} {h} e ol oh a c nd C h1 h2 h3 h4 h5 leave =
       all = λ t d. keep t (C .all t (old-done nd d));
     }
   where
-    gone : (i : ℕ) → v .ol ≤ i → i < v .oh → (i < a) ⊎ (c ≤ i) → Out (taskAt v i) (e ∷ h)
+    gone : (i : ℕ) → v .own-lo ≤ i → i < v .own-hi → (i < a) ⊎ (c ≤ i) → Out (taskAt v i) (e ∷ h)
     gone i p q x = pick (le-or-lt lo i) (le-or-lt hi i)
       where
         pick : (lo ≤ i) ⊎ (i < lo) → (hi ≤ i) ⊎ (i < hi) → Out (taskAt v i) (e ∷ h)
@@ -100,10 +100,10 @@ core-window {v} {lo} {hi} {h} e ol oh a c nd C h1 h2 h3 h4 h5 leave =
         pick (inl k) (inr q) = inr (i, k, q, x)
 
 -- another store or another array, with the same words in the owner's window
-pub core-words : {v : View} {lo hi : ℕ} {h : Hist} (m : List ℕ) (d : List Region) (np b z : ℕ) → Core v lo hi h
-    → v .oh ≤ v .ol + z
-    → ((i j : ℕ) → v .ol ≤ i → i < v .oh → j < 2 → W m b z i j ≡ word v i j)
-    → Core (record { m = m; d = d; n = np; b = b; z = z; ol = v .ol; oh = v .oh }) lo hi h
+pub core-words : {v : View} {lo hi : ℕ} {h : History} (m : List ℕ) (d : List Region) (np b z : ℕ) → Core v lo hi h
+    → v .own-hi ≤ v .own-lo + z
+    → ((i j : ℕ) → v .own-lo ≤ i → i < v .own-hi → j < 2 → cell m b z i j ≡ word v i j)
+    → Core (record { store = m; directory = d; published = np; base = b; slots = z; own-lo = v .own-lo; own-hi = v .own-hi }) lo hi h
 core-words {v} {lo} {hi} {h} m d np b z C f same =
     record {
       low = C .low;
@@ -117,55 +117,55 @@ core-words {v} {lo} {hi} {h} m d np b z C f same =
     }
   where
     go : (t : Task) → Out t h ⊎ ((i : ℕ) × (lo ≤ i) × (i < hi) × (taskAt v i ≡ t))
-        → Out t h ⊎ ((i : ℕ) × (lo ≤ i) × (i < hi) × (task (W m b z i 0) (W m b z i 1) ≡ t))
+        → Out t h ⊎ ((i : ℕ) × (lo ≤ i) × (i < hi) × (task (cell m b z i 0) (cell m b z i 1) ≡ t))
     go t (inl o) = inl o
     go t (inr (i, l, r, x)) =
         inr (i, l, r, rw (same i 0 (omega (arith, C .low)) (omega (arith, C .high)) (omega arith), same i 1 (omega (arith, C .low)) (omega (arith, C .high)) (omega arith)) x)
 
 -- a put ends: its words stand at the top of the owner's window, and the queue's window grows up to there
-pub core-put : {v : View} {lo hi : ℕ} {h : Hist} (t : Task) (a : ℕ) → Core v lo hi h → v .oh < v .ol + v .z → v .ol ≤ a → a ≤ lo
-    → taskAt v (v .oh) ≡ t
-    → Core (record { m = v .m; b = v .b; z = v .z; d = v .d; n = v .n; ol = v .ol; oh = v .oh + 1 }) a (v .oh + 1) (done t ∷ h)
+pub core-put : {v : View} {lo hi : ℕ} {h : History} (t : Task) (a : ℕ) → Core v lo hi h → v .own-hi < v .own-lo + v .slots → v .own-lo ≤ a → a ≤ lo
+    → taskAt v (v .own-hi) ≡ t
+    → Core (record { store = v .store; base = v .base; slots = v .slots; directory = v .directory; published = v .published; own-lo = v .own-lo; own-hi = v .own-hi + 1 }) a (v .own-hi + 1) (finished-put t ∷ h)
 core-put {v} {lo} {hi} {h} t a C f la ha e =
     record {
       low = la;
       mid = omega (arith, C .mid, C .high);
       high = omega arith;
       fit = omega arith;
-      whole = λ i l q. top i l (le-or-lt (v .oh) i) q;
-      outL = λ i l q. later (done t) (C .outL i l (omega arith));
+      whole = λ i l q. top i l (le-or-lt (v .own-hi) i) q;
+      outL = λ i l q. later (finished-put t) (C .outL i l (omega arith));
       outH = λ i l q. absurd (omega arith);
       all = λ t d. go t (List·Memᴰ·cases-cons d);
     }
   where
-    top : (i : ℕ) → v .ol ≤ i → (v .oh ≤ i) ⊎ (i < v .oh) → i < v .oh + 1 → List·Memᴰ (done (taskAt v i)) (done t ∷ h)
-    top i l (inl x) q = List·Memᴰ·head {x = done t} (rw (same, e))
+    top : (i : ℕ) → v .own-lo ≤ i → (v .own-hi ≤ i) ⊎ (i < v .own-hi) → i < v .own-hi + 1 → List·Memᴰ (finished-put (taskAt v i)) (finished-put t ∷ h)
+    top i l (inl x) q = List·Memᴰ·head {x = finished-put t} (rw (same, e))
       where
-        same : i ≡ v .oh
+        same : i ≡ v .own-hi
         same = omega arith
     top i l (inr x) q = List·Memᴰ·tail (C .whole i l x)
 
-    go : (t′ : Task) → (done t′ ≡ done t) ⊎ List·Memᴰ (done t′) h
-        → Out t′ (done t ∷ h) ⊎ ((i : ℕ) × (a ≤ i) × (i < v .oh + 1) × (taskAt v i ≡ t′))
-    go t′ (inl q) = inr (v .oh, omega (arith, C .mid, C .high), omega arith, e ∙ cc)
+    go : (t′ : Task) → (finished-put t′ ≡ finished-put t) ⊎ List·Memᴰ (finished-put t′) h
+        → Out t′ (finished-put t ∷ h) ⊎ ((i : ℕ) × (a ≤ i) × (i < v .own-hi + 1) × (taskAt v i ≡ t′))
+    go t′ (inl q) = inr (v .own-hi, omega (arith, C .mid, C .high), omega arith, e ∙ cc)
     go t′ (inr d) = old (C .all t′ d)
       where
         old : Out t′ h ⊎ ((i : ℕ) × (lo ≤ i) × (i < hi) × (taskAt v i ≡ t′))
-            → Out t′ (done t ∷ h) ⊎ ((i : ℕ) × (a ≤ i) × (i < v .oh + 1) × (taskAt v i ≡ t′))
-        old (inl o) = inl (later (done t) o)
+            → Out t′ (finished-put t ∷ h) ⊎ ((i : ℕ) × (a ≤ i) × (i < v .own-hi + 1) × (taskAt v i ≡ t′))
+        old (inl o) = inl (later (finished-put t) o)
         old (inr (i, l, r, x)) = inr (i, omega arith, omega (arith, C .high), x)
 
 -- an event that is no put's end
-pub core-ev : {v : View} {lo hi : ℕ} {h : Hist} (e : Ev) → NotDone e → Core v lo hi h → Core v lo hi (e ∷ h)
+pub core-ev : {v : View} {lo hi : ℕ} {h : History} (e : Event) → NotDone e → Core v lo hi h → Core v lo hi (e ∷ h)
 core-ev {v} {lo} {hi} {h} e nd C =
-    core-window e (v .ol) (v .oh) lo hi nd C (omega arith) (C .low) (C .mid) (C .high) (omega arith) (λ i p q r. absurd (none i p q r))
+    core-window e (v .own-lo) (v .own-hi) lo hi nd C (omega arith) (C .low) (C .mid) (C .high) (omega arith) (λ i p q r. absurd (none i p q r))
   where
     none : (i : ℕ) → lo ≤ i → i < hi → (i < lo) ⊎ (hi ≤ i) → ⊥
     none i p q (inl r) = omega arith
     none i p q (inr r) = omega arith
 
 -- the owner reads the window
-pub core-read : {v : View} {lo hi : ℕ} {h : Hist} → Core v lo hi h → Core (record { m = v .m; b = v .b; z = v .z; d = v .d; n = v .n; ol = lo; oh = hi }) lo hi h
+pub core-read : {v : View} {lo hi : ℕ} {h : History} → Core v lo hi h → Core (record { store = v .store; base = v .base; slots = v .slots; directory = v .directory; published = v .published; own-lo = lo; own-hi = hi }) lo hi h
 core-read {v} {lo} {hi} {h} C =
     record {
       low = omega arith;

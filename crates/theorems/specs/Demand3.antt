@@ -81,6 +81,10 @@ pub record Done (T : List Played) (b j : ℕ) (t : Task) : Type 0 where
 abbrev pub Out : List Played → ℕ → Task → Type 0
 Out T k t = At T k (HandsOut t)
 
+-- the put of task t was finished before place j
+abbrev pub FinishedBefore : List Played → ℕ → Task → Type 0
+FinishedBefore T j t = (b k : ℕ) × (k < j) × Done T b k t
+
 -- every put finished by place l was handed out before place j
 abbrev pub AllOut : List Played → ℕ → ℕ → Type 0
 AllOut T l j = (b k : ℕ) (t : Task) → Done T b k t → k ≤ l → (o : ℕ) × (o < j) × Out T o t
@@ -124,7 +128,7 @@ pub record Demand3 (W : World) (cs : List Call) : Type 0 where
   -- after the list, each finished put's task was handed out or stands whole in the queue
   pub kept : (b j : ℕ) (t : Task) → Done (played W cs) b j t → ((k : ℕ) × Out (played W cs) k t) ⊎ Stands (after W cs) t
   -- each pair handed out belongs to a put finished before it
-  pub belongs : (j : ℕ) (t : Task) → Out (played W cs) j t → (b k : ℕ) × (k < j) × Done (played W cs) b k t
+  pub belongs : (j : ℕ) (t : Task) → Out (played W cs) j t → FinishedBefore (played W cs) j t
   -- each EMPTY was answered only if every put finished by that attempt's line 1 had been handed out before that EMPTY
   pub none-left : (j i : ℕ) → At (played W cs) j (Empties i) → (l : ℕ) × Attempt (played W cs) i l j × AllOut (played W cs) l j
   -- what makes 'the put it belongs to' exact: an entry of kind 1 ends a put that was begun, and no two puts have one number

@@ -1,0 +1,203 @@
+-- Lists tried against the statement by computation: P1 breaks the premise and loses a task, P2 keeps it; and for each
+-- sentence of the claim a list past the premise that meets a weaker sentence and not this one.
+use mathlib.Core.Path.{_≡_, refl, sym, _∙_, ap, subst}
+use mathlib.Core.Bool.{Bool, true, false}
+use mathlib.Core.Logic.{_⊎_, inl, inr}
+use mathlib.Core.List.{List, [], _∷_, _++_}
+use Prim.Native.Nat.{ℕ, zero, suc, _-_, _≤_, _<_}
+use native.Mathlib.Omega.{arith}
+use native.Mathlib.Nat.{sub-zero, suc-sub-suc}
+use lib.Dec.{eqb}
+use lib.ListN.{take, drop, replicate}
+use borrow.Author.Tests.{eq-eqb}
+use Rattle.model.specs.declared.Task.{Task}
+use Rattle.model.specs.declared.Operation.the-variants.{Put, Take, Steal}
+use Rattle.model.specs.declared.Answer.{Answer}
+use Rattle.model.specs.declared.Answer.the-variants.{Accepted, Numbered, GoesOn, Finished, HandedOut, Empty, Full, Refused}
+use Rattle.model.proofs.Tests.{and-both}
+use Rattle.model.specs.Tests.{if_then_else_, _and_, _or_}
+use Rattle.model.specs.Memory.{zeros, wordAt, setWord, offsetAt, sizeAt}
+use Rattle.model.specs.Answers.{task}
+use Rattle.model.specs.Figures.{anchor}
+use Rattle.model.specs.Lines.{lineStep}
+use Rattle.model.specs.World.{World, lineAt, isLine1}
+use Rattle.model.specs.Limits.{validOf}
+use Rattle.model.specs.Calls.{freshOf, beginOf, stepOf, Call, begin, step}
+use Rattle.model.specs.Run.{Played, played, after}
+use Rattle.model.specs.Window.{windowSize}
+use Rattle.theorems.specs.Demand3.{At, Begins, Line1, Attempt, Out, AllOut, Stands, between, FewPuts, Demand3}
+use Rattle.theorems.specs.Corollaries.{Loses}
+use Rattle.theorems.proofs.Remainders.{le-or-lt}
+
+-- TESTS over places. A task is handed out nowhere
+isOut : Task → Answer → Bool
+isOut t Accepted = false
+isOut t (Numbered n) = false
+isOut t GoesOn = false
+isOut t (Finished i u) = false
+isOut t (HandedOut i u) = eqb (u .number) (t .number) and eqb (u .payload) (t .payload)
+isOut t (Empty i) = false
+isOut t (Full i u) = false
+isOut t (Refused r) = false
+
+anyOut : Task → List Played → Bool
+anyOut t [] = false
+anyOut t (s ∷ T) = isOut t (s .answer) or anyOut t T
+
+neither : (a b : Bool) → (a or b) ≡ false → (a ≡ false) × (b ≡ false)
+unfolding _or_
+neither true b e = absurd (let z : _≡_ {A = ℕ} 0 1 = cc in omega arith)
+neither false b e = (refl, e)
+
+not-both : {a : Bool} → a ≡ true → a ≡ false → ⊥
+not-both p q = let z : _≡_ {A = ℕ} 0 1 = cc in omega arith
+
+out-yes : (t : Task) (a : Answer) (i : ℕ) (u : Task) → a ≡ HandedOut i u → u .number ≡ t .number → u .payload ≡ t .payload → isOut t a ≡ true
+unfolding isOut
+out-yes t a i u e n p = ap (isOut t) e ∙ and-both _ _ (eq-eqb _ _ n) (eq-eqb _ _ p)
+
+none-out : (t : Task) (T : List Played) → anyOut t T ≡ false → (k : ℕ) → Out T k t → ⊥
+unfolding anyOut
+none-out t [] f k a = a
+none-out t (s ∷ T) f zero (i, u, e, b) = not-both (out-yes t (s .answer) i u e (b .0) (b .1)) (neither (isOut t (s .answer)) _ f .0)
+none-out t (s ∷ T) f (suc k) a = none-out t T (neither (isOut t (s .answer)) _ f .1) k a
+
+-- no call of a part is a line 1 of worker i
+isStep : ℕ → Call → Bool
+isStep i (begin j op) = false
+isStep i (step j) = eqb j i
+
+startsAttempt : ℕ → Played → Bool
+startsAttempt i s = isStep i (s .call) and isLine1 (lineAt (s .before .bench .workers) i)
+
+anyStart : ℕ → List Played → Bool
+anyStart i [] = false
+anyStart i (s ∷ T) = startsAttempt i s or anyStart i T
+
+start-yes : (i : ℕ) (s : Played) → Line1 i s → startsAttempt i s ≡ true
+unfolding startsAttempt isStep _or_
+start-yes i s (inl (c, l, n)) = and-both _ _ (ap (isStep i) c ∙ eq-eqb i i refl) (ap isLine1 l)
+start-yes i s (inr (c, l, n)) = and-both _ _ (ap (isStep i) c ∙ eq-eqb i i refl) (ap isLine1 l)
+
+none-starts : (i : ℕ) (T : List Played) → anyStart i T ≡ false → (k : ℕ) → At T k (Line1 i) → ⊥
+unfolding anyStart
+none-starts i [] f k a = a
+none-starts i (s ∷ T) f zero a = not-both (start-yes i s a) (neither (startsAttempt i s) _ f .0)
+none-starts i (s ∷ T) f (suc k) a = none-starts i T (neither (startsAttempt i s) _ f .1) k a
+
+at-drop : (T : List Played) (l k : ℕ) (P : Played → Type 0) → l ≤ k → At T k P → At (drop l T) (k - l) P
+at-drop T zero k P h a = rw (sub-zero k) a
+at-drop [] (suc l) k P h a = absurd a
+at-drop (s ∷ T) (suc l) zero P h a = absurd (omega arith)
+at-drop (s ∷ T) (suc l) (suc k) P h a = rw (suc-sub-suc k l) (at-drop T l k P (omega arith) a)
+
+at-take : (T : List Played) (n k : ℕ) (P : Played → Type 0) → k < n → At T k P → At (take n T) k P
+at-take [] n k P h a = absurd a
+at-take (s ∷ T) zero k P h a = absurd (omega arith)
+at-take (s ∷ T) (suc n) zero P h a = a
+at-take (s ∷ T) (suc n) (suc k) P h a = at-take T n k P (omega arith) a
+
+newest-by : (T : List Played) (i l j : ℕ) → anyStart i (between l j T) ≡ false → (k : ℕ) → l < k → k < j → At T k (Line1 i) → ⊥
+newest-by T i l j f k a b x =
+    none-starts i (between l j T) f (k - suc l)
+    (at-take (drop (suc l) T) (j - suc l) (k - suc l) (Line1 i) (omega arith) (at-drop T (suc l) k (Line1 i) (omega arith) x))
+
+-- THE LISTS. An operation and five of its steps; P1; its bench, with a tag of w bits and n workers
+unfoldable pub does : Call → List Call
+does (begin i op) = begin i op ∷ replicate 5 (step i)
+does (step i) = step i ∷ []
+
+unfoldable pub p1 : List Call
+p1 = does (begin 0 (Put 65)) ++ does (begin 1 Steal) ++ does (begin 0 Take) ++ does (begin 0 (Put 66)) ++ does (begin 0 Take) ++ does (begin 0 (Put 67)) ++ step 1 ∷ []
+
+unfoldable pub bench : ℕ → ℕ → World
+bench w n = freshOf 1 w 2 n (replicate 12 0) (replicate 64 0) .world
+
+-- P1: the thief's line 1 is at place 7, its compare at place 36; 2 = 2^1 puts finish between, and put 3 is lost
+pub p1-loses : Loses (bench 1 2) p1 2
+unfolding bench p1 does anyOut isOut anyStart startsAttempt isStep played after freshOf beginOf stepOf validOf lineStep zeros wordAt setWord offsetAt sizeAt if_then_else_ _and_ _or_
+p1-loses =
+    record {
+      thief = 1;
+      line1 = 7;
+      compare = 36;
+      compares = (anchor 0 1 1, 0, task 1 65, (refl, refl, λ r e. let z : _≡_ {A = ℕ} 0 1 = cc in omega arith));
+      attempt =
+          record {
+            before = omega arith;
+            line1 = inr (refl, refl, λ r e. let z : _≡_ {A = ℕ} 0 1 = cc in omega arith);
+            newest = newest-by (played (bench 1 2) p1) 1 7 36 refl;
+          };
+      puts-between = refl;
+      begun = 30;
+      finished = 35;
+      task = task 3 67;
+      done = record { begun = (refl, refl); later = omega arith; finished = (0, refl) };
+      not-handed-out = none-out (task 3 67) (played (bench 1 2) p1) refl;
+      not-standing = λ s. let z : windowSize (after (bench 1 2) p1) ≡ 0 = refl in omega (arith, s .1);
+    }
+
+pub p1-breaks-premise : FewPuts (bench 1 2) p1 → ⊥
+unfolding p1-loses bench p1 does played freshOf beginOf stepOf validOf lineStep zeros wordAt setWord offsetAt sizeAt if_then_else_ _and_ _or_
+p1-breaks-premise f = let z : 2 < 2 = f 1 7 36 (p1-loses .compares) (p1-loses .attempt) in omega arith
+
+-- P2: with a tag of 2 bits the compare fails, and put 3 stands in the window
+pub p2-stands : Stands (after (bench 2 2) p1) (task 3 67)
+unfolding bench p1 does after freshOf beginOf stepOf validOf lineStep zeros wordAt setWord offsetAt sizeAt if_then_else_ _and_ _or_
+p2-stands = (0, omega arith, refl, refl)
+
+-- thief 2 reads put 3's number before thief 1's compare loses it, and put 5's payload after two more puts
+unfoldable pub mixed : List Call
+mixed =
+    does (begin 0 (Put 65)) ++ does (begin 1 Steal) ++ does (begin 0 Take) ++ does (begin 0 (Put 66)) ++ does (begin 0 Take) ++ does (begin 0 (Put 67))
+    ++ (begin 2 Steal ∷ step 2 ∷ step 2 ∷ step 2 ∷ step 2 ∷ step 1 ∷ [])
+    ++ does (begin 0 (Put 68)) ++ does (begin 0 Take) ++ does (begin 0 (Put 69)) ++ step 2 ∷ step 2 ∷ []
+
+-- KEPT speaks of both words: number 3 is handed out at place 61, put 3's task nowhere
+pub three-out : At (played (bench 1 3) mixed) 61 (λ s. s .answer ≡ HandedOut 2 (task 3 69))
+unfolding bench mixed does played freshOf beginOf stepOf validOf lineStep zeros wordAt setWord offsetAt sizeAt if_then_else_ _and_ _or_
+three-out = refl
+
+pub not-kept : Demand3 (bench 1 3) mixed → ⊥
+unfolding bench mixed does anyOut isOut played after freshOf beginOf stepOf validOf lineStep zeros wordAt setWord offsetAt sizeAt if_then_else_ _and_ _or_
+not-kept D = go (D .kept 30 35 (task 3 67) (record { begun = (refl, refl); later = omega arith; finished = (0, refl) }))
+  where
+    go : ((k : ℕ) × Out (played (bench 1 3) mixed) k (task 3 67)) ⊎ Stands (after (bench 1 3) mixed) (task 3 67) → ⊥
+    go (inl (k, o)) = none-out (task 3 67) (played (bench 1 3) mixed) refl k o
+    go (inr s) = let z : windowSize (after (bench 1 3) mixed) ≡ 0 = refl in omega (arith, s .1)
+
+payload-is : (p q : ℕ) → begin 0 (Put p) ≡ begin 0 (Put q) → p ≡ q
+payload-is p q e = cc
+
+-- BELONGS speaks of both words: the pair 3, 69 has the number of one put and the payload of another
+pub not-belongs : Demand3 (bench 1 3) mixed → ⊥
+unfolding bench mixed does played freshOf beginOf stepOf validOf lineStep zeros wordAt setWord offsetAt sizeAt if_then_else_ _and_ _or_
+not-belongs D =
+    let F = D .belongs 61 (task 3 69) (2, task 3 69, refl, (refl, refl)) in
+    let same = D .numbers 30 (F .0) (task 3 67) (task 3 69) (refl, refl) (F .3 .begun) refl in
+    let there : At (played (bench 1 3) mixed) 30 (Begins (task 3 69)) = subst (λ (b : ℕ). At (played (bench 1 3) mixed) b (Begins (task 3 69))) (sym same) (F .3 .begun) in
+    omega (arith, payload-is 67 69 (there .0))
+
+-- EMPTY speaks of the puts finished by line 1, not of the window: after P1 the window is empty, and put 3 was not handed out
+unfoldable pub p1-take : List Call
+p1-take = p1 ++ begin 0 Take ∷ step 0 ∷ step 0 ∷ []
+
+pub not-honest : Demand3 (bench 1 2) p1-take → ⊥
+unfolding bench p1-take p1 does anyOut isOut played freshOf beginOf stepOf validOf lineStep zeros wordAt setWord offsetAt sizeAt if_then_else_ _and_ _or_
+not-honest D = go (D .none-left 39 0 refl)
+  where
+    T : List Played
+    T = played (bench 1 2) p1-take
+
+    -- the attempt's line 1 is at place 38, so put 3 was finished by it
+    first : (l : ℕ) → Attempt T 0 l 39 → 35 ≤ l
+    first l A = late (le-or-lt 38 l)
+      where
+        late : (38 ≤ l) ⊎ (l < 38) → 35 ≤ l
+        late (inl h) = omega arith
+        late (inr h) = absurd (A .newest 38 h (omega arith) (inl (refl, refl, λ r e. let z : _≡_ {A = ℕ} 0 1 = cc in omega arith)))
+
+    go : (l : ℕ) × Attempt T 0 l 39 × AllOut T l 39 → ⊥
+    go (l, A, all) =
+        let o = all 30 35 (task 3 67) (record { begun = (refl, refl); later = omega arith; finished = (0, refl) }) (first l A) in
+        none-out (task 3 67) T refl (o .0) (o .2)
