@@ -5,6 +5,7 @@ use Prim.Native.Nat.{ℕ, zero, suc, _+_, _*_, _/_}
 use lib.Dec.{eqb}
 use lib.ListN.{getD}
 use Rattle.model.specs.declared.Task.{Task}
+use Rattle.model.specs.declared.Counts.{Counts}
 use Rattle.model.specs.Tests.{if_then_else_, _and_, _or_}
 use Rattle.model.specs.Answers.{Entry, task}
 use Rattle.model.specs.World.{World}
@@ -65,14 +66,6 @@ lostOf W l n (suc j) =
     if isKind l 1 j
     then if taskOut l (taskAt l j) n or stands W (taskAt l j) (windowSize W) then lostOf W l n j else lostOf W l n j + 1
     else lostOf W l n j
-
-pub record Counts : Type 0 where
-  pub finished : ℕ
-  pub handouts : ℕ
-  pub different : ℕ
-  pub restarts : ℕ
-  pub window : ℕ
-  pub lost : ℕ
 
 abbrev pub entriesIn : World → ℕ
 entriesIn W = W .bench .written / 4

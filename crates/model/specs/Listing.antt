@@ -16,13 +16,14 @@ use Rattle.model.specs.declared.Answer.the-variants.{
   Full,
   Refused,
 }
+use Rattle.model.specs.declared.Counts.{Counts}
 use Rattle.model.specs.declared.Command.{Command}
 use Rattle.model.specs.declared.Command.the-variants.{Open, BeginPut, BeginTake, BeginSteal, Steps, End, Bad}
 use Rattle.model.specs.Tests.{if_then_else_}
 use Rattle.model.specs.Answers.{numberOf}
 use Rattle.model.specs.World.{World, Outcome}
 use Rattle.model.specs.Calls.{freshOf, beginOf, stepOf}
-use Rattle.model.specs.Counts.{Counts, countsOf}
+use Rattle.model.specs.Counts.{countsOf}
 
 -- a line of output
 pub data Print : Type 0 where

@@ -230,3 +230,13 @@ pub enum Command {
     End,
     Bad,
 }
+
+// The six counts of `T`.
+pub struct Counts {
+    pub finished: u32,
+    pub handouts: u32,
+    pub different: u32,
+    pub restarts: u32,
+    pub window: u32,
+    pub lost: u32,
+}

@@ -1,0 +1,84 @@
+-- What a line of input says.
+use Prim.Native.Nat.{ℕ, _≤_}
+use mathlib.Core.Bool.{Bool, true, false}
+use mathlib.Core.List.{List, [], _∷_, _++_}
+use lib.ListN.{length, getD}
+use Rattle.text.specs.Quoted.{bytes}
+use lib.Dec.{leb, eqb}
+use Rattle.model.specs.Tests.{_and_, if_then_else_}
+use Rattle.text.specs.Same.{same}
+use Rattle.text.specs.Numbers.{valueOf, spacedOf}
+use Rattle.text.specs.Words.{words, head, tail}
+use Rattle.text.specs.declared.Value.{Value}
+use Rattle.text.specs.declared.Value.the-variants.{No, Of}
+use Rattle.text.specs.declared.Key as key
+use Rattle.text.specs.declared.Key.{Key}
+use Rattle.model.specs.declared.Command.the-variants.{Bad, BeginPut, BeginSteal, BeginTake, End, Open, Steps}
+use Rattle.model.specs.declared.Command.{Command}
+
+-- the word that a line begins with: queue, put, take, steal, step or end
+unfoldable pub keyOf : List ℕ → Key
+keyOf w =
+    if same w (bytes "queue") then key.the-variants.Queue else
+    (if same w (bytes "put") then key.the-variants.Put else
+    (if same w (bytes "take") then key.the-variants.Take else
+    (if same w (bytes "steal") then key.the-variants.Steal else
+    (if same w (bytes "step") then key.the-variants.Step else
+    (if same w (bytes "end") then key.the-variants.End else key.the-variants.Other)))))
+
+-- the words after it: a list of numbers, or not
+pub data Values : Type 0 where
+  wrong : Values
+  these : List ℕ → Values
+
+unfoldable pub joined : Value → Values → Values
+joined No vs = wrong
+joined (Of x) wrong = wrong
+joined (Of x) (these v) = these (x ∷ v)
+
+unfoldable pub values : List (List ℕ) → Values
+values [] = these []
+values (w ∷ ws) = joined (valueOf w) (values ws)
+
+-- the keyword with as many numbers as it takes, those with a range within it
+unfoldable pub formed : Key → List ℕ → Command
+formed key.the-variants.Other v = Bad
+formed key.the-variants.Queue v =
+    if eqb (length v) 5 and leb (getD v 4 0) 4094
+    then Open (getD v 0 0) (getD v 1 0) (getD v 2 0) (getD v 3 0) (getD v 4 0)
+    else Bad
+formed key.the-variants.Put v = if eqb (length v) 1 then BeginPut (getD v 0 0) else Bad
+formed key.the-variants.Take v = if eqb (length v) 0 then BeginTake else Bad
+formed key.the-variants.Steal v = if eqb (length v) 1 then BeginSteal (getD v 0 0) else Bad
+formed key.the-variants.Step v =
+    if eqb (length v) 2 and leb (getD v 1 0) 65535
+    then Steps (getD v 0 0) (getD v 1 0)
+    else Bad
+formed key.the-variants.End v = if eqb (length v) 0 then End else Bad
+
+unfoldable pub formedOf : Key → Values → Command
+formedOf k wrong = Bad
+formedOf k (these v) = formed k v
+
+unfoldable pub commandOf : List ℕ → Command
+commandOf line = formedOf (keyOf (head (words line))) (values (tail (words line)))
+
+-- the line that says it
+unfoldable pub textOf : Command → List ℕ
+textOf Bad = []
+textOf (Open k w c n s) = bytes "queue" ++ spacedOf (k ∷ w ∷ c ∷ n ∷ s ∷ [])
+textOf (BeginPut p) = bytes "put" ++ spacedOf (p ∷ [])
+textOf BeginTake = bytes "take"
+textOf (BeginSteal i) = bytes "steal" ++ spacedOf (i ∷ [])
+textOf (Steps i m) = bytes "step" ++ spacedOf (i ∷ m ∷ [])
+textOf End = bytes "end"
+
+-- its values are within their ranges
+abbrev pub InRange : Command → Type 0
+InRange Bad = Unit {0}
+InRange (Open k w c n s) = (k ≤ 4294967295) × (w ≤ 4294967295) × (c ≤ 4294967295) × (n ≤ 4294967295) × (s ≤ 4094)
+InRange (BeginPut p) = p ≤ 4294967295
+InRange BeginTake = Unit {0}
+InRange (BeginSteal i) = i ≤ 4294967295
+InRange (Steps i m) = (i ≤ 4294967295) × (m ≤ 65535)
+InRange End = Unit {0}
