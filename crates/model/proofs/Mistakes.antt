@@ -9,7 +9,7 @@ use Rattle.model.specs.Lines.{lineStep}
 use Rattle.model.specs.Limits.{validOf}
 use Rattle.model.specs.Calls.{freshOf, beginOf, stepOf}
 use Rattle.model.specs.Run.{played}
-use Rattle.model.specs.Counts.{entriesOf, numberOut, differentOut, taskOut, stands, lostOf, countsOf}
+use Rattle.model.specs.Counts.{someBelow, countBelow, countsOf}
 use Rattle.model.specs.Listing.{D, H, E, F, R, T, stepsOf, respond, listingFrom}
 use Rattle.model.proofs.Runs.{Row, lines, prints, _shows_, show}
 
@@ -69,5 +69,5 @@ mistakes =
     ∷ []
 
 pub mistakes-shut-out : map (λ r. show (r .run)) mistakes ≡ map (λ r. r .shown) mistakes
-unfolding show played listingFrom respond stepsOf countsOf entriesOf numberOut differentOut taskOut stands lostOf freshOf beginOf stepOf validOf lineStep zeros wordAt setWord offsetAt sizeAt if_then_else_ _and_ _or_
+unfolding show played listingFrom respond stepsOf countsOf someBelow countBelow freshOf beginOf stepOf validOf lineStep zeros wordAt setWord offsetAt sizeAt if_then_else_ _and_ _or_
 mistakes-shut-out = refl

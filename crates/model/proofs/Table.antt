@@ -15,7 +15,7 @@ use Rattle.model.specs.Lines.{lineStep}
 use Rattle.model.specs.Limits.{validOf}
 use Rattle.model.specs.Calls.{freshOf, beginOf, stepOf, begin, step}
 use Rattle.model.specs.Run.{played}
-use Rattle.model.specs.Counts.{entriesOf, numberOut, differentOut, taskOut, stands, lostOf, countsOf}
+use Rattle.model.specs.Counts.{someBelow, countBelow, countsOf}
 use Rattle.model.specs.Listing.{D, H, F, R, T, stepsOf, respond, listingFrom}
 use Rattle.model.proofs.Runs.{Row, lines, calls, prints, answers, _shows_, show}
 
@@ -64,5 +64,5 @@ table =
     ∷ []
 
 pub p1-to-p9 : map (λ r. show (r .run)) table ≡ map (λ r. r .shown) table
-unfolding show played listingFrom respond stepsOf countsOf entriesOf numberOut differentOut taskOut stands lostOf freshOf beginOf stepOf validOf lineStep zeros wordAt setWord offsetAt sizeAt if_then_else_ _and_ _or_
+unfolding show played listingFrom respond stepsOf countsOf someBelow countBelow freshOf beginOf stepOf validOf lineStep zeros wordAt setWord offsetAt sizeAt if_then_else_ _and_ _or_
 p1-to-p9 = refl

@@ -1,5 +1,5 @@
 -- The six counts of `T`, from the log, the store and the state. A log of n entries has entry j at its words 4j to 4j+3.
-use mathlib.Core.Bool.{Bool, true, false}
+use mathlib.Core.Bool.{Bool, false, not}
 use mathlib.Core.List.{List}
 use Prim.Native.Nat.{ℕ, zero, suc, _+_, _*_, _/_}
 use lib.Dec.{eqb}
@@ -31,41 +31,35 @@ isKind l k j = eqb (entryAt l j .kind) k
 abbrev pub sameTask : Task → Task → Bool
 sameTask t u = eqb (t .number) (u .number) and eqb (t .payload) (u .payload)
 
--- how many of the first n entries have kind k: 1 are finished puts, 2 hand-outs
-unfoldable pub entriesOf : List ℕ → ℕ → ℕ → ℕ
-entriesOf l k zero = 0
-entriesOf l k (suc j) = if isKind l k j then entriesOf l k j + 1 else entriesOf l k j
+-- one of 0 to n-1 passes the test; how many do
+unfoldable pub someBelow : (ℕ → Bool) → ℕ → Bool
+someBelow p zero = false
+someBelow p (suc j) = p j or someBelow p j
 
--- put number x was handed out by one of the first n entries
-unfoldable pub numberOut : List ℕ → ℕ → ℕ → Bool
-numberOut l x zero = false
-numberOut l x (suc j) = isKind l 2 j and eqb (entryAt l j .number) x or numberOut l x j
+unfoldable pub countBelow : (ℕ → Bool) → ℕ → ℕ
+countBelow p zero = 0
+countBelow p (suc j) = if p j then countBelow p j + 1 else countBelow p j
 
--- how many different put numbers the first n entries handed out
-unfoldable pub differentOut : List ℕ → ℕ → ℕ
-differentOut l zero = 0
-differentOut l (suc j) =
-    if isKind l 2 j
-    then if numberOut l (entryAt l j .number) j then differentOut l j else differentOut l j + 1
-    else differentOut l j
+-- entry j hands out put number x; hands out the task, both words of it
+abbrev pub outAs : List ℕ → ℕ → ℕ → Bool
+outAs l x j = isKind l 2 j and eqb (entryAt l j .number) x
 
--- the task was handed out, both words of it, by one of the first n entries
-unfoldable pub taskOut : List ℕ → Task → ℕ → Bool
-taskOut l t zero = false
-taskOut l t (suc j) = isKind l 2 j and sameTask (taskAt l j) t or taskOut l t j
+abbrev pub outWhole : List ℕ → Task → ℕ → Bool
+outWhole l t j = isKind l 2 j and sameTask (taskAt l j) t
 
--- the task stands whole in one of the first n slots of the window
-unfoldable pub stands : World → Task → ℕ → Bool
-stands W t zero = false
-stands W t (suc i) = sameTask (task (windowWord W i 0) (windowWord W i 1)) t or stands W t i
+-- entry j hands out a put number that no entry before it does
+abbrev pub outFirst : List ℕ → ℕ → Bool
+outFirst l j = isKind l 2 j and not (someBelow (outAs l (entryAt l j .number)) j)
 
--- how many of the first j entries are finished puts that no entry handed out and no slot of the window holds
-unfoldable pub lostOf : World → List ℕ → ℕ → ℕ → ℕ
-lostOf W l n zero = 0
-lostOf W l n (suc j) =
-    if isKind l 1 j
-    then if taskOut l (taskAt l j) n or stands W (taskAt l j) (windowSize W) then lostOf W l n j else lostOf W l n j + 1
-    else lostOf W l n j
+-- the i-th task of the window is this one
+abbrev pub standsAt : World → Task → ℕ → Bool
+standsAt W t i = sameTask (task (windowWord W i 0) (windowWord W i 1)) t
+
+-- of n entries, entry j is a finished put that none hands out and no slot of the window holds
+abbrev pub isLost : World → ℕ → ℕ → Bool
+isLost W n j =
+    isKind (W .log) 1 j
+    and not (someBelow (outWhole (W .log) (taskAt (W .log) j)) n or someBelow (standsAt W (taskAt (W .log) j)) (windowSize W))
 
 abbrev pub entriesIn : World → ℕ
 entriesIn W = W .bench .written / 4
@@ -73,10 +67,10 @@ entriesIn W = W .bench .written / 4
 unfoldable pub countsOf : World → Counts
 countsOf W =
     record {
-      finished = entriesOf (W .log) 1 (entriesIn W);
-      handouts = entriesOf (W .log) 2 (entriesIn W);
-      different = differentOut (W .log) (entriesIn W);
+      finished = countBelow (isKind (W .log) 1) (entriesIn W);
+      handouts = countBelow (isKind (W .log) 2) (entriesIn W);
+      different = countBelow (outFirst (W .log)) (entriesIn W);
       restarts = W .bench .restarts;
       window = windowSize W;
-      lost = lostOf W (W .log) (entriesIn W) (entriesIn W);
+      lost = countBelow (isLost W (entriesIn W)) (entriesIn W);
     }

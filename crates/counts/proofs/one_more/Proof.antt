@@ -1,0 +1,20 @@
+use borrow.Author.Needs.{needs}
+use Rattle.counts.proofs.one_more.Statement.{statement}
+use Rattle.counts.proofs.one_more.Tie as tie
+use Rattle.counts.proofs.one_more.Reads as reads
+use Rattle.counts.proofs.one_more.Lts as lts
+
+-- src/lib.rt:51:16
+add-result : tie.Need-add-result
+add-result c = search needs
+
+-- src/lib.rt:51:9
+returns : tie.Need-returns
+returns c = ?
+
+-- src/lib.rt:46:1
+returns-2 : tie.Need-returns-2
+returns-2 c = ?
+
+pub one-more-spec : {M : Type 1} → statement M
+one-more-spec = tie.close (tie.spec add-result returns returns-2)
