@@ -108,13 +108,14 @@ fn out_as(log: &[u32], number: u32, entry: u32) -> bool
 fn number_out(log: &[u32], number: u32, n: u32) -> bool
     ensures { λ r. ⌜ r ≡ someBelow (outAs (now (log .entry)) number) n ⌝ }
 {
-    let mut j: u32 = 0;
-    while j < n {
-        let hit = out_as(log, number, j);
+    let mut j = n;
+    while 0 < j {
+        let k = j - 1;
+        let hit = out_as(log, number, k);
         if hit {
             return true;
         }
-        j += 1;
+        j = k;
     }
     false
 }
@@ -160,13 +161,14 @@ fn out_whole(log: &[u32], task: Task, entry: u32) -> bool
 fn task_out(log: &[u32], task: Task, n: u32) -> bool
     ensures { λ r. ⌜ r ≡ someBelow (outWhole (now (log .entry)) task) n ⌝ }
 {
-    let mut j: u32 = 0;
-    while j < n {
-        let hit = out_whole(log, task, j);
+    let mut j = n;
+    while 0 < j {
+        let k = j - 1;
+        let hit = out_whole(log, task, k);
         if hit {
             return true;
         }
-        j += 1;
+        j = k;
     }
     false
 }

@@ -58,9 +58,9 @@ isRefused (Refused r) = true
 abbrev pub totals : Counts → Print
 totals c = T (c .finished) (c .handouts) (c .different) (c .restarts) (c .window) (c .lost)
 
--- where the program stands: no queue accepted yet, a bench being played, `end` done
+-- where the program stands: no queue accepted yet, with its store and log; a bench being played; `end` done
 pub data Program : Type 0 where
-  waiting : Program
+  waiting : List ℕ → List ℕ → Program
   playing : World → Program
   ended : Program
 
@@ -72,17 +72,9 @@ pub record Reply : Type 0 where
 abbrev pub reply : Program → List Print → Reply
 reply s o = record { program = s; output = o }
 
--- the program's store of 4,094 words, all zero at the start, and its log of 4,096 entries
-abbrev pub programStore : List ℕ
-programStore = replicate 4094 0
-
-abbrev pub programLog : List ℕ
-programLog = replicate 16384 0
-
--- a refused `queue` leaves the program waiting
-abbrev pub opened : Outcome → Reply
-opened d =
-    if isRefused (d .answer) then reply waiting (printed (d .answer)) else reply (playing (d .world)) (printed (d .answer))
+-- `queue`: a bench on the first s words of the store m and on the log l; refused, it leaves the program waiting
+abbrev pub opened : Program → Outcome → Reply
+opened P d = reply (if isRefused (d .answer) then P else playing (d .world)) (printed (d .answer))
 
 abbrev pub told : Outcome → Reply
 told d = reply (playing (d .world)) (printed (d .answer))
@@ -99,13 +91,13 @@ abbrev pub bad : Program → Reply
 bad s = reply s (R (numberOf BadLine) ∷ [])
 
 unfoldable pub respond : Program → Command → Reply
-respond waiting (Open k w c n s) = opened (freshOf k w c n (take s programStore) programLog)
-respond waiting (BeginPut p) = bad waiting
-respond waiting BeginTake = bad waiting
-respond waiting (BeginSteal i) = bad waiting
-respond waiting (Steps i m) = bad waiting
-respond waiting End = bad waiting
-respond waiting Bad = bad waiting
+respond (waiting m l) (Open k w c n s) = opened (waiting m l) (freshOf k w c n (take s m) l)
+respond (waiting m l) (BeginPut p) = bad (waiting m l)
+respond (waiting m l) BeginTake = bad (waiting m l)
+respond (waiting m l) (BeginSteal i) = bad (waiting m l)
+respond (waiting m l) (Steps i n) = bad (waiting m l)
+respond (waiting m l) End = bad (waiting m l)
+respond (waiting m l) Bad = bad (waiting m l)
 respond (playing W) (Open k w c n s) = bad (playing W)
 respond (playing W) (BeginPut p) = told (beginOf W 0 (Put p))
 respond (playing W) BeginTake = told (beginOf W 0 Take)
@@ -126,5 +118,12 @@ unfoldable pub listingFrom : Program → List Command → List Print
 listingFrom s [] = []
 listingFrom s (c ∷ cs) = let r = respond s c in r .output ++ listingFrom (r .program) cs
 
+-- the program's store of 4,094 words, all zero at the start, and its log of 4,096 entries
+abbrev pub programStore : List ℕ
+programStore = replicate 4094 0
+
+abbrev pub programLog : List ℕ
+programLog = replicate 16384 0
+
 abbrev pub listing : List Command → List Print
-listing cs = listingFrom waiting cs
+listing cs = listingFrom (waiting programStore programLog) cs

@@ -1,3 +1,8 @@
+use Rattle.model.specs.Counts.{isKind, countBelow}
+use Prim.Native.Nat.{_≤_, _-_}
+use mathlib.Core.Path.{_≡_, sym, _∙_}
+use native.Mathlib.Omega.{arith}
+use Rattle.counts.proofs.Below.{count-none, count-next, count-le}
 use Rattle.counts.proofs.entries_of.Statement.{statement}
 use Rattle.counts.proofs.entries_of.Tie as tie
 use Rattle.counts.proofs.entries_of.Reads as reads
@@ -6,36 +11,29 @@ use Rattle.counts.proofs.is_kind.Reads as is-kind-reads
 use Rattle.counts.proofs.one_more.Reads as one-more-reads
 
 abbrev Inv-loop : tie.InvT-loop
-Inv-loop log kind n count₀ j₀ count j = ?
+Inv-loop log kind n count₀ j₀ count j = (j ≤ n) × (count ≡ countBelow (isKind log kind) j)
 
 abbrev μ-loop : tie.MeasureT-loop
-μ-loop log kind n count₀ j₀ count j = ?
+μ-loop log kind n count₀ j₀ count j = n - j
 
--- src/lib.rt:89:5
 loop-holds : tie.Need-loop-holds Inv-loop μ-loop
-loop-holds c = ?
+loop-holds c = (omega arith, sym (count-none _))
 
--- src/lib.rt:90:13
 is-kind-requires : tie.Need-is-kind-requires Inv-loop μ-loop
 is-kind-requires c κs = ?
 
--- src/lib.rt:91:9
 one-more-requires : tie.Need-one-more-requires Inv-loop μ-loop
-one-more-requires c κs = ?
+one-more-requires c κs = omega (arith, count-le (isKind _ _) _)
 
--- src/lib.rt:92:9
 add-j : tie.Need-add-j Inv-loop μ-loop
-add-j c = ?
+add-j c = omega arith
 
--- src/lib.rt:89:5
 loop-less : tie.Need-loop-less Inv-loop μ-loop
-loop-less c = ?
+loop-less c = omega arith
 
--- src/lib.rt:89:5
 loop-again : tie.Need-loop-again Inv-loop μ-loop
 loop-again c = ?
 
--- src/lib.rt:84:1
 returns : tie.Need-returns Inv-loop μ-loop
 returns c = ?
 

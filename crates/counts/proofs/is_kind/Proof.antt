@@ -15,7 +15,7 @@ word-at-requires c κs = search needs
 
 -- src/lib.rt:57:1
 returns : tie.Need-returns
-returns c = ?
+returns c = simp (c .word-at .ensures)
 
 pub is-kind-spec : {M : Type 1} → statement M
 is-kind-spec = tie.close (tie.spec mul-word-at word-at-requires returns)

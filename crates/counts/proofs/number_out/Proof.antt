@@ -14,17 +14,17 @@ abbrev μ-loop : tie.MeasureT-loop
 loop-holds : tie.Need-loop-holds Inv-loop μ-loop
 loop-holds c = ?
 
--- src/lib.rt:113:13
+-- src/lib.rt:113:17
+sub-k : tie.Need-sub-k Inv-loop μ-loop
+sub-k c = ?
+
+-- src/lib.rt:114:13
 out-as-requires : tie.Need-out-as-requires Inv-loop μ-loop
 out-as-requires c κs = ?
 
--- src/lib.rt:115:13
+-- src/lib.rt:116:13
 returns : tie.Need-returns Inv-loop μ-loop
 returns c = ?
-
--- src/lib.rt:117:9
-add-j : tie.Need-add-j Inv-loop μ-loop
-add-j c = ?
 
 -- src/lib.rt:112:5
 loop-less : tie.Need-loop-less Inv-loop μ-loop
@@ -45,9 +45,9 @@ number-out-spec =
     Inv-loop
     μ-loop
     loop-holds
+    sub-k
     out-as-requires
     returns
-    add-j
     loop-less
     loop-again
     returns-2)

@@ -1,3 +1,4 @@
+use Rattle.model.specs.Tests.{_and_}
 use borrow.Author.Needs.{needs}
 use Rattle.counts.proofs.out_as.Statement.{statement}
 use Rattle.counts.proofs.out_as.Tie as tie
@@ -16,11 +17,13 @@ task-at-requires c κs = search needs
 
 -- src/lib.rt:98:1
 returns : tie.Need-returns
-returns c = ?
+unfolding _and_
+returns c = simp (c .before .before .before .is-kind .ensures, c .before .before .task-at .ensures, c .if1 .taken)
 
 -- src/lib.rt:98:1
 returns-2 : tie.Need-returns-2
-returns-2 c = ?
+unfolding _and_
+returns-2 c = simp (c .before .before .before .is-kind .ensures, c .before .before .task-at .ensures, c .if1 .left)
 
 pub out-as-spec : {M : Type 1} → statement M
 out-as-spec = tie.close (tie.spec is-kind-requires task-at-requires returns returns-2)

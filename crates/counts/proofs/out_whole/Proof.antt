@@ -1,3 +1,4 @@
+use Rattle.model.specs.Tests.{_and_}
 use borrow.Author.Needs.{needs}
 use Rattle.counts.proofs.out_whole.Statement.{statement}
 use Rattle.counts.proofs.out_whole.Tie as tie
@@ -21,11 +22,13 @@ same-task-requires c κs = search needs
 
 -- src/lib.rt:150:1
 returns : tie.Need-returns
-returns c = ?
+unfolding _and_
+returns c = simp (c .before .before .before .is-kind .ensures, c .before .before .task-at .ensures, c .before .same-task .ensures, c .if1 .taken)
 
 -- src/lib.rt:150:1
 returns-2 : tie.Need-returns-2
-returns-2 c = ?
+unfolding _and_
+returns-2 c = simp (c .before .before .before .is-kind .ensures, c .before .before .task-at .ensures, c .before .same-task .ensures, c .if1 .left)
 
 pub out-whole-spec : {M : Type 1} → statement M
 out-whole-spec =

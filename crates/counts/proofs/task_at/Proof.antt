@@ -31,7 +31,7 @@ word-at-requires-2 c κs = search needs
 
 -- src/lib.rt:66:1
 returns : tie.Need-returns
-returns c = ?
+returns c = simp (c .before .word-at .ensures, c .word-at2 .ensures)
 
 pub task-at-spec : {M : Type 1} → statement M
 task-at-spec =
