@@ -99,13 +99,10 @@ impl Account {
                 standing[number as usize] = true;
             }
         }
-        let mut lost = 0;
-        for number in 1..=self.last_begun as usize {
-            let put = &self.puts[number];
-            if put.finished && !put.task_seen && !standing[number] {
-                lost += 1;
-            }
-        }
+        let lost = self.puts.iter().zip(&standing).filter(|(put, &standing)| {
+            put.finished && !put.task_seen && !standing
+        });
+        let lost = lost.count() as u32;
         [self.finished, self.hand_outs, self.different, self.restarts, tasks, lost]
     }
 }

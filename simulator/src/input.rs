@@ -120,7 +120,7 @@ mod tests {
     #[test]
     fn a_long_line_stays_too_long_and_the_next_one_is_whole() {
         let mut text = b"put 1".to_vec();
-        text.extend(std::iter::repeat(b' ').take(1000));
+        text.extend(std::iter::repeat_n(b' ', 1000));
         text.extend(b"\nend\n");
         for chunk in [1, 3, 64, 65, 1000] {
             let found = lines(&text, chunk);

@@ -11,16 +11,21 @@
 //! - [`account`]: the log's room and the six counts of `T`;
 //! - [`text`]: what a line of the input says; [`input`]: where it ends;
 //! - [`play`]: the program's rules, the refusals and their order;
-//! - [`witness`], [`judge`]: demand 3, judged from the history of the calls.
+//! - [`witness`], [`judge`]: demand 3, judged from the history of the calls;
+//! - [`random`], [`script`], [`episodes`], [`damage`]: long random runs by seed.
 
 pub mod account;
+pub mod damage;
 pub mod double_ended;
+pub mod episodes;
 pub mod fifo;
 pub mod input;
 pub mod judge;
 pub mod lifo;
 pub mod outcome;
 pub mod play;
+pub mod random;
+pub mod script;
 pub mod store;
 pub mod text;
 pub mod witness;
