@@ -49,6 +49,11 @@ impl Account {
         self.entries < ENTRIES
     }
 
+    /// How many more entries the log can take.
+    pub fn entries_left(&self) -> u32 {
+        ENTRIES - self.entries
+    }
+
     /// The number of the put that begins now, if there is one left.
     pub fn begin_put(&mut self, payload: u32) -> Option<u32> {
         if self.last_begun == LAST_NUMBER {
@@ -124,8 +129,10 @@ mod tests {
             account.other_entry();
         }
         assert!(account.room());
+        assert_eq!(account.entries_left(), 1);
         account.other_entry();
         assert!(!account.room());
+        assert_eq!(account.entries_left(), 0);
     }
 
     #[test]

@@ -165,11 +165,17 @@ pub fn tag_comes_round(script: &mut Script) {
             return;
         }
         script.say(&format!("steal {thief}"));
-        if script.random.chance(65) {
-            script.step_until(thief, 20, |place| matches!(place, Place::Last | Place::Idle));
-        } else {
-            let count = script.random.between(1, 6);
-            script.step_until(thief, count, |place| matches!(place, Place::Last | Place::Idle));
+        match script.random.below(10) {
+            0..=4 => {
+                script.step_until(thief, 20, |place| matches!(place, Place::Last | Place::Idle));
+            }
+            5..=7 => {
+                script.step_until(thief, 20, |place| matches!(place, Place::Noted | Place::Idle));
+            }
+            _ => {
+                let count = script.random.between(1, 5);
+                script.step_until(thief, count, |place| matches!(place, Place::Last | Place::Idle));
+            }
         }
         waiting.push(thief);
     }
@@ -179,15 +185,27 @@ pub fn tag_comes_round(script: &mut Script) {
         8 => round + 1,
         _ => 2 * round,
     };
-    for _ in 0..puts {
-        // Something must go before each put, or the anchor would not return.
-        match other_thief(script, &waiting) {
-            Some(thief) if script.random.chance(25) && script.shape.kind == 1 => {
-                whole_steal(script, thief);
+    let mut left = puts;
+    while left > 0 {
+        // As much must go as comes, or the anchor would not return. Now and
+        // then a put comes first, so that the array can grow on the way.
+        let mut to_go = 1;
+        if left > 1 && script.random.chance(20) {
+            if !whole_put(script) {
+                return;
             }
-            _ => {
-                if !whole_take(script) {
-                    return;
+            left -= 1;
+            to_go = 2;
+        }
+        for _ in 0..to_go {
+            match other_thief(script, &waiting) {
+                Some(thief) if script.random.chance(25) && script.shape.kind == 1 => {
+                    whole_steal(script, thief);
+                }
+                _ => {
+                    if !whole_take(script) {
+                        return;
+                    }
                 }
             }
         }
@@ -195,14 +213,15 @@ pub fn tag_comes_round(script: &mut Script) {
             return;
         }
         script.put();
-        // A waiting thief that has not read both words yet may read one while
-        // the put has written only one.
-        if script.random.chance(30) {
-            script.step(0, 3);
+        left -= 1;
+        // A waiting thief that has not read both words yet may read one or both
+        // while the put has written only one.
+        let pause = if left == 0 { 50 } else { 15 };
+        if script.random.chance(pause) {
+            script.step(0, if script.shape.kind == 2 { 4 } else { 3 });
             for &thief in &waiting {
-                if !matches!(script.place(thief), Place::Last | Place::Idle) {
-                    script.step(thief, 1);
-                }
+                let count = script.random.between(1, 2);
+                script.step_until(thief, count, |place| matches!(place, Place::Last | Place::Idle));
             }
         }
         if !script.finish(0) {
@@ -355,6 +374,15 @@ pub fn damaged(script: &mut Script) {
         if script.ended() {
             return;
         }
+    }
+}
+
+/// Takes on an empty queue until the log has only `left` entries left.
+pub fn fill_log(script: &mut Script, left: u32) {
+    let until_empty = if script.shape.kind == 2 { 3 } else { 2 };
+    while script.entries_left() > left {
+        script.say("take");
+        script.step(0, until_empty);
     }
 }
 

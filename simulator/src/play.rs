@@ -53,9 +53,9 @@ impl<W: Witness> Player<W> {
         Some(with_queue!(&bench.queue, machine => machine.place(worker as usize)))
     }
 
-    /// Whether the log can take one more entry.
-    pub fn log_has_room(&self) -> bool {
-        self.account.room()
+    /// How many more entries the log can take.
+    pub fn entries_left(&self) -> u32 {
+        self.account.entries_left()
     }
 
     /// Plays one line, its newline taken off, and puts what it prints behind

@@ -50,8 +50,9 @@ impl Script {
         self.ended
     }
 
-    pub fn log_has_room(&self) -> bool {
-        self.player.log_has_room()
+    /// How many more entries the log can take.
+    pub fn entries_left(&self) -> u32 {
+        self.player.entries_left()
     }
 
     pub fn place(&self, worker: u32) -> Place {

@@ -45,6 +45,8 @@ enum Style {
     Damage,
     /// Goes on until the log is full, and then some.
     LogFull,
+    /// The same, with most of the log filled by EMPTY beforehand.
+    LogSoonFull,
     /// The double-ended head counts up to 2,048, which takes the whole log.
     HeadRound,
 }
@@ -53,9 +55,10 @@ fn run(seed: u64, steps: Option<u64>) -> Vec<u8> {
     let mut random = Random::new(seed);
     let style = match random.below(64) {
         0 => Style::HeadRound,
-        1..=3 => Style::LogFull,
-        4..=9 => Style::Uniform,
-        10..=14 => Style::Bursts,
+        1 | 2 => Style::LogFull,
+        3..=6 => Style::LogSoonFull,
+        7..=10 => Style::Uniform,
+        11..=14 => Style::Bursts,
         15..=23 => Style::Pauses,
         24..=35 => Style::Tags,
         36..=44 => Style::Growth,
@@ -76,12 +79,16 @@ fn run(seed: u64, steps: Option<u64>) -> Vec<u8> {
     let Shape { kind, width, size, crew, words } = shape;
     script.say(&format!("queue {kind} {width} {size} {crew} {words}"));
 
+    if style == Style::LogSoonFull {
+        let left = script.random.between(5, 150);
+        act::fill_log(&mut script, left);
+    }
     let early = script.random.chance(3);
     let steps = if early { steps / 8 } else { steps };
     while !script.ended() && !over(&script, style, steps) {
         episode(&mut script, style);
     }
-    if style == Style::LogFull || style == Style::HeadRound {
+    if until_full(style) {
         for _ in 0..20 {
             episode(&mut script, Style::Mixed);
         }
@@ -90,10 +97,15 @@ fn run(seed: u64, steps: Option<u64>) -> Vec<u8> {
     script.into_text()
 }
 
+fn until_full(style: Style) -> bool {
+    matches!(style, Style::LogFull | Style::LogSoonFull | Style::HeadRound)
+}
+
 fn over(script: &Script, style: Style, steps: u64) -> bool {
-    match style {
-        Style::LogFull | Style::HeadRound => !script.log_has_room(),
-        _ => script.steps() >= steps,
+    if until_full(style) {
+        script.entries_left() == 0
+    } else {
+        script.steps() >= steps
     }
 }
 
