@@ -237,6 +237,11 @@ impl DoubleEnded {
         (h..h + s).map(move |i| (self.store.number(array, i), self.store.payload(array, i)))
     }
 
+    /// Whether the next put, left alone, would have to expand.
+    pub fn full(&self) -> bool {
+        self.anchor.s == self.store.size()
+    }
+
     pub fn place(&self, worker: usize) -> Place {
         match self.workers[worker].counter {
             Counter::Idle => Place::Idle,

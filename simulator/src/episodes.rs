@@ -155,7 +155,16 @@ pub fn tag_comes_round(script: &mut Script) {
     if !whole_put(script) {
         return;
     }
-    if script.random.chance(40) {
+    // From a full array the array grows on the way, and a thief that noted the
+    // old one reads words there that the new one has no more.
+    let growing = script.random.chance(40);
+    if growing {
+        for _ in 0..64 {
+            if script.full() || !whole_put(script) {
+                break;
+            }
+        }
+    } else if script.random.chance(40) {
         whole_put(script);
     }
     let mut waiting = Vec::new();
@@ -190,7 +199,7 @@ pub fn tag_comes_round(script: &mut Script) {
         // As much must go as comes, or the anchor would not return. Now and
         // then a put comes first, so that the array can grow on the way.
         let mut to_go = 1;
-        if left > 1 && script.random.chance(20) {
+        if left > 1 && (growing && left == puts || script.random.chance(20)) {
             if !whole_put(script) {
                 return;
             }

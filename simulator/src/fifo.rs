@@ -315,6 +315,11 @@ impl Fifo {
             .map(move |i| (self.store.number(array, i), self.store.payload(array, i)))
     }
 
+    /// Whether the next put, left alone, would have to expand.
+    pub fn full(&self) -> bool {
+        self.tail == self.head + self.store.size()
+    }
+
     pub fn place(&self, worker: usize) -> Place {
         if worker > 0 {
             return match self.thieves[worker].line {

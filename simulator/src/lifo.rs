@@ -291,6 +291,11 @@ impl Lifo {
         (0..self.t).map(move |i| (self.store.number(array, i), self.store.payload(array, i)))
     }
 
+    /// Whether the next put, left alone, would have to expand.
+    pub fn full(&self) -> bool {
+        self.t == self.store.size()
+    }
+
     pub fn place(&self, worker: usize) -> Place {
         if worker == 0 {
             return match self.owner.at {

@@ -53,6 +53,11 @@ impl<W: Witness> Player<W> {
         Some(with_queue!(&bench.queue, machine => machine.place(worker as usize)))
     }
 
+    /// Whether the current array is full.
+    pub fn full(&self) -> bool {
+        self.bench.as_ref().is_some_and(|bench| with_queue!(&bench.queue, machine => machine.full()))
+    }
+
     /// How many more entries the log can take.
     pub fn entries_left(&self) -> u32 {
         self.account.entries_left()

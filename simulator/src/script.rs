@@ -50,6 +50,11 @@ impl Script {
         self.ended
     }
 
+    /// Whether the current array is full.
+    pub fn full(&self) -> bool {
+        self.player.full()
+    }
+
     /// How many more entries the log can take.
     pub fn entries_left(&self) -> u32 {
         self.player.entries_left()

@@ -89,7 +89,8 @@ fn run(seed: u64, steps: Option<u64>) -> Vec<u8> {
         episode(&mut script, style);
     }
     if until_full(style) {
-        for _ in 0..20 {
+        for _ in 0..10 {
+            episode(&mut script, Style::Uniform);
             episode(&mut script, Style::Mixed);
         }
     }
@@ -210,6 +211,8 @@ fn episode(script: &mut Script, style: Style) {
     let draw = script.random.below(100);
     match style {
         Style::Uniform => act::uniform(script),
+        // Workers caught in the middle when the log is full.
+        Style::LogSoonFull if draw < 60 => act::uniform(script),
         Style::Bursts if draw < 70 => act::burst(script),
         Style::Pauses if draw < 70 => act::owner_paused(script),
         Style::Tags if draw < 70 => act::tag_comes_round(script),
