@@ -395,6 +395,37 @@ pub fn fill_log(script: &mut Script, left: u32) {
     }
 }
 
+/// Uses up what the log has left with the array full, or nearly so, and the
+/// owner idle.
+pub fn brim(script: &mut Script) {
+    while !script.full() && script.entries_left() > 0 {
+        if !whole_put(script) {
+            return;
+        }
+    }
+    while script.entries_left() > 0 {
+        if !whole_take(script) || !whole_put(script) {
+            return;
+        }
+    }
+}
+
+/// The log is full: everyone goes as far as there is a line that ends nothing.
+pub fn past_the_log(script: &mut Script) {
+    for worker in 0..script.shape.crew {
+        if script.idle(worker) {
+            script.step(worker, 1);
+        }
+    }
+    for worker in 0..script.shape.crew {
+        if script.idle(worker) {
+            begin(script, worker);
+        }
+        script.finish(worker);
+        script.step(worker, 2);
+    }
+}
+
 /// Puts and steals in turn: the head counts up, at the end past 2,047.
 pub fn head_up(script: &mut Script) {
     let Some(thief) = script.thief() else { return burst(script) };

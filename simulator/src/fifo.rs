@@ -6,7 +6,7 @@ use crate::outcome::{refusal, Outcome, Place};
 use crate::store::{Array, Store};
 use crate::witness::Witness;
 
-/// What the owner is doing. The line is kept beside it, by the figure's number.
+/// What the owner is doing, with the line it does next by the figure's number.
 #[derive(Clone, Copy, Debug, PartialEq, Eq)]
 enum Doing {
     Nothing,

@@ -82,6 +82,9 @@ fn run(seed: u64, steps: Option<u64>) -> Vec<u8> {
     if style == Style::LogSoonFull {
         let left = script.random.between(5, 150);
         act::fill_log(&mut script, left);
+        if script.random.chance(40) {
+            act::brim(&mut script);
+        }
     }
     let early = script.random.chance(3);
     let steps = if early { steps / 8 } else { steps };
@@ -89,6 +92,7 @@ fn run(seed: u64, steps: Option<u64>) -> Vec<u8> {
         episode(&mut script, style);
     }
     if until_full(style) {
+        act::past_the_log(&mut script);
         for _ in 0..10 {
             episode(&mut script, Style::Uniform);
             episode(&mut script, Style::Mixed);
