@@ -1,0 +1,395 @@
+//! Figure 3: the double-ended queue. The owner works at the tail's end, the
+//! thieves at the head. The anchor (h, s, g) is read and written whole.
+
+use crate::outcome::{refusal, Outcome, Place};
+use crate::store::{Array, Store};
+use crate::witness::Witness;
+
+/// The head counts modulo this.
+const HEADS: u32 = 2048;
+
+#[derive(Clone, Copy, Debug, PartialEq, Eq, Default)]
+struct Anchor {
+    h: u32,
+    s: u32,
+    g: u32,
+}
+
+/// A worker's program counter: the operation's letter and the line's number.
+#[derive(Clone, Copy, Debug, PartialEq, Eq)]
+enum Counter {
+    Idle,
+    P1,
+    P2,
+    P3a,
+    P3b,
+    P4,
+    X1,
+    X2,
+    X3,
+    X4,
+    T1,
+    T2,
+    T3a,
+    T3b,
+    T4,
+    S1,
+    S2,
+    S3,
+    S4a,
+    S4b,
+    S5,
+    S6,
+}
+
+#[derive(Clone, Copy, Debug)]
+struct Worker {
+    counter: Counter,
+    /// The anchor as line 1 read it.
+    read: Anchor,
+    number: u32,
+    payload: u32,
+    /// A thief's noted array.
+    noted: Array,
+    /// Line 5 of a steal.
+    h2: u32,
+}
+
+#[derive(Clone, Debug)]
+pub struct DoubleEnded {
+    store: Store,
+    anchor: Anchor,
+    largest_tag: u32,
+    workers: [Worker; 8],
+    /// X2 to X3: the index to copy next and how many are left to copy.
+    copy_index: u32,
+    copies_left: u32,
+}
+
+impl DoubleEnded {
+    pub fn new(width: u32, size: u32, words: u32) -> DoubleEnded {
+        let worker = Worker {
+            counter: Counter::Idle,
+            read: Anchor::default(),
+            number: 0,
+            payload: 0,
+            noted: Array::default(),
+            h2: 0,
+        };
+        DoubleEnded {
+            store: Store::new(words, size),
+            anchor: Anchor::default(),
+            largest_tag: (1 << width) - 1,
+            workers: [worker; 8],
+            copy_index: 0,
+            copies_left: 0,
+        }
+    }
+
+    pub fn busy(&self, worker: usize) -> bool {
+        self.workers[worker].counter != Counter::Idle
+    }
+
+    pub fn begin_put(&mut self, number: u32, payload: u32) {
+        let owner = &mut self.workers[0];
+        owner.number = number;
+        owner.payload = payload;
+        owner.counter = Counter::P1;
+    }
+
+    pub fn begin_take(&mut self) {
+        self.workers[0].counter = Counter::T1;
+    }
+
+    pub fn begin_steal(&mut self, worker: usize) {
+        self.workers[worker].counter = Counter::S1;
+    }
+
+    pub fn step<W: Witness>(&mut self, worker: usize, room: bool, witness: &mut W) -> Outcome {
+        let DoubleEnded { store, anchor, largest_tag, workers, copy_index, copies_left } = self;
+        let me = &mut workers[worker];
+        match me.counter {
+            Counter::Idle => Outcome::Refused(refusal::IDLE),
+
+            Counter::P1 => {
+                me.read = *anchor;
+                go(me, Counter::P2)
+            }
+            Counter::P2 if me.read.s == store.size() => go(me, Counter::X1),
+            Counter::P2 => go(me, Counter::P3a),
+            Counter::P3a => {
+                store.set_number(me.read.h + me.read.s, me.number);
+                go(me, Counter::P3b)
+            }
+            Counter::P3b => {
+                store.set_payload(me.read.h + me.read.s, me.payload);
+                go(me, Counter::P4)
+            }
+            Counter::P4 if room => {
+                let Anchor { h, s, g } = me.read;
+                let g = if g == *largest_tag { 0 } else { g + 1 };
+                *anchor = Anchor { h, s: s + 1, g };
+                me.counter = Counter::Idle;
+                Outcome::Finished { number: me.number }
+            }
+            Counter::P4 => Outcome::Refused(refusal::LOG_FULL),
+
+            Counter::X1 => match store.next_array() {
+                Some(array) => {
+                    store.claim(array);
+                    go(me, Counter::X2)
+                }
+                None if room => {
+                    me.counter = Counter::Idle;
+                    Outcome::Full { number: me.number }
+                }
+                None => Outcome::Refused(refusal::LOG_FULL),
+            },
+            Counter::X2 => {
+                // The anchor as it is now: thieves may have emptied the queue
+                // since line 1, and then there is nothing to copy.
+                *copy_index = anchor.h;
+                *copies_left = anchor.s;
+                go(me, if anchor.s == 0 { Counter::X4 } else { Counter::X3 })
+            }
+            Counter::X3 => {
+                store.copy_to_claimed(*copy_index);
+                *copy_index += 1;
+                *copies_left -= 1;
+                go(me, if *copies_left == 0 { Counter::X4 } else { Counter::X3 })
+            }
+            Counter::X4 => {
+                store.publish();
+                me.counter = Counter::P1;
+                Outcome::Restarted
+            }
+
+            Counter::T1 => {
+                witness.line_one(worker);
+                me.read = *anchor;
+                go(me, Counter::T2)
+            }
+            Counter::S1 => {
+                witness.line_one(worker);
+                me.read = *anchor;
+                go(me, Counter::S2)
+            }
+            Counter::T2 | Counter::S2 if me.read.s == 0 => {
+                if !room {
+                    return Outcome::Refused(refusal::LOG_FULL);
+                }
+                me.counter = Counter::Idle;
+                Outcome::Empty
+            }
+            Counter::T2 => go(me, Counter::T3a),
+            Counter::T3a => {
+                me.number = store.number(store.current(), me.read.h + me.read.s - 1);
+                go(me, Counter::T3b)
+            }
+            Counter::T3b => {
+                me.payload = store.payload(store.current(), me.read.h + me.read.s - 1);
+                go(me, Counter::T4)
+            }
+            Counter::T4 if room => {
+                // Head and count of the pair read: this can undo steals.
+                *anchor = Anchor { s: me.read.s - 1, ..me.read };
+                me.counter = Counter::Idle;
+                Outcome::HandedOut { number: me.number, payload: me.payload }
+            }
+            Counter::T4 => Outcome::Refused(refusal::LOG_FULL),
+
+            Counter::S2 => go(me, Counter::S3),
+            Counter::S3 => {
+                me.noted = store.current();
+                go(me, Counter::S4a)
+            }
+            Counter::S4a => {
+                me.number = store.number(me.noted, me.read.h);
+                go(me, Counter::S4b)
+            }
+            Counter::S4b => {
+                me.payload = store.payload(me.noted, me.read.h);
+                go(me, Counter::S5)
+            }
+            Counter::S5 => {
+                me.h2 = (me.read.h + 1) % HEADS;
+                go(me, Counter::S6)
+            }
+            Counter::S6 if *anchor != me.read => {
+                witness.compare(worker);
+                me.counter = Counter::S1;
+                Outcome::Restarted
+            }
+            Counter::S6 if room => {
+                witness.compare(worker);
+                *anchor = Anchor { h: me.h2, s: me.read.s - 1, g: me.read.g };
+                me.counter = Counter::Idle;
+                Outcome::HandedOut { number: me.number, payload: me.payload }
+            }
+            Counter::S6 => Outcome::Refused(refusal::LOG_FULL),
+        }
+    }
+
+    /// The s tasks from h in the current array.
+    pub fn window(&self) -> impl Iterator<Item = (u32, u32)> + '_ {
+        let array = self.store.current();
+        let Anchor { h, s, .. } = self.anchor;
+        (h..h + s).map(move |i| (self.store.number(array, i), self.store.payload(array, i)))
+    }
+
+    /// Whether the next put, left alone, would have to expand.
+    pub fn full(&self) -> bool {
+        self.anchor.s == self.store.size()
+    }
+
+    pub fn place(&self, worker: usize) -> Place {
+        match self.workers[worker].counter {
+            Counter::Idle => Place::Idle,
+            Counter::S4a => Place::Noted,
+            Counter::P4 | Counter::T4 | Counter::S6 => Place::Last,
+            Counter::X1 | Counter::X2 | Counter::X3 | Counter::X4 => Place::Expanding,
+            _ => Place::Underway,
+        }
+    }
+}
+
+fn go(worker: &mut Worker, counter: Counter) -> Outcome {
+    worker.counter = counter;
+    Outcome::GoesOn
+}
+
+#[cfg(test)]
+mod tests {
+    use super::*;
+    use crate::witness::Blind;
+
+    fn steps(queue: &mut DoubleEnded, worker: usize, count: u32) -> Outcome {
+        let mut last = Outcome::GoesOn;
+        for made in 1..=count {
+            last = queue.step(worker, true, &mut Blind);
+            if made < count {
+                assert_eq!(last, Outcome::GoesOn, "step {made} of {count}");
+            }
+        }
+        last
+    }
+
+    fn put(queue: &mut DoubleEnded, number: u32, payload: u32) {
+        queue.begin_put(number, payload);
+        assert_eq!(steps(queue, 0, 5), Outcome::Finished { number });
+    }
+
+    #[test]
+    fn the_owner_takes_the_newest_a_thief_the_oldest() {
+        let mut queue = DoubleEnded::new(4, 4, 8);
+        for number in 1..=3 {
+            put(&mut queue, number, 10 * number);
+        }
+        queue.begin_take();
+        assert_eq!(steps(&mut queue, 0, 5), Outcome::HandedOut { number: 3, payload: 30 });
+        queue.begin_steal(1);
+        assert_eq!(steps(&mut queue, 1, 7), Outcome::HandedOut { number: 1, payload: 10 });
+        assert_eq!(queue.anchor, Anchor { h: 1, s: 1, g: 3 });
+    }
+
+    #[test]
+    fn a_compare_looks_at_all_three() {
+        // The head alone would be equal here: only the count differs.
+        let mut queue = DoubleEnded::new(4, 4, 8);
+        put(&mut queue, 1, 10);
+        put(&mut queue, 2, 20);
+        queue.begin_steal(1);
+        steps(&mut queue, 1, 6);
+        queue.begin_take();
+        steps(&mut queue, 0, 5);
+        assert_eq!(steps(&mut queue, 1, 1), Outcome::Restarted);
+        // Head and count equal, only the tag differs.
+        steps(&mut queue, 1, 6);
+        queue.begin_take();
+        steps(&mut queue, 0, 5);
+        put(&mut queue, 3, 30);
+        assert_eq!(steps(&mut queue, 1, 1), Outcome::Restarted);
+        assert_eq!(steps(&mut queue, 1, 7), Outcome::HandedOut { number: 3, payload: 30 });
+    }
+
+    #[test]
+    fn the_head_comes_round_at_2048() {
+        let mut queue = DoubleEnded::new(16, 2, 4);
+        queue.anchor.h = 2047;
+        put(&mut queue, 1, 10);
+        put(&mut queue, 2, 20);
+        for number in 1..=2 {
+            queue.begin_steal(1);
+            assert_eq!(steps(&mut queue, 1, 7), Outcome::HandedOut { number, payload: 10 * number });
+        }
+        assert_eq!(queue.anchor, Anchor { h: 1, s: 0, g: 2 });
+    }
+
+    #[test]
+    fn expansion_with_nothing_left_to_copy() {
+        let mut queue = DoubleEnded::new(4, 1, 6);
+        put(&mut queue, 1, 10);
+        queue.begin_put(2, 20);
+        steps(&mut queue, 0, 2);
+        queue.begin_steal(1);
+        steps(&mut queue, 1, 7);
+        assert_eq!(steps(&mut queue, 0, 3), Outcome::Restarted);
+        assert_eq!(queue.store.size(), 2, "twice the size, not twice the count");
+        assert_eq!(steps(&mut queue, 0, 5), Outcome::Finished { number: 2 });
+        assert_eq!(queue.window().collect::<Vec<_>>(), [(2, 20)]);
+    }
+
+    #[test]
+    fn expansion_across_the_heads_end() {
+        let mut queue = DoubleEnded::new(4, 2, 12);
+        queue.anchor.h = 2047;
+        put(&mut queue, 1, 10);
+        put(&mut queue, 2, 20);
+        queue.begin_put(3, 30);
+        // Lines 1 and 2, X1, X2, two copies, X4.
+        assert_eq!(steps(&mut queue, 0, 7), Outcome::Restarted);
+        assert_eq!(steps(&mut queue, 0, 5), Outcome::Finished { number: 3 });
+        assert_eq!(queue.window().collect::<Vec<_>>(), [(1, 10), (2, 20), (3, 30)]);
+        // 2047 lies in slot 3 of the new array, 2048 and 2049 in slots 0 and 1.
+        assert_eq!(queue.store.number(queue.store.current(), 3), 1);
+    }
+
+    #[test]
+    fn a_put_writes_back_the_head_it_read() {
+        let mut queue = DoubleEnded::new(4, 4, 8);
+        put(&mut queue, 1, 10);
+        queue.begin_put(2, 20);
+        steps(&mut queue, 0, 4);
+        queue.begin_steal(1);
+        steps(&mut queue, 1, 7);
+        assert_eq!(queue.anchor, Anchor { h: 1, s: 0, g: 1 });
+        assert_eq!(steps(&mut queue, 0, 1), Outcome::Finished { number: 2 });
+        assert_eq!(queue.anchor, Anchor { h: 0, s: 2, g: 2 });
+    }
+
+    #[test]
+    fn the_log_full_at_every_ending_line() {
+        let mut queue = DoubleEnded::new(1, 1, 2);
+        queue.begin_take();
+        steps(&mut queue, 0, 1);
+        assert_eq!(queue.step(0, false, &mut Blind), Outcome::Refused(11));
+        assert_eq!(queue.step(0, true, &mut Blind), Outcome::Empty);
+        queue.begin_put(1, 10);
+        steps(&mut queue, 0, 4);
+        assert_eq!(queue.step(0, false, &mut Blind), Outcome::Refused(11));
+        assert_eq!(queue.step(0, true, &mut Blind), Outcome::Finished { number: 1 });
+        queue.begin_put(2, 20);
+        steps(&mut queue, 0, 2);
+        assert_eq!(queue.step(0, false, &mut Blind), Outcome::Refused(11));
+        assert_eq!(queue.step(0, true, &mut Blind), Outcome::Full { number: 2 });
+        queue.begin_steal(1);
+        steps(&mut queue, 1, 6);
+        assert_eq!(queue.step(1, false, &mut Blind), Outcome::Refused(11));
+        assert_eq!(queue.anchor, Anchor { h: 0, s: 1, g: 1 });
+        queue.begin_take();
+        steps(&mut queue, 0, 4);
+        assert_eq!(queue.step(0, false, &mut Blind), Outcome::Refused(11));
+        steps(&mut queue, 0, 1);
+        assert_eq!(queue.step(1, false, &mut Blind), Outcome::Restarted);
+    }
+}

@@ -1,0 +1,437 @@
+//! What workers can do to each other, a stretch of a run at a time.
+
+use crate::damage;
+use crate::outcome::Place;
+use crate::script::Script;
+
+/// Begins something for an idle worker.
+fn begin(script: &mut Script, worker: u32) {
+    if worker > 0 {
+        script.say(&format!("steal {worker}"));
+    } else if script.random.chance(58) {
+        script.put();
+    } else {
+        script.say("take");
+    }
+}
+
+/// Makes the owner idle; false if the log's end is in the way.
+fn owner_idle(script: &mut Script) -> bool {
+    script.finish(0)
+}
+
+fn whole_put(script: &mut Script) -> bool {
+    if !owner_idle(script) {
+        return false;
+    }
+    script.put();
+    script.finish(0)
+}
+
+fn whole_take(script: &mut Script) -> bool {
+    if !owner_idle(script) {
+        return false;
+    }
+    script.say("take");
+    script.finish(0)
+}
+
+fn whole_steal(script: &mut Script, thief: u32) -> bool {
+    if script.idle(thief) {
+        script.say(&format!("steal {thief}"));
+    }
+    script.finish(thief)
+}
+
+/// A thief other than those in `but`.
+fn other_thief(script: &mut Script, but: &[u32]) -> Option<u32> {
+    let free: Vec<u32> = (1..script.shape.crew).filter(|thief| !but.contains(thief)).collect();
+    if free.is_empty() {
+        None
+    } else {
+        Some(*script.random.pick(&free))
+    }
+}
+
+/// Any worker does its next line, or begins if it has none.
+pub fn uniform(script: &mut Script) {
+    for _ in 0..script.random.between(20, 200) {
+        let worker = script.random.below(script.shape.crew);
+        if script.idle(worker) {
+            begin(script, worker);
+        } else {
+            let count = match script.random.below(20) {
+                0 => 0,
+                1..=3 => script.random.between(2, 6),
+                _ => 1,
+            };
+            script.step(worker, count);
+        }
+    }
+}
+
+/// One worker does whole operations while the others stand still.
+pub fn burst(script: &mut Script) {
+    let worker = script.random.below(script.shape.crew);
+    for _ in 0..script.random.between(2, 12) {
+        if script.idle(worker) {
+            begin(script, worker);
+        }
+        match script.random.below(8) {
+            // Past the end, so that the refusal stops it.
+            0 => script.step(worker, 65_535),
+            1 => {
+                let count = script.random.between(8, 3000);
+                script.step(worker, count);
+            }
+            _ => {
+                script.finish(worker);
+            }
+        }
+    }
+}
+
+/// The owner fills the queue, often past what the array or the store can hold.
+pub fn fill(script: &mut Script) {
+    for _ in 0..script.random.between(2, 20) {
+        if !whole_put(script) {
+            return;
+        }
+    }
+}
+
+/// All are at work until someone finds the queue empty.
+pub fn drain(script: &mut Script) {
+    for _ in 0..script.random.between(3, 25) {
+        let worker = script.random.below(script.shape.crew);
+        let went = if worker == 0 { whole_take(script) } else { whole_steal(script, worker) };
+        if !went {
+            return;
+        }
+    }
+}
+
+/// The owner stands before its last line while thieves work; then it writes
+/// back what it read. This sets a FIFO head back, and gives repeats.
+pub fn owner_paused(script: &mut Script) {
+    for _ in 0..script.random.below(4) {
+        whole_put(script);
+    }
+    if !owner_idle(script) {
+        return;
+    }
+    if script.random.chance(35) {
+        script.put();
+    } else {
+        script.say("take");
+    }
+    script.step_until(0, 3000, |place| matches!(place, Place::Last | Place::Idle));
+    for _ in 0..script.random.between(1, 8) {
+        let Some(thief) = script.thief() else { break };
+        if script.random.chance(75) {
+            whole_steal(script, thief);
+        } else if script.idle(thief) {
+            script.say(&format!("steal {thief}"));
+        } else {
+            let count = script.random.between(1, 6);
+            script.step(thief, count);
+        }
+    }
+    script.step(0, 1);
+    for _ in 0..script.random.below(4) {
+        if let Some(thief) = script.thief() {
+            whole_steal(script, thief);
+        }
+    }
+}
+
+/// Thieves stand somewhere between line 1 and their compare while the owner
+/// puts as often as the tag has values, or once less; then they go on.
+pub fn tag_comes_round(script: &mut Script) {
+    let round = 1u32 << script.shape.width;
+    if round > 256 {
+        return uniform(script);
+    }
+    if !whole_put(script) {
+        return;
+    }
+    // From a full array the array grows on the way, and a thief that noted the
+    // old one reads words there that the new one has no more.
+    let growing = script.random.chance(40);
+    if growing {
+        for _ in 0..64 {
+            if script.full() || !whole_put(script) {
+                break;
+            }
+        }
+    } else if script.random.chance(40) {
+        whole_put(script);
+    }
+    let mut waiting = Vec::new();
+    for _ in 0..script.random.between(1, 3) {
+        let Some(thief) = other_thief(script, &waiting) else { break };
+        if !script.finish(thief) {
+            return;
+        }
+        script.say(&format!("steal {thief}"));
+        match script.random.below(10) {
+            0..=4 => {
+                script.step_until(thief, 20, |place| matches!(place, Place::Last | Place::Idle));
+            }
+            5..=7 => {
+                script.step_until(thief, 20, |place| matches!(place, Place::Noted | Place::Idle));
+            }
+            _ => {
+                let count = script.random.between(1, 5);
+                script.step_until(thief, count, |place| matches!(place, Place::Last | Place::Idle));
+            }
+        }
+        waiting.push(thief);
+    }
+    let puts = match script.random.below(10) {
+        0..=4 => round,
+        5..=7 => round - 1,
+        8 => round + 1,
+        _ => 2 * round,
+    };
+    let mut left = puts;
+    while left > 0 {
+        // As much must go as comes, or the anchor would not return. Now and
+        // then a put comes first, so that the array can grow on the way.
+        let mut to_go = 1;
+        if left > 1 && (growing && left == puts || script.random.chance(20)) {
+            if !whole_put(script) {
+                return;
+            }
+            left -= 1;
+            to_go = 2;
+        }
+        for _ in 0..to_go {
+            match other_thief(script, &waiting) {
+                Some(thief) if script.random.chance(25) && script.shape.kind == 1 => {
+                    whole_steal(script, thief);
+                }
+                _ => {
+                    if !whole_take(script) {
+                        return;
+                    }
+                }
+            }
+        }
+        if !owner_idle(script) {
+            return;
+        }
+        script.put();
+        left -= 1;
+        // A waiting thief that has not read both words yet may read one or both
+        // while the put has written only one.
+        let pause = if left == 0 { 50 } else { 15 };
+        if script.random.chance(pause) {
+            script.step(0, if script.shape.kind == 2 { 4 } else { 3 });
+            for &thief in &waiting {
+                let count = script.random.between(1, 2);
+                script.step_until(thief, count, |place| matches!(place, Place::Last | Place::Idle));
+            }
+        }
+        if !script.finish(0) {
+            return;
+        }
+    }
+    for &thief in &waiting {
+        script.step_until(thief, 20, |place| matches!(place, Place::Last | Place::Idle));
+        script.step(thief, 1);
+    }
+    for _ in 0..script.random.below(4) {
+        whole_take(script);
+    }
+}
+
+/// Thieves stand between noting the array and reading while the owner puts
+/// until the array has grown, or can't; then they read and compare.
+pub fn noted_before_growth(script: &mut Script) {
+    whole_put(script);
+    let mut waiting = Vec::new();
+    for _ in 0..script.random.between(1, 3) {
+        let Some(thief) = other_thief(script, &waiting) else { break };
+        if script.idle(thief) {
+            script.say(&format!("steal {thief}"));
+        }
+        script.step_until(thief, 20, |place| matches!(place, Place::Noted | Place::Idle));
+        if script.random.chance(25) {
+            script.step(thief, 1);
+        }
+        waiting.push(thief);
+    }
+    if !owner_idle(script) {
+        return;
+    }
+    for _ in 0..40 {
+        script.put();
+        let growing =
+            script.step_until(0, 20, |place| matches!(place, Place::Expanding | Place::Idle))
+                && script.place(0) == Place::Expanding;
+        if !growing {
+            if !script.idle(0) {
+                return;
+            }
+            continue;
+        }
+        // Somewhere within the growth, or when it is over.
+        let count = script.random.between(1, 6);
+        script.step(0, count);
+        if script.random.chance(40) {
+            if let Some(thief) = other_thief(script, &waiting) {
+                whole_steal(script, thief);
+            }
+        }
+        if script.random.chance(50) {
+            script.step_until(0, 3000, |place| place != Place::Expanding);
+        }
+        break;
+    }
+    for &thief in &waiting {
+        script.step_until(thief, 20, |place| matches!(place, Place::Last | Place::Idle));
+        script.step(thief, 1);
+    }
+    script.finish(0);
+}
+
+/// The thieves empty the queue while the owner stands before X1 or X2.
+pub fn emptied_before_x2(script: &mut Script) {
+    if !owner_idle(script) {
+        return;
+    }
+    for _ in 0..40 {
+        script.put();
+        script.step_until(0, 20, |place| matches!(place, Place::Expanding | Place::Idle));
+        if script.place(0) == Place::Expanding {
+            break;
+        }
+        if !script.idle(0) {
+            return;
+        }
+    }
+    let count = script.random.below(4);
+    script.step(0, count);
+    if let Some(thief) = script.thief() {
+        for _ in 0..script.random.between(1, 12) {
+            if !whole_steal(script, thief) {
+                break;
+            }
+        }
+    }
+    script.finish(0);
+}
+
+/// Every thief stands before its compare; one wins, the others start again.
+pub fn race(script: &mut Script) {
+    for _ in 0..script.random.between(1, 3) {
+        whole_put(script);
+    }
+    for thief in 1..script.shape.crew {
+        if script.idle(thief) {
+            script.say(&format!("steal {thief}"));
+        }
+        script.step_until(thief, 20, |place| matches!(place, Place::Last | Place::Idle));
+    }
+    for _ in 0..script.shape.crew {
+        if let Some(thief) = script.thief() {
+            let count = script.random.between(1, 8);
+            script.step(thief, count);
+        }
+    }
+}
+
+/// Calls that are refused, whoever is where.
+pub fn refusals(script: &mut Script) {
+    for _ in 0..script.random.between(1, 10) {
+        let beyond = match script.random.below(3) {
+            0 => script.shape.crew,
+            1 => script.random.between(8, 300),
+            _ => script.random.word(),
+        };
+        match script.random.below(9) {
+            0 => script.say("steal 0"),
+            1 => script.say(&format!("steal {beyond}")),
+            2 => script.say(&format!("step {beyond} 1")),
+            3 => script.say(&format!("step {beyond} 0")),
+            4 => script.put(),
+            5 => script.say("take"),
+            6 => {
+                let worker = script.random.below(script.shape.crew);
+                script.say(&format!("steal {worker}"));
+            }
+            7 => {
+                let worker = script.random.below(script.shape.crew);
+                script.step(worker, 0);
+            }
+            _ => {
+                for worker in 0..script.shape.crew {
+                    if script.idle(worker) {
+                        script.step(worker, 3);
+                    }
+                }
+            }
+        }
+    }
+}
+
+pub fn damaged(script: &mut Script) {
+    for _ in 0..script.random.between(1, 6) {
+        let line = damage::line(&mut script.random);
+        script.bytes(&line);
+        if script.ended() {
+            return;
+        }
+    }
+}
+
+/// Takes on an empty queue until the log has only `left` entries left.
+pub fn fill_log(script: &mut Script, left: u32) {
+    let until_empty = if script.shape.kind == 2 { 3 } else { 2 };
+    while script.entries_left() > left {
+        script.say("take");
+        script.step(0, until_empty);
+    }
+}
+
+/// Uses up what the log has left with the array full, or nearly so, and the
+/// owner idle.
+pub fn brim(script: &mut Script) {
+    while !script.full() && script.entries_left() > 0 {
+        if !whole_put(script) {
+            return;
+        }
+    }
+    while script.entries_left() > 0 {
+        if !whole_take(script) || !whole_put(script) {
+            return;
+        }
+    }
+}
+
+/// The log is full: everyone goes as far as there is a line that ends nothing.
+pub fn past_the_log(script: &mut Script) {
+    for worker in 0..script.shape.crew {
+        if script.idle(worker) {
+            script.step(worker, 1);
+        }
+    }
+    for worker in 0..script.shape.crew {
+        if script.idle(worker) {
+            begin(script, worker);
+        }
+        script.finish(worker);
+        script.step(worker, 2);
+    }
+}
+
+/// Puts and steals in turn: the head counts up, at the end past 2,047.
+pub fn head_up(script: &mut Script) {
+    let Some(thief) = script.thief() else { return burst(script) };
+    for _ in 0..100 {
+        if !whole_put(script) || !whole_steal(script, thief) {
+            return;
+        }
+    }
+}

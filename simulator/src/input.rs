@@ -1,0 +1,143 @@
+//! Where a line of the input ends.
+//!
+//! The input comes in chunks of whatever length a read gives. A line that lies
+//! whole in a chunk is looked at there; one that does not is gathered. No line
+//! of a given form is longer than `KEPT` bytes, so of a longer one only that
+//! many are kept: enough to see that it has no given form.
+
+use std::io::{self, ErrorKind, Read};
+
+/// More than the longest line of a given form, a `queue` of 54 bytes.
+const KEPT: usize = 64;
+
+pub struct Lines {
+    gathered: Vec<u8>,
+    /// The input so far stops within a line. A line can be empty, so the bytes
+    /// gathered do not tell.
+    open: bool,
+}
+
+impl Lines {
+    pub fn new() -> Lines {
+        Lines { gathered: Vec::with_capacity(KEPT), open: false }
+    }
+
+    /// Calls `each` with every line that ends in `chunk`, until it answers
+    /// false. Answers false if it did.
+    pub fn feed(&mut self, mut chunk: &[u8], mut each: impl FnMut(&[u8]) -> bool) -> bool {
+        while let Some(end) = chunk.iter().position(|&byte| byte == b'\n') {
+            let go_on = if self.open {
+                self.gather(&chunk[..end]);
+                self.open = false;
+                let go_on = each(&self.gathered);
+                self.gathered.clear();
+                go_on
+            } else {
+                each(&chunk[..end])
+            };
+            if !go_on {
+                return false;
+            }
+            chunk = &chunk[end + 1..];
+        }
+        if !chunk.is_empty() {
+            self.gather(chunk);
+            self.open = true;
+        }
+        true
+    }
+
+    /// The line that the input's end ends, if there is one. After a last
+    /// newline there is none.
+    pub fn last(&mut self) -> Option<&[u8]> {
+        if !self.open {
+            return None;
+        }
+        self.open = false;
+        Some(&self.gathered)
+    }
+
+    fn gather(&mut self, bytes: &[u8]) {
+        let room = KEPT - self.gathered.len();
+        self.gathered.extend_from_slice(&bytes[..bytes.len().min(room)]);
+    }
+}
+
+impl Default for Lines {
+    fn default() -> Lines {
+        Lines::new()
+    }
+}
+
+/// Reads what there is, waiting if there is nothing yet; 0 at the input's end.
+pub fn read_some(input: &mut impl Read, buffer: &mut [u8]) -> io::Result<usize> {
+    loop {
+        match input.read(buffer) {
+            Err(error) if error.kind() == ErrorKind::Interrupted => continue,
+            answer => return answer,
+        }
+    }
+}
+
+#[cfg(test)]
+mod tests {
+    use super::*;
+
+    fn lines(text: &[u8], chunk: usize) -> Vec<Vec<u8>> {
+        let mut found = Vec::new();
+        let mut lines = Lines::new();
+        for part in text.chunks(chunk) {
+            assert!(lines.feed(part, |line| {
+                found.push(line.to_vec());
+                true
+            }));
+        }
+        if let Some(line) = lines.last() {
+            found.push(line.to_vec());
+        }
+        found
+    }
+
+    #[test]
+    fn the_same_lines_however_the_input_is_cut() {
+        let text = b"take\n\nput 1\n\0\xff\nend";
+        let expected: [&[u8]; 5] = [b"take", b"", b"put 1", b"\0\xff", b"end"];
+        for chunk in 1..=text.len() {
+            assert_eq!(lines(text, chunk), expected, "chunks of {chunk}");
+        }
+    }
+
+    #[test]
+    fn newlines_at_the_end() {
+        for chunk in 1..=3 {
+            assert_eq!(lines(b"", chunk).len(), 0);
+            assert_eq!(lines(b"\n", chunk), [b""]);
+            assert_eq!(lines(b"a\n", chunk), [b"a"]);
+            assert_eq!(lines(b"a\n\n", chunk), [&b"a"[..], b""]);
+        }
+    }
+
+    #[test]
+    fn a_long_line_stays_too_long_and_the_next_one_is_whole() {
+        let mut text = b"put 1".to_vec();
+        text.extend(std::iter::repeat_n(b' ', 1000));
+        text.extend(b"\nend\n");
+        for chunk in [1, 3, 64, 65, 1000] {
+            let found = lines(&text, chunk);
+            assert_eq!(found.len(), 2);
+            assert!(found[0].len() >= KEPT);
+            assert_eq!(found[1], b"end");
+        }
+    }
+
+    #[test]
+    fn it_stops_when_told() {
+        let mut seen = 0;
+        let mut lines = Lines::new();
+        assert!(!lines.feed(b"a\nb\nc\n", |_| {
+            seen += 1;
+            seen < 2
+        }));
+        assert_eq!(seen, 2);
+    }
+}

@@ -1,0 +1,31 @@
+//! A second simulator of the bench for idempotent work-stealing queues.
+//!
+//! It plays the same input as the bench program and prints the same listing,
+//! byte for byte. It is written from the scope document alone, so that a
+//! mistake in the one is not a mistake in the other, and it is deliberately
+//! built the other way round: one machine for each figure, each with lines of
+//! its own, and nothing shared between them but the store.
+//!
+//! - [`lifo`], [`fifo`], [`double_ended`]: figures 1, 2 and 3, a step a line;
+//! - [`store`]: the lent words and the directory of arrays;
+//! - [`account`]: the log's room and the six counts of `T`;
+//! - [`text`]: what a line of the input says; [`input`]: where it ends;
+//! - [`play`]: the program's rules, the refusals and their order;
+//! - [`witness`], [`judge`]: demand 3, judged from the history of the calls;
+//! - [`random`], [`script`], [`episodes`], [`damage`]: long random runs by seed.
+
+pub mod account;
+pub mod damage;
+pub mod double_ended;
+pub mod episodes;
+pub mod fifo;
+pub mod input;
+pub mod judge;
+pub mod lifo;
+pub mod outcome;
+pub mod play;
+pub mod random;
+pub mod script;
+pub mod store;
+pub mod text;
+pub mod witness;

@@ -1,0 +1,440 @@
+//! Figure 1: the LIFO queue. The anchor is (t, g); the owner and the thieves
+//! work at the same end.
+
+use crate::outcome::{refusal, Outcome, Place};
+use crate::store::{Array, Store};
+use crate::witness::Witness;
+
+/// The line the owner does next.
+#[derive(Clone, Copy, Debug, PartialEq, Eq)]
+enum OwnerAt {
+    Idle,
+    PutReadAnchor,
+    PutTestFull,
+    PutWriteNumber,
+    PutWritePayload,
+    PutSetAnchor,
+    X1Claim,
+    X2Note,
+    X3Copy,
+    X4Publish,
+    TakeReadAnchor,
+    TakeTestEmpty,
+    TakeReadNumber,
+    TakeReadPayload,
+    TakeSetAnchor,
+}
+
+#[derive(Clone, Debug)]
+struct Owner {
+    at: OwnerAt,
+    /// The task being put, or as much as has been read of the one being taken.
+    number: u32,
+    payload: u32,
+    /// The anchor as line 1 read it. It is kept to the last line, whatever the
+    /// thieves do to the anchor meanwhile.
+    t: u32,
+    g: u32,
+    /// X3: the next slot to copy, and the first one not to.
+    next: u32,
+    stop: u32,
+}
+
+/// The line a thief does next.
+#[derive(Clone, Copy, Debug, PartialEq, Eq)]
+enum ThiefAt {
+    Idle,
+    ReadAnchor,
+    TestEmpty,
+    NoteArray,
+    ReadNumber,
+    ReadPayload,
+    Compare,
+}
+
+#[derive(Clone, Copy, Debug)]
+struct Thief {
+    at: ThiefAt,
+    t: u32,
+    g: u32,
+    noted: Array,
+    number: u32,
+    payload: u32,
+}
+
+#[derive(Clone, Debug)]
+pub struct Lifo {
+    store: Store,
+    t: u32,
+    g: u32,
+    /// 2^w − 1, the largest tag.
+    largest_tag: u32,
+    owner: Owner,
+    /// By worker number; place 0 is the owner's and stays idle.
+    thieves: [Thief; 8],
+}
+
+impl Lifo {
+    pub fn new(width: u32, size: u32, words: u32) -> Lifo {
+        let thief = Thief {
+            at: ThiefAt::Idle,
+            t: 0,
+            g: 0,
+            noted: Array::default(),
+            number: 0,
+            payload: 0,
+        };
+        Lifo {
+            store: Store::new(words, size),
+            t: 0,
+            g: 0,
+            largest_tag: (1 << width) - 1,
+            owner: Owner {
+                at: OwnerAt::Idle,
+                number: 0,
+                payload: 0,
+                t: 0,
+                g: 0,
+                next: 0,
+                stop: 0,
+            },
+            thieves: [thief; 8],
+        }
+    }
+
+    pub fn busy(&self, worker: usize) -> bool {
+        self.place(worker) != Place::Idle
+    }
+
+    pub fn begin_put(&mut self, number: u32, payload: u32) {
+        self.owner.number = number;
+        self.owner.payload = payload;
+        self.owner.at = OwnerAt::PutReadAnchor;
+    }
+
+    pub fn begin_take(&mut self) {
+        self.owner.at = OwnerAt::TakeReadAnchor;
+    }
+
+    pub fn begin_steal(&mut self, worker: usize) {
+        self.thieves[worker].at = ThiefAt::ReadAnchor;
+    }
+
+    /// One line of `worker`'s operation. `room` says whether the log can take
+    /// one more entry.
+    pub fn step<W: Witness>(&mut self, worker: usize, room: bool, witness: &mut W) -> Outcome {
+        if worker == 0 {
+            self.step_owner(room, witness)
+        } else {
+            self.step_thief(worker, room, witness)
+        }
+    }
+
+    fn step_owner<W: Witness>(&mut self, room: bool, witness: &mut W) -> Outcome {
+        let owner = &mut self.owner;
+        match owner.at {
+            OwnerAt::Idle => return Outcome::Refused(refusal::IDLE),
+
+            OwnerAt::PutReadAnchor => {
+                owner.t = self.t;
+                owner.g = self.g;
+                owner.at = OwnerAt::PutTestFull;
+            }
+            OwnerAt::PutTestFull => {
+                owner.at = if owner.t == self.store.size() {
+                    OwnerAt::X1Claim
+                } else {
+                    OwnerAt::PutWriteNumber
+                };
+            }
+            OwnerAt::PutWriteNumber => {
+                self.store.set_number(owner.t, owner.number);
+                owner.at = OwnerAt::PutWritePayload;
+            }
+            OwnerAt::PutWritePayload => {
+                self.store.set_payload(owner.t, owner.payload);
+                owner.at = OwnerAt::PutSetAnchor;
+            }
+            OwnerAt::PutSetAnchor => {
+                if !room {
+                    return Outcome::Refused(refusal::LOG_FULL);
+                }
+                self.t = owner.t + 1;
+                self.g = if owner.g == self.largest_tag { 0 } else { owner.g + 1 };
+                owner.at = OwnerAt::Idle;
+                return Outcome::Finished { number: owner.number };
+            }
+
+            OwnerAt::X1Claim => match self.store.next_array() {
+                Some(array) => {
+                    self.store.claim(array);
+                    owner.at = OwnerAt::X2Note;
+                }
+                None => {
+                    if !room {
+                        return Outcome::Refused(refusal::LOG_FULL);
+                    }
+                    owner.at = OwnerAt::Idle;
+                    return Outcome::Full { number: owner.number };
+                }
+            },
+            OwnerAt::X2Note => {
+                // All slots of the old array, also those the thieves have
+                // emptied: its size is at least 1, so there is one to copy.
+                owner.next = 0;
+                owner.stop = self.store.size();
+                owner.at = OwnerAt::X3Copy;
+            }
+            OwnerAt::X3Copy => {
+                self.store.copy_to_claimed(owner.next);
+                owner.next += 1;
+                if owner.next == owner.stop {
+                    owner.at = OwnerAt::X4Publish;
+                }
+            }
+            OwnerAt::X4Publish => {
+                self.store.publish();
+                owner.at = OwnerAt::PutReadAnchor;
+                return Outcome::Restarted;
+            }
+
+            OwnerAt::TakeReadAnchor => {
+                witness.line_one(0);
+                owner.t = self.t;
+                owner.g = self.g;
+                owner.at = OwnerAt::TakeTestEmpty;
+            }
+            OwnerAt::TakeTestEmpty => {
+                if owner.t == 0 {
+                    if !room {
+                        return Outcome::Refused(refusal::LOG_FULL);
+                    }
+                    owner.at = OwnerAt::Idle;
+                    return Outcome::Empty;
+                }
+                owner.at = OwnerAt::TakeReadNumber;
+            }
+            OwnerAt::TakeReadNumber => {
+                owner.number = self.store.number(self.store.current(), owner.t - 1);
+                owner.at = OwnerAt::TakeReadPayload;
+            }
+            OwnerAt::TakeReadPayload => {
+                owner.payload = self.store.payload(self.store.current(), owner.t - 1);
+                owner.at = OwnerAt::TakeSetAnchor;
+            }
+            OwnerAt::TakeSetAnchor => {
+                if !room {
+                    return Outcome::Refused(refusal::LOG_FULL);
+                }
+                self.t = owner.t - 1;
+                self.g = owner.g;
+                owner.at = OwnerAt::Idle;
+                return Outcome::HandedOut { number: owner.number, payload: owner.payload };
+            }
+        }
+        Outcome::GoesOn
+    }
+
+    fn step_thief<W: Witness>(&mut self, worker: usize, room: bool, witness: &mut W) -> Outcome {
+        let thief = &mut self.thieves[worker];
+        match thief.at {
+            ThiefAt::Idle => return Outcome::Refused(refusal::IDLE),
+            ThiefAt::ReadAnchor => {
+                witness.line_one(worker);
+                thief.t = self.t;
+                thief.g = self.g;
+                thief.at = ThiefAt::TestEmpty;
+            }
+            ThiefAt::TestEmpty => {
+                if thief.t == 0 {
+                    if !room {
+                        return Outcome::Refused(refusal::LOG_FULL);
+                    }
+                    thief.at = ThiefAt::Idle;
+                    return Outcome::Empty;
+                }
+                thief.at = ThiefAt::NoteArray;
+            }
+            ThiefAt::NoteArray => {
+                thief.noted = self.store.current();
+                thief.at = ThiefAt::ReadNumber;
+            }
+            ThiefAt::ReadNumber => {
+                thief.number = self.store.number(thief.noted, thief.t - 1);
+                thief.at = ThiefAt::ReadPayload;
+            }
+            ThiefAt::ReadPayload => {
+                thief.payload = self.store.payload(thief.noted, thief.t - 1);
+                thief.at = ThiefAt::Compare;
+            }
+            ThiefAt::Compare => {
+                if (self.t, self.g) != (thief.t, thief.g) {
+                    witness.compare(worker);
+                    thief.at = ThiefAt::ReadAnchor;
+                    return Outcome::Restarted;
+                }
+                if !room {
+                    return Outcome::Refused(refusal::LOG_FULL);
+                }
+                witness.compare(worker);
+                self.t = thief.t - 1;
+                thief.at = ThiefAt::Idle;
+                return Outcome::HandedOut { number: thief.number, payload: thief.payload };
+            }
+        }
+        Outcome::GoesOn
+    }
+
+    /// The tasks in slots 0 to t−1 of the current array.
+    pub fn window(&self) -> impl Iterator<Item = (u32, u32)> + '_ {
+        let array = self.store.current();
+        (0..self.t).map(move |i| (self.store.number(array, i), self.store.payload(array, i)))
+    }
+
+    /// Whether the next put, left alone, would have to expand.
+    pub fn full(&self) -> bool {
+        self.t == self.store.size()
+    }
+
+    pub fn place(&self, worker: usize) -> Place {
+        if worker == 0 {
+            return match self.owner.at {
+                OwnerAt::Idle => Place::Idle,
+                OwnerAt::PutSetAnchor | OwnerAt::TakeSetAnchor => Place::Last,
+                OwnerAt::X1Claim | OwnerAt::X2Note | OwnerAt::X3Copy | OwnerAt::X4Publish => {
+                    Place::Expanding
+                }
+                _ => Place::Underway,
+            };
+        }
+        match self.thieves[worker].at {
+            ThiefAt::Idle => Place::Idle,
+            ThiefAt::ReadNumber => Place::Noted,
+            ThiefAt::Compare => Place::Last,
+            _ => Place::Underway,
+        }
+    }
+}
+
+#[cfg(test)]
+mod tests {
+    use super::*;
+    use crate::witness::Blind;
+
+    fn steps(queue: &mut Lifo, worker: usize, count: u32) -> Outcome {
+        let mut last = Outcome::GoesOn;
+        for made in 1..=count {
+            last = queue.step(worker, true, &mut Blind);
+            if made < count {
+                assert_eq!(last, Outcome::GoesOn, "step {made} of {count}");
+            }
+        }
+        last
+    }
+
+    fn put(queue: &mut Lifo, number: u32, payload: u32) {
+        queue.begin_put(number, payload);
+        assert_eq!(steps(queue, 0, 5), Outcome::Finished { number });
+    }
+
+    #[test]
+    fn a_put_is_five_lines() {
+        let mut queue = Lifo::new(2, 2, 4);
+        queue.begin_put(1, 50);
+        steps(&mut queue, 0, 2);
+        assert_eq!(queue.store.number(queue.store.current(), 0), 0);
+        steps(&mut queue, 0, 1);
+        assert_eq!(queue.store.number(queue.store.current(), 0), 1);
+        assert_eq!(queue.store.payload(queue.store.current(), 0), 0);
+        steps(&mut queue, 0, 1);
+        assert_eq!(queue.store.payload(queue.store.current(), 0), 50);
+        assert_eq!((queue.t, queue.g), (0, 0));
+        assert_eq!(steps(&mut queue, 0, 1), Outcome::Finished { number: 1 });
+        assert_eq!((queue.t, queue.g), (1, 1));
+    }
+
+    #[test]
+    fn the_tag_rises_on_put_alone_and_comes_round_to_zero() {
+        let mut queue = Lifo::new(1, 4, 8);
+        put(&mut queue, 1, 0);
+        assert_eq!(queue.g, 1);
+        queue.begin_take();
+        assert_eq!(steps(&mut queue, 0, 5), Outcome::HandedOut { number: 1, payload: 0 });
+        assert_eq!((queue.t, queue.g), (0, 1));
+        put(&mut queue, 2, 0);
+        assert_eq!((queue.t, queue.g), (1, 0));
+    }
+
+    #[test]
+    fn the_owner_writes_back_from_what_it_read() {
+        let mut queue = Lifo::new(3, 4, 8);
+        put(&mut queue, 1, 10);
+        put(&mut queue, 2, 20);
+        queue.begin_take();
+        steps(&mut queue, 0, 4);
+        for expected in [2, 1] {
+            queue.begin_steal(1);
+            let answer = steps(&mut queue, 1, 6);
+            assert_eq!(answer, Outcome::HandedOut { number: expected, payload: 10 * expected });
+        }
+        assert_eq!(queue.t, 0);
+        assert_eq!(steps(&mut queue, 0, 1), Outcome::HandedOut { number: 2, payload: 20 });
+        assert_eq!(queue.t, 1, "t-1 of the pair read, not of the anchor");
+    }
+
+    #[test]
+    fn a_thief_reads_the_array_it_noted() {
+        let mut queue = Lifo::new(4, 1, 6);
+        put(&mut queue, 1, 10);
+        queue.begin_steal(1);
+        steps(&mut queue, 1, 3);
+        assert_eq!(queue.place(1), Place::Noted);
+        queue.begin_put(2, 20);
+        assert_eq!(steps(&mut queue, 0, 6), Outcome::Restarted);
+        // The old array is still there to be read, and the anchor did not move.
+        assert_eq!(steps(&mut queue, 1, 3), Outcome::HandedOut { number: 1, payload: 10 });
+        assert_eq!(steps(&mut queue, 0, 5), Outcome::Finished { number: 2 });
+        assert_eq!(queue.window().collect::<Vec<_>>(), [(2, 20)]);
+    }
+
+    #[test]
+    fn expansion_copies_every_slot_of_the_old_array() {
+        let mut queue = Lifo::new(4, 2, 12);
+        put(&mut queue, 1, 10);
+        put(&mut queue, 2, 20);
+        queue.begin_put(3, 30);
+        steps(&mut queue, 0, 2);
+        queue.begin_steal(1);
+        steps(&mut queue, 1, 6);
+        // X1, X2, two copies though only one task is left, X4.
+        assert_eq!(steps(&mut queue, 0, 5), Outcome::Restarted);
+        assert_eq!(queue.store.number(queue.store.current(), 1), 2);
+    }
+
+    #[test]
+    fn a_full_log_stops_only_lines_that_would_end() {
+        let mut queue = Lifo::new(1, 1, 2);
+        queue.begin_put(1, 10);
+        steps(&mut queue, 0, 4);
+        assert_eq!(queue.step(0, false, &mut Blind), Outcome::Refused(11));
+        assert_eq!((queue.t, queue.g), (0, 0));
+        assert_eq!(queue.step(0, true, &mut Blind), Outcome::Finished { number: 1 });
+        queue.begin_steal(1);
+        steps(&mut queue, 1, 5);
+        assert_eq!(queue.step(1, false, &mut Blind), Outcome::Refused(11));
+        queue.begin_take();
+        steps(&mut queue, 0, 5);
+        // A failed compare does not end the steal.
+        assert_eq!(queue.step(1, false, &mut Blind), Outcome::Restarted);
+        steps(&mut queue, 1, 1);
+        assert_eq!(queue.step(1, false, &mut Blind), Outcome::Refused(11));
+        assert_eq!(queue.step(1, true, &mut Blind), Outcome::Empty);
+    }
+
+    #[test]
+    fn idle_is_refused() {
+        let mut queue = Lifo::new(1, 1, 2);
+        assert_eq!(queue.step(0, true, &mut Blind), Outcome::Refused(8));
+        assert_eq!(queue.step(3, true, &mut Blind), Outcome::Refused(8));
+    }
+}

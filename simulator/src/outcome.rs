@@ -1,0 +1,51 @@
+//! What a call answers.
+
+/// The refusals a listing can show, by their numbers.
+pub mod refusal {
+    pub const UNKNOWN_QUEUE: u32 = 1;
+    pub const TAG_WIDTH: u32 = 2;
+    pub const ARRAY_SIZE: u32 = 3;
+    pub const CREW: u32 = 4;
+    pub const SHORT_STORE: u32 = 5;
+    pub const NO_SUCH_WORKER: u32 = 6;
+    pub const BUSY: u32 = 7;
+    pub const IDLE: u32 = 8;
+    pub const WRONG_HAND: u32 = 9;
+    pub const NUMBERS_SPENT: u32 = 10;
+    pub const LOG_FULL: u32 = 11;
+    pub const BAD_LINE: u32 = 13;
+}
+
+/// What one step did. A machine that answers `Refused` has changed nothing.
+#[derive(Clone, Copy, Debug, PartialEq, Eq)]
+pub enum Outcome {
+    /// The operation goes on at its next line.
+    GoesOn,
+    /// The operation goes on at line 1 again: a failed compare, or X4.
+    Restarted,
+    /// A put finished.
+    Finished { number: u32 },
+    /// A take or a steal was handed a task.
+    HandedOut { number: u32, payload: u32 },
+    /// A take or a steal found nothing.
+    Empty,
+    /// X1 could not claim an array.
+    Full { number: u32 },
+    Refused(u32),
+}
+
+/// How far a worker is, told coarsely: for writing runs that pause a worker at
+/// a chosen place. Nothing in a listing depends on it.
+#[derive(Clone, Copy, Debug, PartialEq, Eq)]
+pub enum Place {
+    Idle,
+    /// Some line before those named below.
+    Underway,
+    /// A thief has noted an array and has yet to read its first word there.
+    Noted,
+    /// The next line would end the operation: the owner's write of the anchor,
+    /// head or tail, or a thief's compare.
+    Last,
+    /// The owner is at X1, X2, X3 or X4.
+    Expanding,
+}

@@ -1,0 +1,142 @@
+//! What a line of the input says.
+
+/// The most words a store can have.
+const MOST_WORDS: u32 = 4094;
+
+/// The most steps one `step` can ask for.
+const MOST_STEPS: u32 = 65_535;
+
+#[derive(Clone, Copy, Debug, PartialEq, Eq)]
+pub enum Command {
+    Queue { kind: u32, width: u32, size: u32, crew: u32, words: u32 },
+    Put { payload: u32 },
+    Take,
+    Steal { worker: u32 },
+    Step { worker: u32, count: u32 },
+    End,
+}
+
+/// The command a line holds, its newline taken off; none if the line has not
+/// exactly one of the given forms.
+pub fn parse(line: &[u8]) -> Option<Command> {
+    if let Some(rest) = line.strip_prefix(b"step ") {
+        let (worker, rest) = value(rest)?;
+        let (count, rest) = value(rest.strip_prefix(b" ")?)?;
+        return (rest.is_empty() && count <= MOST_STEPS).then_some(Command::Step { worker, count });
+    }
+    if let Some(rest) = line.strip_prefix(b"put ") {
+        let (payload, rest) = value(rest)?;
+        return rest.is_empty().then_some(Command::Put { payload });
+    }
+    if let Some(rest) = line.strip_prefix(b"steal ") {
+        let (worker, rest) = value(rest)?;
+        return rest.is_empty().then_some(Command::Steal { worker });
+    }
+    if let Some(rest) = line.strip_prefix(b"queue ") {
+        let (kind, rest) = value(rest)?;
+        let (width, rest) = value(rest.strip_prefix(b" ")?)?;
+        let (size, rest) = value(rest.strip_prefix(b" ")?)?;
+        let (crew, rest) = value(rest.strip_prefix(b" ")?)?;
+        let (words, rest) = value(rest.strip_prefix(b" ")?)?;
+        return (rest.is_empty() && words <= MOST_WORDS)
+            .then_some(Command::Queue { kind, width, size, crew, words });
+    }
+    match line {
+        b"take" => Some(Command::Take),
+        b"end" => Some(Command::End),
+        _ => None,
+    }
+}
+
+/// A value at the front of `text`, and what follows it: base ten, no sign, no
+/// leading zero, at most 4,294,967,295.
+fn value(text: &[u8]) -> Option<(u32, &[u8])> {
+    let mut digits = 0;
+    let mut sum: u64 = 0;
+    // An eleventh digit is above the range, whatever it is.
+    while digits < 11 && digits < text.len() && text[digits].is_ascii_digit() {
+        sum = 10 * sum + u64::from(text[digits] - b'0');
+        digits += 1;
+    }
+    if digits == 0 || (text[0] == b'0' && digits > 1) {
+        return None;
+    }
+    let value = u32::try_from(sum).ok()?;
+    Some((value, &text[digits..]))
+}
+
+#[cfg(test)]
+mod tests {
+    use super::*;
+
+    #[test]
+    fn each_form() {
+        assert_eq!(
+            parse(b"queue 1 16 1024 8 4094"),
+            Some(Command::Queue { kind: 1, width: 16, size: 1024, crew: 8, words: 4094 })
+        );
+        assert_eq!(parse(b"put 4294967295"), Some(Command::Put { payload: u32::MAX }));
+        assert_eq!(parse(b"put 0"), Some(Command::Put { payload: 0 }));
+        assert_eq!(parse(b"take"), Some(Command::Take));
+        assert_eq!(parse(b"steal 7"), Some(Command::Steal { worker: 7 }));
+        assert_eq!(parse(b"step 0 65535"), Some(Command::Step { worker: 0, count: 65_535 }));
+        assert_eq!(parse(b"end"), Some(Command::End));
+    }
+
+    #[test]
+    fn values_without_a_range_of_their_own_run_to_the_largest_word() {
+        assert_eq!(
+            parse(b"queue 4294967295 4294967295 4294967295 4294967295 0"),
+            Some(Command::Queue {
+                kind: u32::MAX,
+                width: u32::MAX,
+                size: u32::MAX,
+                crew: u32::MAX,
+                words: 0
+            })
+        );
+        assert_eq!(parse(b"steal 4294967295"), Some(Command::Steal { worker: u32::MAX }));
+        assert!(parse(b"step 4294967295 0").is_some());
+    }
+
+    #[test]
+    fn above_a_range() {
+        for line in [
+            "queue 1 1 1 1 4095",
+            "queue 4294967296 1 1 1 2",
+            "queue 1 4294967296 1 1 2",
+            "queue 1 1 4294967296 1 2",
+            "queue 1 1 1 4294967296 2",
+            "put 4294967296",
+            "put 10000000000",
+            "put 99999999999999999999999999",
+            "steal 4294967296",
+            "step 4294967296 0",
+            "step 0 65536",
+            "step 0 4294967296",
+        ] {
+            assert_eq!(parse(line.as_bytes()), None, "{line}");
+        }
+    }
+
+    #[test]
+    fn no_given_form() {
+        for line in [
+            "", " ", "put", "put ", "put  1", " put 1", "put 1 ", "put 01", "put 00", "put +1",
+            "put -1", "put -0", "put 1 2", "put\t1", "put 1\r", "put 1\0", "\0put 1", "put x",
+            "put 1x", "put 0x1", "put 1.0", "put 1_0", "Put 1", "PUT 1", "pu 1", "putt 1",
+            "take 0", "take ", " take", "tak", "takes", "take\r", "steal", "steal ", "steal 1 1",
+            "steal 01", "step", "step 0", "step 0 ", "step  0 1", "step 0  1", "step 0 1 ",
+            "step 0 1 1", "step 0 01", "step 00 1", "step 0\t1", "end ", " end", "ends", "en",
+            "END", "end 0", "queue", "queue 1 1 1 1", "queue 1 1 1 1 ", "queue 1 1 1 1 2 ",
+            "queue 1 1 1 1 2 2", "queue 1 1 1 01 2", "queue 1  1 1 1 2", "queue,1,1,1,1,2",
+            "# put 1",
+        ] {
+            assert_eq!(parse(line.as_bytes()), None, "{line:?}");
+        }
+        assert_eq!(parse(b"put 1\xff"), None);
+        assert_eq!(parse(b"\xef\xbb\xbfend"), None);
+        // Arabic-Indic digits are not base ten digits of the input.
+        assert_eq!(parse("put \u{0661}".as_bytes()), None);
+    }
+}

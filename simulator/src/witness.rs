@@ -1,0 +1,30 @@
+//! Who watches a run. The machines tell a witness of the two lines demand 3
+//! speaks of, the program tells it of everything a call answered. `Blind` hears
+//! nothing and costs nothing.
+
+pub trait Witness {
+    /// A fresh bench was accepted.
+    fn fresh(&mut self, _kind: u32, _width: u32) {}
+    /// A begin or a step, refused or not, is about to be made.
+    fn call(&mut self) {}
+    fn put_begun(&mut self, _number: u32, _payload: u32) {}
+    /// An accepted step did line 1 of a take or a steal.
+    fn line_one(&mut self, _worker: usize) {}
+    /// An accepted step did the compare of a steal, whichever way it went.
+    fn compare(&mut self, _worker: usize) {}
+    fn finished(&mut self, _number: u32) {}
+    fn handed_out(&mut self, _worker: usize, _number: u32, _payload: u32) {}
+    fn empty(&mut self, _worker: usize) {}
+    /// X4: the window is now seen in another array.
+    fn published(&mut self) {}
+    /// Whether the window has moved since it was last shown.
+    fn wants_window(&self) -> bool {
+        false
+    }
+    /// The words of each task in the window.
+    fn window(&mut self, _tasks: &mut dyn Iterator<Item = (u32, u32)>) {}
+}
+
+pub struct Blind;
+
+impl Witness for Blind {}
