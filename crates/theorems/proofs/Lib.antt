@@ -28,3 +28,4 @@ pub mod Rounds
 pub mod TightList
 pub mod Tight
 pub mod Examples
+pub mod Contracts
