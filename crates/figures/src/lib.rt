@@ -4,6 +4,8 @@
 ghost use mathlib.Core.Path.{_≡_};
 ghost use Prim.Native.Nat.{_+_, _-_, _*_, _≤_, _<_, _^_};
 ghost use lib.ListN.{length};
+ghost use Rattle.model.specs.declared.Line.the-variants.{Claim, PutNumber};
+ghost use Rattle.model.specs.Tests.{if_then_else_};
 ghost use Rattle.model.specs.Memory.{offsetAt, sizeAt};
 ghost use Rattle.model.specs.Figures.{
   nextTag,
@@ -215,6 +217,26 @@ pub fn steal_read(kind: Kind, anchor: Anchor) -> Line
         Kind::Lifo => Line::StealTest { read: anchor },
         Kind::Fifo => Line::StealTail { head: anchor.head },
         Kind::Deque => Line::StealTest { read: anchor },
+    }
+}
+
+// FIFO's line 2 reads the tail, at a put, a take and a steal: an anchor whose head was read a line before.
+pub fn with_tail(head: u32, anchor: Anchor) -> Anchor
+    ensures { λ r. ⌜ r ≡ record { head = head; count = anchor .count; tag = anchor .tag } ⌝ }
+{
+    anchor_of(head, anchor.count, anchor.tag)
+}
+
+// Put 2 (FIFO 3): X1 if the array of `size` tasks is full, else the write.
+pub fn put_test(kind: Kind, size: u32, read: Anchor, task: Task) -> Line
+    requires { ⌜ (read .head ≤ 65535) × (size ≤ 1024) ⌝ }
+    ensures { λ r. ⌜ r ≡ if_then_else_ (isFull kind size read) (Claim task) (PutNumber task read) ⌝ }
+{
+    let full = is_full(kind, size, read);
+    if full {
+        Line::Claim { task: task }
+    } else {
+        Line::PutNumber { task: task, read: read }
     }
 }
 
