@@ -1,3 +1,7 @@
+use Rattle.lines.proofs.Room.{in-room}
+use Rattle.lines.specs.Act.{enact, InStore}
+use Rattle.model.specs.Tests.{if_then_else_}
+use mathlib.Core.Path.{sym, _∙_}
 use borrow.Author.Needs.{needs}
 use Rattle.lines.proofs.claim.Statement.{statement}
 use Rattle.lines.proofs.claim.Tie as tie
@@ -37,11 +41,13 @@ mul-words-2 c = search needs
 
 -- src/lib.rt:91:1
 returns : tie.Need-returns
-returns c = ?
+unfolding enact InStore if_then_else_
+returns c = (simp (sym (c .before .before .before .before .has-room .ensures) ∙ c .before .before .before .if1 .taken, c .before .size-at .ensures, c .end-of .ensures), in-room (c .before .before .before .before .before .before .args .queue) (c .before .before .before .before .before .before .args .store .now) (c .before .before .before .before .before .before .pre .1) (sym (c .before .before .before .before .has-room .ensures) ∙ c .before .before .before .if1 .taken) (c .before .size-at .ensures) (c .end-of .ensures))
 
 -- src/lib.rt:91:1
 returns-2 : tie.Need-returns-2
-returns-2 c = ?
+unfolding enact InStore if_then_else_
+returns-2 c = (simp (sym (c .before .has-room .ensures) ∙ c .if1 .left), tt)
 
 pub claim-spec : {M : Type 1} → statement M
 claim-spec =

@@ -1,3 +1,6 @@
+use Rattle.lines.specs.Act.{enact, InStore}
+use Rattle.model.specs.Tests.{if_then_else_}
+use mathlib.Core.Path.{sym, _∙_}
 use borrow.Author.Needs.{needs}
 use Rattle.lines.proofs.compare.Statement.{statement}
 use Rattle.lines.proofs.compare.Tie as tie
@@ -16,11 +19,13 @@ after-steal-requires c κs = search needs
 
 -- src/lib.rt:66:1
 returns : tie.Need-returns
-returns c = ?
+unfolding enact InStore if_then_else_
+returns c = (λ m. simp (sym (c .before .before .is-same .ensures) ∙ c .before .if1 .taken, c .after-steal .ensures), λ n. tt)
 
 -- src/lib.rt:66:1
 returns-2 : tie.Need-returns-2
-returns-2 c = ?
+unfolding enact InStore if_then_else_
+returns-2 c = (λ m. simp (sym (c .before .is-same .ensures) ∙ c .if1 .left), λ n. tt)
 
 pub compare-spec : {M : Type 1} → statement M
 compare-spec = tie.close (tie.spec is-same-requires after-steal-requires returns returns-2)
