@@ -1,0 +1,4 @@
+pub mod Zeros
+pub mod Bounds
+pub mod Replies
+pub mod Commits
