@@ -1,10 +1,12 @@
 -- What committing a line's effect comes to, by how the line goes.
-use mathlib.Core.Bool.{true, false}
+use mathlib.Core.Bool.{Bool, true, false}
 use mathlib.Core.List.{List}
-use mathlib.Core.Path.{_≡_, refl}
-use Prim.Native.Nat.{ℕ, _+_}
-use lib.Dec.{ltb}
+use mathlib.Core.Path.{_≡_, refl, sym, _∙_}
+use Prim.Native.Nat.{ℕ, _+_, _≤_}
+use native.Mathlib.Omega.{arith}
+use lib.Dec.{ltb, leb}
 use lib.ListN.{length}
+use borrow.Author.Tests.{leb-true, leb-false, lt-ltb, le-leb}
 use Rattle.model.specs.declared.Line.{Line}
 use Rattle.model.specs.declared.Line.the-variants.{Idle}
 use Rattle.model.specs.declared.Queue.{Queue}
@@ -17,7 +19,20 @@ use Rattle.model.specs.Answers.{ends, entryOf, writeEntry}
 use Rattle.model.specs.Lines.{eff}
 use Rattle.model.specs.World.{Outcome, refuse}
 use Rattle.model.specs.Calls.{lent, commit}
+use Rattle.limits.proofs.Chains.{holds}
 use Rattle.machine.specs.Left.{moved}
+
+-- a log of fewer than 2^32 words whose room is refused has none
+pub no-room-left : (n w : ℕ) → (leb (w + 4) n and leb (w + 4) 4294967295) ≡ false → n ≤ 4294967295
+    → ltb n (w + 4) ≡ true
+no-room-left n w e h = by (leb (w + 4) n) refl
+  where
+    by : (x : Bool) → leb (w + 4) n ≡ x → ltb n (w + 4) ≡ true
+    by true f =
+        let g : w + 4 ≤ n = leb-true (w + 4) n f in
+        let z : true ≡ false = sym (holds f ∙ le-leb (w + 4) 4294967295 (omega arith)) ∙ e in
+        cc
+    by false f = lt-ltb n (w + 4) (leb-false (w + 4) n f)
 
 module _ (b : Bench) (i : ℕ) (q : Queue) (m l : List ℕ) where
   abbrev after : List ℕ → List ℕ → Line → ℕ → Answer → Outcome

@@ -2,3 +2,4 @@ pub mod Zeros
 pub mod Bounds
 pub mod Replies
 pub mod Commits
+pub mod Acts

@@ -29,9 +29,18 @@ ghost use Rattle.model.specs.Calls.{
 };
 ghost use Rattle.lines.specs.Act.{withArray, enact, InStore};
 ghost use Rattle.machine.specs.Left.{left, words, opened, moved};
-
 use lines::Act;
-use model::{Anchor, Answer, Bench, Kind, Line, Operation, Queue, Refusal, Region, Task, Worker};
+use model::Anchor;
+use model::Answer;
+use model::Bench;
+use model::Kind;
+use model::Line;
+use model::Operation;
+use model::Queue;
+use model::Refusal;
+use model::Region;
+use model::Task;
+use model::Worker;
 
 // What a call hands back: the next state, and the answer.
 pub struct Reply {
@@ -111,14 +120,24 @@ fn made(kind: Kind, width: u32, size: u32, crew: u32) -> Bench
     requires { ⌜ size ≤ 1024 ⌝ }
     ensures { λ r. ⌜ r ≡ blank kind width size crew ⌝ }
 {
-    let mut arrays = [Region { offset: 0, length: 0 }; 11];
-    arrays[0] = Region { offset: 0, length: 2 * size };
+    let mut arrays = [Region {
+        offset: 0,
+        length: 0,
+    }; 11];
+    arrays[0] = Region {
+        offset: 0,
+        length: 2 * size,
+    };
     Bench {
         kind: kind,
         width: width,
         crew: crew,
         queue: Queue {
-            anchor: Anchor { head: 0, count: 0, tag: 0 },
+            anchor: Anchor {
+                head: 0,
+                count: 0,
+                tag: 0,
+            },
             arrays: arrays,
             published: 1,
             claimed: 1,
@@ -206,7 +225,10 @@ fn accept(bench: Bench, worker: u32, operation: Operation) -> Reply
     match operation {
         Operation::Put { payload } => {
             let number = used + 1;
-            let task = Task { number: number, payload: payload };
+            let task = Task {
+                number: number,
+                payload: payload,
+            };
             Reply {
                 bench: opens(bench, i, number, Line::PutRead { task: task }),
                 answer: Answer::Numbered { number: number },
@@ -327,7 +349,10 @@ fn with_array(queue: Queue, offset: u32, length: u32) -> Queue
     let published = queue.published;
     let place = published as usize;
     let mut next = queue;
-    next.arrays[place] = Region { offset: offset, length: length };
+    next.arrays[place] = Region {
+        offset: offset,
+        length: length,
+    };
     next.claimed = published + 1;
     next
 }
@@ -393,4 +418,64 @@ fn ends(bench: Bench, worker: u32, queue: Queue, answer: Answer, log: &mut [u32]
         bench: moves(bench, i, queue, Line::Idle, written + 4),
         answer: answer,
     }
+}
+
+// Does what a line decided.
+fn apply(bench: Bench, worker: u32, act: Act, store: &mut [u32], log: &mut [u32]) -> Reply
+    requires { ⌜ worker < 8 ⌝ }
+    requires { ⌜ bench .queue .published ≤ 11 ⌝ }
+    requires { ⌜ InStore (bench .queue) (length (now store)) act ⌝ }
+    ensures { λ r. ⌜ (length (now (log .entry)) ≤ 4294967295 → left r (now (store .exit)) (now (log .exit)) ≡ commit (lent bench (now (store .entry)) (now (log .entry))) worker (enact (bench .queue) (now (store .entry)) act)) ⌝ }
+{
+    let queue = bench.queue;
+    match act {
+        Act::Goes { line } => goes_on(bench, worker, queue, line),
+        Act::Word { place, value, line } => {
+            store[place] = value;
+            goes_on(bench, worker, queue, line)
+        }
+        Act::Copies { place, task, line } => {
+            let next = place + 1;
+            store[place] = task.number;
+            store[next] = task.payload;
+            goes_on(bench, worker, queue, line)
+        }
+        Act::Claims {
+            offset,
+            length,
+            line,
+        } => {
+            zero(store, offset as usize, length as usize);
+            goes_on(bench, worker, with_array(queue, offset, length), line)
+        }
+        Act::Publishes { line } => goes_on(bench, worker, publish(queue), line),
+        Act::Stops { answer } => ends(bench, worker, queue, answer, log),
+        Act::Ends { anchor, answer } => ends(
+            bench,
+            worker,
+            with_anchor(queue, anchor),
+            answer,
+            log,
+        ),
+    }
+}
+
+pub fn step(bench: Bench, worker: u32, store: &mut [u32], log: &mut [u32]) -> Reply
+    ensures { λ r. ⌜ (length (now (log .entry)) ≤ 4294967295 → left r (now (store .exit)) (now (log .exit)) ≡ stepOf (lent bench (now (store .entry)) (now (log .entry))) worker) ⌝ }
+{
+    if !limits::valid(bench, store, log) {
+        return refused(bench, Refusal::ForeignState);
+    }
+    if bench.crew <= worker {
+        return refused(bench, Refusal::NoSuchWorker);
+    }
+    let i = worker as usize;
+    let own = bench.workers[i];
+    let line = own.line;
+    if limits::is_idle(line) {
+        return refused(bench, Refusal::IdleWorker);
+    }
+    let queue = bench.queue;
+    let act = lines::decide(bench.kind, bench.width, queue, store, worker, line);
+    apply(bench, worker, act, store, log)
 }

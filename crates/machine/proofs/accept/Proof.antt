@@ -1,12 +1,6 @@
-use mathlib.Core.List.{List}
-use mathlib.Core.Path.{ap, _∙_}
-use Rattle.model.specs.declared.Bench.{Bench}
 use borrow.Author.Needs.{needs}
 use Rattle.machine.proofs.accept.Statement.{statement}
 use Rattle.machine.proofs.accept.Tie as tie
-use Rattle.machine.proofs.accept.Reads as reads
-use Rattle.machine.proofs.accept.Lts as lts
-use Rattle.machine.proofs.opens.Reads as opens-reads
 
 enum-known-operation : tie.Need-enum-known-operation
 enum-known-operation c = search needs

@@ -1,6 +1,4 @@
-use mathlib.Core.List.{List}
 use mathlib.Core.Path.{sym, ap, _∙_}
-use Prim.Native.Nat.{_<_, _≤_}
 use native.Mathlib.Omega.{arith}
 use borrow.Author.Needs.{needs}
 use borrow.Author.Tests.{lt-ltb, le-ltb}
@@ -11,14 +9,6 @@ use Rattle.machine.specs.Left.{left}
 use Rattle.machine.proofs.Bounds.{bounds-of}
 use Rattle.machine.proofs.begin.Statement.{statement}
 use Rattle.machine.proofs.begin.Tie as tie
-use Rattle.machine.proofs.begin.Reads as reads
-use Rattle.machine.proofs.begin.Lts as lts
-use Rattle.limits.proofs.is_idle.Reads as is-idle-reads
-use Rattle.limits.proofs.valid.Reads as valid-reads
-use Rattle.machine.proofs.accept.Reads as accept-reads
-use Rattle.machine.proofs.numbers_left.Reads as numbers-left-reads
-use Rattle.machine.proofs.refused.Reads as refused-reads
-use Rattle.machine.proofs.right_hand.Reads as right-hand-reads
 
 valid-requires : tie.Need-valid-requires
 valid-requires c κs = search needs
@@ -28,7 +18,7 @@ refused-requires c κs = search needs
 
 returns : tie.Need-returns
 unfolding beginOf
-returns c = 
+returns c =
     ap (λ (r : Reply). left r (c .before .before .before .before .before .args .store .now) (c .before .before .before .before .before .args .log .now)) (c .refused .ensures)
     ∙ sym (if-false _ (refused (c .before .before .valid .ensures) (c .before .if1 .taken)))
 
@@ -37,7 +27,7 @@ refused-requires-2 c κs = search needs
 
 returns-2 : tie.Need-returns-2
 unfolding beginOf
-returns-2 c = 
+returns-2 c =
     ap (λ (r : Reply). left r (c .before .before .before .before .before .before .args .store .now) (c .before .before .before .before .before .before .args .log .now)) (c .refused2 .ensures)
     ∙ sym
     (if-true _ (passed (c .before .before .before .valid .ensures) (c .before .before .if1 .left))
@@ -51,7 +41,7 @@ refused-requires-3 c κs = search needs
 
 returns-3 : tie.Need-returns-3
 unfolding beginOf
-returns-3 c = 
+returns-3 c =
     ap (λ (r : Reply). left r (c .before .before .before .before .before .before .before .before .args .store .now) (c .before .before .before .before .before .before .before .before .args .log .now)) (c .refused3 .ensures)
     ∙ sym
     (if-true _ (passed (c .before .before .before .before .before .valid .ensures) (c .before .before .before .before .if1 .left))
@@ -72,7 +62,7 @@ refused-requires-4 c κs = search needs
 
 returns-4 : tie.Need-returns-4
 unfolding beginOf
-returns-4 c = 
+returns-4 c =
     ap (λ (r : Reply). left r (c .before .before .before .before .before .before .before .before .before .before .before .args .store .now) (c .before .before .before .before .before .before .before .before .before .before .before .args .log .now)) (c .refused4 .ensures)
     ∙ sym
     (if-true _ (passed (c .before .before .before .before .before .before .before .before .valid .ensures) (c .before .before .before .before .before .before .before .if1 .left))
@@ -88,7 +78,7 @@ refused-requires-5 c κs = search needs
 
 returns-5 : tie.Need-returns-5
 unfolding beginOf
-returns-5 c = 
+returns-5 c =
     ap (λ (r : Reply). left r (c .before .before .before .before .before .before .before .before .before .before .before .before .before .args .store .now) (c .before .before .before .before .before .before .before .before .before .before .before .before .before .args .log .now)) (c .refused5 .ensures)
     ∙ sym
     (if-true _ (passed (c .before .before .before .before .before .before .before .before .before .before .valid .ensures) (c .before .before .before .before .before .before .before .before .before .if1 .left))
@@ -102,7 +92,7 @@ accept-requires c κs = let v = bounds-of (lent (c .before .before .before .befo
 
 returns-6 : tie.Need-returns-6
 unfolding beginOf
-returns-6 c = 
+returns-6 c =
     c .accept .ensures _ _
     ∙ sym
     (if-true _ (passed (c .before .before .before .before .before .before .before .before .before .before .valid .ensures) (c .before .before .before .before .before .before .before .before .before .if1 .left))

@@ -8,8 +8,6 @@ use borrow.Author.Needs.{needs}
 use Rattle.machine.proofs.Zeros.{filled}
 use Rattle.machine.proofs.clear.Statement.{statement}
 use Rattle.machine.proofs.clear.Tie as tie
-use Rattle.machine.proofs.clear.Reads as reads
-use Rattle.machine.proofs.clear.Lts as lts
 
 abbrev Inv-loop : tie.InvT-loop
 Inv-loop words₀ i₀ words i =
@@ -34,7 +32,7 @@ loop-less : tie.Need-loop-less Inv-loop μ-loop
 loop-less c = search needs
 
 loop-again : tie.Need-loop-again Inv-loop μ-loop
-loop-again c = 
+loop-again c =
     let v = c .before .loop .inv in
     let i = c .before .loop .i in
     let s = c .before .before .args .words .now in
@@ -44,7 +42,7 @@ same-length : tie.Need-same-length Inv-loop μ-loop
 same-length c = search needs
 
 returns : tie.Need-returns Inv-loop μ-loop
-returns c = 
+returns c =
     c .before .loop .inv .1 .1 ∙ filled (c .before .loop .i) (c .before .before .args .words .now) (omega arith)
 
 pub clear-spec : {M : Type 1} → statement M

@@ -1,12 +1,9 @@
 use mathlib.Core.Path.{sym, _∙_}
 use borrow.Author.Tests.{eq-eqb, ne-eqb}
-use Rattle.limits.proofs.Chains.{if-true, if-false, passed, refused}
 use borrow.Author.Needs.{needs}
+use Rattle.limits.proofs.Chains.{if-true, if-false, passed, refused}
 use Rattle.machine.proofs.count_restart.Statement.{statement}
 use Rattle.machine.proofs.count_restart.Tie as tie
-use Rattle.machine.proofs.count_restart.Reads as reads
-use Rattle.machine.proofs.count_restart.Lts as lts
-use Rattle.machine.proofs.is_line1.Reads as is-line1-reads
 
 is-line1-requires : tie.Need-is-line1-requires
 is-line1-requires c κs = search needs
@@ -15,7 +12,7 @@ returns : tie.Need-returns
 returns c = sym (if-false _ (refused (c .before .is-line1 .ensures) (c .if1 .taken)))
 
 returns-2 : tie.Need-returns-2
-returns-2 c = 
+returns-2 c =
     sym
     (if-true _ (passed (c .before .before .is-line1 .ensures) (c .before .if1 .left)) ∙ if-true _ (eq-eqb _ _ (c .if2 .taken)))
 
@@ -23,7 +20,7 @@ add-result : tie.Need-add-result
 add-result c = search needs
 
 returns-3 : tie.Need-returns-3
-returns-3 c = 
+returns-3 c =
     sym
     (if-true _ (passed (c .before .before .is-line1 .ensures) (c .before .if1 .left)) ∙ if-false _ (ne-eqb _ _ (c .if2 .left)))
 

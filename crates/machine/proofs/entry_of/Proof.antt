@@ -1,103 +1,76 @@
 use borrow.Author.Needs.{needs}
 use Rattle.machine.proofs.entry_of.Statement.{statement}
 use Rattle.machine.proofs.entry_of.Tie as tie
-use Rattle.machine.proofs.entry_of.Reads as reads
-use Rattle.machine.proofs.entry_of.Lts as lts
-use Rattle.machine.proofs.entry_with.Reads as entry-with-reads
 
--- src/lib.rt:254:29
 enum-told : tie.Need-enum-told
 enum-told c = search needs
 
--- src/lib.rt:254:29
 entry-with-requires : tie.Need-entry-with-requires
 entry-with-requires c κs = search needs
 
--- src/lib.rt:255:43
 enum-told-2 : tie.Need-enum-told-2
 enum-told-2 c = search needs
 
--- src/lib.rt:255:43
 entry-with-requires-2 : tie.Need-entry-with-requires-2
 entry-with-requires-2 c κs = search needs
 
--- src/lib.rt:256:27
 enum-told-3 : tie.Need-enum-told-3
 enum-told-3 c = search needs
 
--- src/lib.rt:256:27
 entry-with-requires-3 : tie.Need-entry-with-requires-3
 entry-with-requires-3 c κs = search needs
 
--- src/lib.rt:257:28
 enum-known-answer : tie.Need-enum-known-answer
 enum-known-answer c = search needs
 
--- src/lib.rt:257:46
 entry-with-requires-4 : tie.Need-entry-with-requires-4
 entry-with-requires-4 c κs = search needs
 
--- src/lib.rt:258:29
 enum-known-answer-2 : tie.Need-enum-known-answer-2
 enum-known-answer-2 c = search needs
 
--- src/lib.rt:258:47
 entry-with-requires-5 : tie.Need-entry-with-requires-5
 entry-with-requires-5 c κs = search needs
 
--- src/lib.rt:259:25
 enum-known-answer-3 : tie.Need-enum-known-answer-3
 enum-known-answer-3 c = search needs
 
--- src/lib.rt:259:37
 entry-with-requires-6 : tie.Need-entry-with-requires-6
 entry-with-requires-6 c κs = search needs
 
--- src/lib.rt:260:24
 enum-known-answer-4 : tie.Need-enum-known-answer-4
 enum-known-answer-4 c = search needs
 
--- src/lib.rt:260:42
 entry-with-requires-7 : tie.Need-entry-with-requires-7
 entry-with-requires-7 c κs = search needs
 
--- src/lib.rt:261:39
 enum-told-4 : tie.Need-enum-told-4
 enum-told-4 c = search needs
 
--- src/lib.rt:261:39
 entry-with-requires-8 : tie.Need-entry-with-requires-8
 entry-with-requires-8 c κs = search needs
 
--- src/lib.rt:250:1
 returns : tie.Need-returns
 returns c = simp (c .before .enum-told .given .1, c .entry-with .ensures)
 
--- src/lib.rt:250:1
 returns-2 : tie.Need-returns-2
 returns-2 c = simp (c .before .enum-told2 .given .1, c .entry-with2 .ensures)
 
--- src/lib.rt:250:1
 returns-3 : tie.Need-returns-3
 returns-3 c = simp (c .before .enum-told3 .given .1, c .entry-with3 .ensures)
 
--- src/lib.rt:250:1
 returns-4 : tie.Need-returns-4
 returns-4 c = simp (c .before .before .answer .given .1, c .entry-with4 .ensures)
 
--- src/lib.rt:250:1
 returns-5 : tie.Need-returns-5
 returns-5 c = simp (c .before .before .answer2 .given .1, c .entry-with5 .ensures)
 
--- src/lib.rt:250:1
 returns-6 : tie.Need-returns-6
 returns-6 c = simp (c .before .before .answer3 .given .1, c .entry-with6 .ensures)
 
--- src/lib.rt:250:1
 returns-7 : tie.Need-returns-7
 returns-7 c = simp (c .before .before .answer4 .given .1, c .entry-with7 .ensures)
 
--- src/lib.rt:250:1
 returns-8 : tie.Need-returns-8
 returns-8 c = simp (c .before .enum-told4 .given .1, c .entry-with8 .ensures)
 

@@ -1,25 +1,17 @@
-use mathlib.Core.List.{List}
-use mathlib.Core.Path.{sym, ap, _∙_}
+use mathlib.Core.Path.{refl, sym, ap, _∙_}
 use borrow.Author.Tests.{le-leb, lt-leb}
-use Rattle.model.specs.Calls.{freshOf}
+use borrow.Author.Needs.{needs}
+use Rattle.model.specs.Calls.{blank, freshOf}
+use Rattle.model.specs.declared.Kind.{Kind}
+use Rattle.model.specs.declared.Bench.{Bench}
+use Rattle.model.specs.declared.Answer.the-variants.{Accepted}
 use Rattle.limits.proofs.Chains.{if-true, if-false, passed, refused}
 use Rattle.limits.proofs.Sizes.{size-in}
 use Rattle.machine.specs.declared.Reply.{Reply}
 use Rattle.machine.specs.Left.{left}
-use Rattle.machine.proofs.Replies.{fresh-left}
-use borrow.Author.Needs.{needs}
+use Rattle.machine.proofs.Replies.{same-left}
 use Rattle.machine.proofs.fresh.Statement.{statement}
 use Rattle.machine.proofs.fresh.Tie as tie
-use Rattle.machine.proofs.fresh.Reads as reads
-use Rattle.machine.proofs.fresh.Lts as lts
-use Rattle.limits.proofs.crew_ok.Reads as crew-ok-reads
-use Rattle.limits.proofs.is_size.Reads as is-size-reads
-use Rattle.limits.proofs.width_ok.Reads as width-ok-reads
-use Rattle.machine.proofs.kind_of.Reads as kind-of-reads
-use Rattle.machine.proofs.kind_ok.Reads as kind-ok-reads
-use Rattle.machine.proofs.made.Reads as made-reads
-use Rattle.machine.proofs.unmade.Reads as unmade-reads
-use Rattle.machine.proofs.zero.Reads as zero-reads
 
 kind-ok-requires : tie.Need-kind-ok-requires
 kind-ok-requires c κs = search needs
@@ -110,7 +102,11 @@ same-length c = search needs
 returns-6 : tie.Need-returns-6
 unfolding freshOf
 returns-6 c = λ l.
-    fresh-left _ l (c .before .kind-of .ensures) (c .made .ensures) (c .before .before .before .before .zero .ensures)
+    same-left
+    (ap (λ (b : Bench). record { bench = b; answer = Accepted })
+    (c .made .ensures ∙ ap (λ (κ : Kind). blank κ (c .before .before .before .before .before .before .before .before .before .before .before .before .before .before .before .before .args .width) (c .before .before .before .before .before .before .before .before .before .before .before .before .before .before .before .before .args .size) (c .before .before .before .before .before .before .before .before .before .before .before .before .before .before .before .before .args .crew)) (c .before .kind-of .ensures)))
+    (c .before .before .before .before .zero .ensures)
+    refl
     ∙ sym
     (if-true _ (passed (c .before .before .before .before .before .before .before .before .before .before .before .before .before .before .kind-ok .ensures) (c .before .before .before .before .before .before .before .before .before .before .before .before .before .if1 .left))
     ∙ if-true _ (passed (c .before .before .before .before .before .before .before .before .before .before .before .before .width-ok .ensures) (c .before .before .before .before .before .before .before .before .before .before .before .if2 .left))

@@ -1,12 +1,10 @@
-use mathlib.Core.Path.{refl, sym}
+use mathlib.Core.Path.{sym}
 use native.Mathlib.Omega.{arith}
 use lib.Seq.{length-take-le, take-all}
-use Rattle.model.specs.Calls.{frontOf}
 use borrow.Author.Needs.{needs}
+use Rattle.model.specs.Calls.{frontOf}
 use Rattle.machine.proofs.front.Statement.{statement}
 use Rattle.machine.proofs.front.Tie as tie
-use Rattle.machine.proofs.front.Reads as reads
-use Rattle.machine.proofs.front.Lts as lts
 
 cast-written : tie.Need-cast-written
 cast-written c = search needs

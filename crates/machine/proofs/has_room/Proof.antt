@@ -1,20 +1,19 @@
+use borrow.Author.Tests.{le-leb, lt-leb}
 use borrow.Author.Needs.{needs}
+use Rattle.model.specs.Tests.{_and_}
 use Rattle.machine.proofs.has_room.Statement.{statement}
 use Rattle.machine.proofs.has_room.Tie as tie
-use Rattle.machine.proofs.has_room.Reads as reads
-use Rattle.machine.proofs.has_room.Lts as lts
 
--- src/lib.rt:369:15
 add-end : tie.Need-add-end
 add-end c = search needs
 
--- src/lib.rt:366:1
 returns : tie.Need-returns
-returns c = ?
+unfolding _and_
+returns c = simp (le-leb _ _ (c .if1 .taken))
 
--- src/lib.rt:366:1
 returns-2 : tie.Need-returns-2
-returns-2 c = ?
+unfolding _and_
+returns-2 c = simp (lt-leb _ _ (c .if1 .left))
 
 pub has-room-spec : {M : Type 1} → statement M
 has-room-spec = tie.close (tie.spec add-end returns returns-2)

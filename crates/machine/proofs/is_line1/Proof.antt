@@ -1,12 +1,9 @@
 use mathlib.Core.Path.{sym, _∙_}
 use borrow.Author.Tests.{eq-eqb, ne-eqb}
-use Rattle.model.specs.Tests.{_or_}
 use borrow.Author.Needs.{needs}
+use Rattle.model.specs.Tests.{_or_}
 use Rattle.machine.proofs.is_line1.Statement.{statement}
 use Rattle.machine.proofs.is_line1.Tie as tie
-use Rattle.machine.proofs.is_line1.Reads as reads
-use Rattle.machine.proofs.is_line1.Lts as lts
-use Rattle.limits.proofs.stage.Reads as stage-reads
 
 stage-requires : tie.Need-stage-requires
 stage-requires c κs = search needs

@@ -2,8 +2,6 @@ use borrow.Author.Tests.{eq-eqb, ne-eqb}
 use Rattle.model.specs.Tests.{if_then_else_}
 use Rattle.machine.proofs.kind_of.Statement.{statement}
 use Rattle.machine.proofs.kind_of.Tie as tie
-use Rattle.machine.proofs.kind_of.Reads as reads
-use Rattle.machine.proofs.kind_of.Lts as lts
 
 returns : tie.Need-returns
 unfolding if_then_else_

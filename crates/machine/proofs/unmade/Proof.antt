@@ -1,11 +1,6 @@
-use mathlib.Core.Path.{ap, _∙_}
 use borrow.Author.Needs.{needs}
 use Rattle.machine.proofs.unmade.Statement.{statement}
 use Rattle.machine.proofs.unmade.Tie as tie
-use Rattle.machine.proofs.unmade.Reads as reads
-use Rattle.machine.proofs.unmade.Lts as lts
-use Rattle.machine.proofs.made.Reads as made-reads
-use Rattle.machine.proofs.refused.Reads as refused-reads
 
 made-requires : tie.Need-made-requires
 made-requires c κs = search needs

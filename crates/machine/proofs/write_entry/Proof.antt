@@ -3,8 +3,6 @@ use lib.ListN.{length-set}
 use borrow.Author.Needs.{needs}
 use Rattle.machine.proofs.write_entry.Statement.{statement}
 use Rattle.machine.proofs.write_entry.Tie as tie
-use Rattle.machine.proofs.write_entry.Reads as reads
-use Rattle.machine.proofs.write_entry.Lts as lts
 
 mul-log : tie.Need-mul-log
 mul-log c = search needs

@@ -1,10 +1,7 @@
-use Rattle.machine.proofs.Zeros.{zeroed}
 use borrow.Author.Needs.{needs}
+use Rattle.machine.proofs.Zeros.{zeroed}
 use Rattle.machine.proofs.zero.Statement.{statement}
 use Rattle.machine.proofs.zero.Tie as tie
-use Rattle.machine.proofs.zero.Reads as reads
-use Rattle.machine.proofs.zero.Lts as lts
-use Rattle.machine.proofs.clear.Reads as clear-reads
 
 add-end : tie.Need-add-end
 add-end c = search needs
