@@ -192,18 +192,9 @@ pub fn put_read(kind: Kind, anchor: Anchor, task: Task) -> Line
     ensures { λ r. ⌜ r ≡ putRead kind anchor task ⌝ }
 {
     match kind {
-        Kind::Lifo => Line::PutTest {
-            task: task,
-            read: anchor,
-        },
-        Kind::Fifo => Line::PutTail {
-            task: task,
-            head: anchor.head,
-        },
-        Kind::Deque => Line::PutTest {
-            task: task,
-            read: anchor,
-        },
+        Kind::Lifo => Line::PutTest { task: task, read: anchor },
+        Kind::Fifo => Line::PutTail { task: task, head: anchor.head },
+        Kind::Deque => Line::PutTest { task: task, read: anchor },
     }
 }
 
@@ -245,10 +236,7 @@ pub fn put_test(kind: Kind, size: u32, read: Anchor, task: Task) -> Line
     if full {
         Line::Claim { task: task }
     } else {
-        Line::PutNumber {
-            task: task,
-            read: read,
-        }
+        Line::PutNumber { task: task, read: read }
     }
 }
 
@@ -257,20 +245,9 @@ pub fn steal_last(kind: Kind, read: Anchor, task: Task) -> Line
     ensures { λ r. ⌜ r ≡ stealLast kind read task ⌝ }
 {
     match kind {
-        Kind::Lifo => Line::StealCompare {
-            read: read,
-            next: 0,
-            task: task,
-        },
-        Kind::Fifo => Line::StealCompare {
-            read: read,
-            next: 0,
-            task: task,
-        },
-        Kind::Deque => Line::StealNext {
-            read: read,
-            task: task,
-        },
+        Kind::Lifo => Line::StealCompare { read: read, next: 0, task: task },
+        Kind::Fifo => Line::StealCompare { read: read, next: 0, task: task },
+        Kind::Deque => Line::StealNext { read: read, task: task },
     }
 }
 
@@ -281,12 +258,7 @@ fn note_all(task: Task, head: u32, noted: u32) -> Line
     if noted == 0 {
         Line::Publish { task: task }
     } else {
-        Line::Copy {
-            task: task,
-            head: head,
-            noted: noted,
-            copied: 0,
-        }
+        Line::Copy { task: task, head: head, noted: noted, copied: 0 }
     }
 }
 
@@ -311,12 +283,7 @@ pub fn copy_on(task: Task, head: u32, noted: u32, copied: u32) -> Line
     if up == noted {
         Line::Publish { task: task }
     } else {
-        Line::Copy {
-            task: task,
-            head: head,
-            noted: noted,
-            copied: up,
-        }
+        Line::Copy { task: task, head: head, noted: noted, copied: up }
     }
 }
 

@@ -218,7 +218,7 @@ module _ (κ : Kind) (w : ℕ) (q : Queue) (n : ℕ) (o : Line) (A : Arrays q n 
       let last : q .published < q .claimed = omega (arith, two) in
       let now : q .published - 1 < q .claimed = omega (arith, A .some, two) in
       let up : size q ≤ sizeAt (q .arrays) (q .published) =
-      subst (λ (m : ℕ). size q ≤ sizeAt (q .arrays) m) {x = q .claimed - 1} {y = q .published} (omega (arith, two)) (here .grows)
+          subst (λ (m : ℕ). size q ≤ sizeAt (q .arrays) m) {x = q .claimed - 1} {y = q .published} (omega (arith, two)) (here .grows)
       in (
         noted-in κ h j e,
         omega (arith, f, g, here .small),
