@@ -37,11 +37,7 @@ use model::Task;
 fn anchor_of(head: u32, count: u32, tag: u32) -> Anchor
     ensures { λ r. ⌜ r ≡ record { head = head; count = count; tag = tag } ⌝ }
 {
-    Anchor {
-        head: head,
-        count: count,
-        tag: tag,
-    }
+    Anchor { head, count, tag }
 }
 
 // How many tags have `width` bits.
@@ -192,9 +188,12 @@ pub fn put_read(kind: Kind, anchor: Anchor, task: Task) -> Line
     ensures { λ r. ⌜ r ≡ putRead kind anchor task ⌝ }
 {
     match kind {
-        Kind::Lifo => Line::PutTest { task: task, read: anchor },
-        Kind::Fifo => Line::PutTail { task: task, head: anchor.head },
-        Kind::Deque => Line::PutTest { task: task, read: anchor },
+        Kind::Lifo => Line::PutTest { task, read: anchor },
+        Kind::Fifo => Line::PutTail {
+            task,
+            head: anchor.head,
+        },
+        Kind::Deque => Line::PutTest { task, read: anchor },
     }
 }
 
@@ -234,9 +233,9 @@ pub fn put_test(kind: Kind, size: u32, read: Anchor, task: Task) -> Line
 {
     let full = is_full(kind, size, read);
     if full {
-        Line::Claim { task: task }
+        Line::Claim { task }
     } else {
-        Line::PutNumber { task: task, read: read }
+        Line::PutNumber { task, read }
     }
 }
 
@@ -245,9 +244,17 @@ pub fn steal_last(kind: Kind, read: Anchor, task: Task) -> Line
     ensures { λ r. ⌜ r ≡ stealLast kind read task ⌝ }
 {
     match kind {
-        Kind::Lifo => Line::StealCompare { read: read, next: 0, task: task },
-        Kind::Fifo => Line::StealCompare { read: read, next: 0, task: task },
-        Kind::Deque => Line::StealNext { read: read, task: task },
+        Kind::Lifo => Line::StealCompare {
+            read,
+            next: 0,
+            task,
+        },
+        Kind::Fifo => Line::StealCompare {
+            read,
+            next: 0,
+            task,
+        },
+        Kind::Deque => Line::StealNext { read, task },
     }
 }
 
@@ -256,9 +263,14 @@ fn note_all(task: Task, head: u32, noted: u32) -> Line
     ensures { λ r. ⌜ r ≡ noteAll task head noted ⌝ }
 {
     if noted == 0 {
-        Line::Publish { task: task }
+        Line::Publish { task }
     } else {
-        Line::Copy { task: task, head: head, noted: noted, copied: 0 }
+        Line::Copy {
+            task,
+            head,
+            noted,
+            copied: 0,
+        }
     }
 }
 
@@ -281,9 +293,14 @@ pub fn copy_on(task: Task, head: u32, noted: u32, copied: u32) -> Line
 {
     let up = copied + 1;
     if up == noted {
-        Line::Publish { task: task }
+        Line::Publish { task }
     } else {
-        Line::Copy { task: task, head: head, noted: noted, copied: up }
+        Line::Copy {
+            task,
+            head,
+            noted,
+            copied: up,
+        }
     }
 }
 

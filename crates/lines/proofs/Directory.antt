@@ -13,11 +13,11 @@ use borrow.Author.Tests.{eqb-true, leb-true, ltb-true}
 use Rattle.model.specs.declared.Line.{Line}
 use Rattle.model.specs.declared.Region.{Region}
 use Rattle.model.specs.declared.Queue.{Queue}
-use Rattle.model.specs.Tests.{_and_, _or_, if_then_else_}
+use Rattle.model.specs.Tests.{if_then_else_}
 use Rattle.model.specs.Memory.{offsetAt, sizeAt}
 use Rattle.model.specs.World.{isExpanding}
 use Rattle.model.specs.Limits.{isSize, lengthAt, tidy, taken, directoryOk}
-use Rattle.lines.proofs.Tests.{and-left, and-right, or-cases, if-true}
+use Rattle.lines.proofs.Tests.{and-left, and-right, or-cases}
 
 -- the array at place k, in a directory whose last pair is at place m
 pub record Laid (l : List Region) (m k : ℕ) : Type 0 where

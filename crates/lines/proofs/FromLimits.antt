@@ -1,10 +1,10 @@
 -- The limits give what a line needs: in a valid state each worker of the crew can do its line, and what it reads and writes
 -- lies in the store.
-use mathlib.Core.Bool.{Bool, true, false}
+use mathlib.Core.Bool.{true}
 use mathlib.Core.Path.{_≡_, refl, sym, subst, _∙_}
 use mathlib.Core.Logic.{_⊎_, inl, inr}
 use mathlib.Core.List.{List}
-use Prim.Native.Nat.{ℕ, zero, suc, _+_, _-_, _*_, _%_, _^_, _≤_, _<_}
+use Prim.Native.Nat.{ℕ, zero, suc, _+_, _-_, _*_, _^_, _≤_, _<_}
 use native.Mathlib.Omega.{arith}
 use native.Mathlib.Nat.{mod-lt, eq-or-lt-of-le}
 use lib.ListN.{length}
@@ -15,59 +15,17 @@ use Rattle.model.specs.declared.Kind.{Kind}
 use Rattle.model.specs.declared.Kind.the-variants.{Lifo, Fifo, Deque}
 use Rattle.model.specs.declared.Anchor.{Anchor}
 use Rattle.model.specs.declared.Line.{Line}
-use Rattle.model.specs.declared.Line.the-variants.{
-  Idle,
-  PutRead,
-  PutTail,
-  PutTest,
-  PutNumber,
-  PutPayload,
-  PutFinish,
-  Claim,
-  Note,
-  Copy,
-  Publish,
-  TakeRead,
-  TakeTail,
-  TakeTest,
-  TakeNumber,
-  TakePayload,
-  TakeFinish,
-  StealRead,
-  StealTail,
-  StealTest,
-  StealNote,
-  StealNumber,
-  StealPayload,
-  StealNext,
-  StealCompare,
-}
+use Rattle.model.specs.declared.Line.the-variants.{Idle, PutRead, PutTail, PutTest, PutNumber, PutPayload, PutFinish, Claim, Note, Copy, Publish, TakeRead, TakeTail, TakeTest, TakeNumber, TakePayload, TakeFinish, StealRead, StealTail, StealTest, StealNote, StealNumber, StealPayload, StealNext, StealCompare}
 use Rattle.model.specs.declared.Queue.{Queue}
 use Rattle.model.specs.declared.Worker.{Worker}
 use Rattle.model.specs.declared.Bench.{Bench}
 use Rattle.model.specs.Tests.{_and_, _or_, if_then_else_}
 use Rattle.model.specs.Memory.{offsetAt, sizeAt}
 use Rattle.model.specs.Figures.{slot, putIndex, takeIndex, stealIndex}
-use Rattle.model.specs.Lines.{off, size}
-use Rattle.model.specs.World.{World, lineAt, stage, isIdle, isExpanding, isOwners, isThiefs}
-use Rattle.model.specs.Limits.{
-  widthOk,
-  crewOk,
-  directoryOk,
-  anchorOk,
-  readOk,
-  roomOk,
-  someOk,
-  notedOk,
-  slotOk,
-  placeOk,
-  lineOk,
-  ownerOk,
-  thiefOk,
-  thievesOk,
-  validOf,
-}
-use Rattle.figures.specs.Bounds.{Some, Ordered, Slotted}
+use Rattle.model.specs.Lines.{size}
+use Rattle.model.specs.World.{World, lineAt, stage, isIdle, isExpanding, isThiefs}
+use Rattle.model.specs.Limits.{widthOk, crewOk, directoryOk, anchorOk, readOk, roomOk, someOk, notedOk, slotOk, placeOk, lineOk, ownerOk, thiefOk, thievesOk, validOf}
+use Rattle.figures.specs.Bounds.{Some, Ordered}
 use Rattle.lines.specs.Act.{Ground, Ready, Range, Lies, Free}
 use Rattle.lines.proofs.Tests.{and-left, and-right, if-true}
 use Rattle.lines.proofs.Directory.{Laid, Arrays, arrays-of}
@@ -218,7 +176,7 @@ module _ (κ : Kind) (w : ℕ) (q : Queue) (n : ℕ) (o : Line) (A : Arrays q n 
       let last : q .published < q .claimed = omega (arith, two) in
       let now : q .published - 1 < q .claimed = omega (arith, A .some, two) in
       let up : size q ≤ sizeAt (q .arrays) (q .published) =
-          subst (λ (m : ℕ). size q ≤ sizeAt (q .arrays) m) {x = q .claimed - 1} {y = q .published} (omega (arith, two)) (here .grows)
+      subst (λ (m : ℕ). size q ≤ sizeAt (q .arrays) m) {x = q .claimed - 1} {y = q .published} (omega (arith, two)) (here .grows)
       in (
         noted-in κ h j e,
         omega (arith, f, g, here .small),
