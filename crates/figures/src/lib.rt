@@ -49,7 +49,7 @@ fn tags(width: u32) -> u32
 }
 
 // g+1 of a put's last line: after the largest value of `width` bits comes 0.
-pub fn next_tag(width: u32, tag: u32) -> u32
+fn next_tag(width: u32, tag: u32) -> u32
     requires { ⌜ width ≤ 16 ⌝ }
     ensures { λ r. ⌜ r ≡ nextTag width tag ⌝ }
 {
@@ -69,8 +69,8 @@ fn slot_of(kind: Kind, size: u32, index: u32) -> u32
     }
 }
 
-// Put 3a, 3b (FIFO 4a, 4b): t; tail; h+s.
-pub fn put_index(kind: Kind, read: Anchor) -> u32
+// The index that a put writes: t; tail; h+s.
+fn put_index(kind: Kind, read: Anchor) -> u32
     requires { ⌜ (read .head ≤ 65535) × (read .count ≤ 65535) ⌝ }
     ensures { λ r. ⌜ r ≡ putIndex kind read ⌝ }
 {
@@ -81,8 +81,8 @@ pub fn put_index(kind: Kind, read: Anchor) -> u32
     }
 }
 
-// Take 3a, 3b (FIFO 4a, 4b): t−1; head; h+s−1.
-pub fn take_index(kind: Kind, read: Anchor) -> u32
+// The index that a take reads: t−1; head; h+s−1.
+fn take_index(kind: Kind, read: Anchor) -> u32
     requires { ⌜ (read .head ≤ 65535) × (read .count ≤ 65535) ⌝ }
     requires { ⌜ Some kind read ⌝ }
     ensures { λ r. ⌜ r ≡ takeIndex kind read ⌝ }
@@ -94,8 +94,8 @@ pub fn take_index(kind: Kind, read: Anchor) -> u32
     }
 }
 
-// Steal 4a, 4b (FIFO 5a, 5b): t−1; head; h.
-pub fn steal_index(kind: Kind, read: Anchor) -> u32
+// The index that a steal reads: t−1; head; h.
+fn steal_index(kind: Kind, read: Anchor) -> u32
     requires { ⌜ Some kind read ⌝ }
     ensures { λ r. ⌜ r ≡ stealIndex kind read ⌝ }
 {
@@ -107,7 +107,7 @@ pub fn steal_index(kind: Kind, read: Anchor) -> u32
 }
 
 // Put 2 (FIFO 3): t = size; tail = head + size; s = size.
-pub fn is_full(kind: Kind, size: u32, read: Anchor) -> bool
+fn is_full(kind: Kind, size: u32, read: Anchor) -> bool
     requires { ⌜ (read .head ≤ 65535) × (size ≤ 1024) ⌝ }
     ensures { λ r. ⌜ r ≡ isFull kind size read ⌝ }
 {
@@ -156,15 +156,15 @@ pub fn after_take(kind: Kind, anchor: Anchor, read: Anchor) -> Anchor
     }
 }
 
-// Steal 5 (FIFO and figure 3: 6), the compare found the anchor as read: (t−1, g); head plus 1; (h2, s−1, g).
+// Steal 5 (FIFO and figure 3: 6), where the compare found the anchor as read: what a take leaves; in figure 3 (h2, s−1, g).
 pub fn after_steal(kind: Kind, anchor: Anchor, read: Anchor, next: u32) -> Anchor
     requires { ⌜ read .head ≤ 65535 ⌝ }
     requires { ⌜ Some kind read ⌝ }
     ensures { λ r. ⌜ r ≡ afterSteal kind anchor read next ⌝ }
 {
     match kind {
-        Kind::Lifo => anchor_of(read.head, read.count - 1, read.tag),
-        Kind::Fifo => anchor_of(read.head + 1, anchor.count, anchor.tag),
+        Kind::Lifo => after_take(kind, anchor, read),
+        Kind::Fifo => after_take(kind, anchor, read),
         Kind::Deque => anchor_of(next, read.count - 1, read.tag),
     }
 }
@@ -349,6 +349,59 @@ pub fn read_word(kind: Kind, queue: Queue, at: usize, index: u32, word: usize, s
 {
     let p = place(kind, queue, at, index, word);
     store[p]
+}
+
+// Put 3a, 3b (FIFO 4a, 4b): where the task's word is written.
+pub fn put_place(kind: Kind, queue: Queue, at: usize, read: Anchor, word: usize) -> usize
+    requires { ⌜ Listed queue at ⌝ }
+    requires { ⌜ (read .head ≤ 65535) × (read .count ≤ 65535) ⌝ }
+    requires { ⌜ Slotted kind queue at (putIndex kind read) ⌝ }
+    requires { ⌜ word ≤ 1 ⌝ }
+    ensures { λ r. ⌜ r ≡ offsetAt (queue .arrays) at + 2 * slot kind (sizeAt (queue .arrays) at) (putIndex kind read) + word ⌝ }
+{
+    let index = put_index(kind, read);
+    place(kind, queue, at, index, word)
+}
+
+// Take 3a, 3b (FIFO 4a, 4b): the task's word, in the array at place `at`.
+pub fn taken_word(
+    kind: Kind,
+    queue: Queue,
+    at: usize,
+    read: Anchor,
+    word: usize,
+    store: &[u32],
+) -> u32
+    requires { ⌜ Listed queue at ⌝ }
+    requires { ⌜ (read .head ≤ 65535) × (read .count ≤ 65535) ⌝ }
+    requires { ⌜ Some kind read ⌝ }
+    requires { ⌜ Slotted kind queue at (takeIndex kind read) ⌝ }
+    requires { ⌜ Inside queue (length (now store)) at ⌝ }
+    requires { ⌜ word ≤ 1 ⌝ }
+    ensures { λ r. ⌜ r ≡ wordOf kind queue (now (store .entry)) at (takeIndex kind read) word ⌝ }
+{
+    let index = take_index(kind, read);
+    read_word(kind, queue, at, index, word, store)
+}
+
+// Steal 4a, 4b (FIFO 5a, 5b): the task's word, in the noted array, at place `at`.
+pub fn stolen_word(
+    kind: Kind,
+    queue: Queue,
+    at: usize,
+    read: Anchor,
+    word: usize,
+    store: &[u32],
+) -> u32
+    requires { ⌜ Listed queue at ⌝ }
+    requires { ⌜ Some kind read ⌝ }
+    requires { ⌜ Slotted kind queue at (stealIndex kind read) ⌝ }
+    requires { ⌜ Inside queue (length (now store)) at ⌝ }
+    requires { ⌜ word ≤ 1 ⌝ }
+    ensures { λ r. ⌜ r ≡ wordOf kind queue (now (store .entry)) at (stealIndex kind read) word ⌝ }
+{
+    let index = steal_index(kind, read);
+    read_word(kind, queue, at, index, word, store)
 }
 
 // X1's condition: twice the size is at most 1,024, and the store's words left are enough.

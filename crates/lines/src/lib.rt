@@ -1,7 +1,7 @@
 // What one line of figures 1, 2 and 3 does: a pure function from the line to an act. Applying the act is another crate's.
 ghost use mathlib.Core.Path.{_≡_};
 ghost use mathlib.Core.List.{List};
-ghost use Prim.Native.Nat.{ℕ, _+_, _-_, _*_, _≤_, _<_};
+ghost use Prim.Native.Nat.{ℕ};
 ghost use lib.ListN.{length};
 ghost use Rattle.model.specs.declared.Queue.{Queue};
 ghost use Rattle.model.specs.Lines.{unlessEmpty, compares, claims, lineStep};
@@ -142,8 +142,7 @@ pub fn decide(kind: Kind, width: u32, queue: Queue, store: &[u32], worker: u32, 
         }
         // put 3a; 4a
         Line::PutNumber { task, read } => {
-            let index = figures::put_index(kind, read);
-            let place = figures::place(kind, queue, at, index, 0);
+            let place = figures::put_place(kind, queue, at, read, 0);
             Act::Word {
                 place,
                 value: task.number,
@@ -152,8 +151,7 @@ pub fn decide(kind: Kind, width: u32, queue: Queue, store: &[u32], worker: u32, 
         }
         // put 3b; 4b
         Line::PutPayload { task, read } => {
-            let index = figures::put_index(kind, read);
-            let place = figures::place(kind, queue, at, index, 1);
+            let place = figures::put_place(kind, queue, at, read, 1);
             Act::Word {
                 place,
                 value: task.payload,
@@ -215,23 +213,18 @@ pub fn decide(kind: Kind, width: u32, queue: Queue, store: &[u32], worker: u32, 
         Line::TakeTest { read } => unless_empty(kind, worker, read, Line::TakeNumber { read }),
         // take 3a; 4a
         Line::TakeNumber { read } => {
-            let index = figures::take_index(kind, read);
-            let word = figures::read_word(kind, queue, at, index, 0, store);
+            let number = figures::taken_word(kind, queue, at, read, 0, store);
             Act::Goes {
-                line: Line::TakePayload { read, number: word },
+                line: Line::TakePayload { read, number },
             }
         }
         // take 3b; 4b
         Line::TakePayload { read, number } => {
-            let index = figures::take_index(kind, read);
-            let word = figures::read_word(kind, queue, at, index, 1, store);
+            let payload = figures::taken_word(kind, queue, at, read, 1, store);
             Act::Goes {
                 line: Line::TakeFinish {
                     read,
-                    task: Task {
-                        number,
-                        payload: word,
-                    },
+                    task: Task { number, payload },
                 },
             }
         }
@@ -263,13 +256,12 @@ pub fn decide(kind: Kind, width: u32, queue: Queue, store: &[u32], worker: u32, 
         },
         // steal 4a; 5a
         Line::StealNumber { read, place } => {
-            let index = figures::steal_index(kind, read);
-            let word = figures::read_word(kind, queue, place as usize, index, 0, store);
+            let number = figures::stolen_word(kind, queue, place as usize, read, 0, store);
             Act::Goes {
                 line: Line::StealPayload {
                     read,
                     place,
-                    number: word,
+                    number,
                 },
             }
         }
@@ -279,15 +271,9 @@ pub fn decide(kind: Kind, width: u32, queue: Queue, store: &[u32], worker: u32, 
             place,
             number,
         } => {
-            let index = figures::steal_index(kind, read);
-            let word = figures::read_word(kind, queue, place as usize, index, 1, store);
-            let task = Task {
-                number,
-                payload: word,
-            };
-            Act::Goes {
-                line: figures::steal_last(kind, read, task),
-            }
+            let payload = figures::stolen_word(kind, queue, place as usize, read, 1, store);
+            let next = figures::steal_last(kind, read, Task { number, payload });
+            Act::Goes { line: next }
         }
         // figure 3's steal 5
         Line::StealNext { read, task } => {

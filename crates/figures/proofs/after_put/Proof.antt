@@ -30,7 +30,7 @@ returns : tie.Need-returns
 returns c = simp (c .before .before .before .next-tag .ensures, c .before .enum-told .given .1, c .anchor-of .ensures)
 
 returns-2 : tie.Need-returns-2
-returns-2 c = simp (c .before .before .before .next-tag .ensures, c .before .enum-told2 .given .1, c .anchor-of2 .ensures)
+returns-2 c = simp (c .before .enum-told2 .given .1, c .anchor-of2 .ensures)
 
 returns-3 : tie.Need-returns-3
 returns-3 c = simp (c .before .before .before .next-tag .ensures, c .before .enum-told3 .given .1, c .anchor-of3 .ensures)

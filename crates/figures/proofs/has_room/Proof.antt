@@ -33,11 +33,13 @@ mul-if1 c = search needs
 
 returns : tie.Need-returns
 unfolding _and_ if_then_else_
-returns c = simp (c .before .before .size-at .ensures, c .before .end-of .ensures, le-leb _ _ (rw (c .before .before .size-at .ensures) at (c .if1 .taken)))
+returns c =
+    let size = c .before .before .size-at .ensures in
+    simp (size, c .before .end-of .ensures, le-leb _ _ (rw size at (c .if1 .taken)))
 
 returns-2 : tie.Need-returns-2
 unfolding _and_ if_then_else_
-returns-2 c = simp (c .before .before .size-at .ensures, lt-leb _ _ (rw (c .before .before .size-at .ensures) at (c .if1 .left)))
+returns-2 c = let size = c .before .before .size-at .ensures in simp (size, lt-leb _ _ (rw size at (c .if1 .left)))
 
 pub has-room-spec : {M : Type 1} → statement M
 has-room-spec =

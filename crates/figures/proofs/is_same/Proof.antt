@@ -27,11 +27,15 @@ returns-3 c = simp (c .before .enum-told2 .given .1)
 
 returns-4 : tie.Need-returns-4
 unfolding _and_ if_then_else_
-returns-4 c = simp (c .before .before .before .before .before .enum-told3 .given .1, eq-eqb _ _ (c .before .before .before .if2 .taken), eq-eqb _ _ (c .before .if3 .taken))
+returns-4 c =
+    let arm = c .before .before .before .before .before in
+    simp (arm .enum-told3 .given .1, eq-eqb _ _ (c .before .before .before .if2 .taken), eq-eqb _ _ (c .before .if3 .taken))
 
 returns-5 : tie.Need-returns-5
 unfolding _and_ if_then_else_
-returns-5 c = simp (c .before .before .before .before .enum-told3 .given .1, eq-eqb _ _ (c .before .before .if2 .taken), ne-eqb _ _ (c .if3 .left))
+returns-5 c =
+    let arm = c .before .before .before .before in
+    simp (arm .enum-told3 .given .1, eq-eqb _ _ (c .before .before .if2 .taken), ne-eqb _ _ (c .if3 .left))
 
 returns-6 : tie.Need-returns-6
 unfolding _and_ if_then_else_

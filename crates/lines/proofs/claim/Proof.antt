@@ -1,8 +1,8 @@
 use mathlib.Core.Path.{sym, _∙_}
 use borrow.Author.Needs.{needs}
 use Rattle.model.specs.Tests.{if_then_else_}
-use Rattle.lines.proofs.Room.{in-room}
 use Rattle.lines.specs.Act.{enact, InStore}
+use Rattle.lines.proofs.Room.{in-room}
 use Rattle.lines.proofs.claim.Statement.{statement}
 use Rattle.lines.proofs.claim.Tie as tie
 
@@ -29,7 +29,13 @@ mul-words-2 c = search needs
 
 returns : tie.Need-returns
 unfolding enact InStore if_then_else_
-returns c = (simp (sym (c .before .before .before .before .has-room .ensures) ∙ c .before .before .before .if1 .taken, c .before .size-at .ensures, c .end-of .ensures), in-room (c .before .before .before .before .before .before .args .queue) (c .before .before .before .before .before .before .args .store .now) (c .before .before .before .before .before .before .pre .1) (sym (c .before .before .before .before .has-room .ensures) ∙ c .before .before .before .if1 .taken) (c .before .size-at .ensures) (c .end-of .ensures))
+returns c =
+    let start = c .before .before .before .before .before .before in
+    let room = sym (c .before .before .before .before .has-room .ensures) ∙ c .before .before .before .if1 .taken in (
+      simp (room, c .before .size-at .ensures, c .end-of .ensures),
+      in-room (start .args .queue) (start .args .store .now) (start .pre .1) room (c .before .size-at .ensures)
+          (c .end-of .ensures),
+    )
 
 returns-2 : tie.Need-returns-2
 unfolding enact InStore if_then_else_

@@ -13,7 +13,9 @@ after-steal-requires c κs = search needs
 
 returns : tie.Need-returns
 unfolding enact InStore if_then_else_
-returns c = (λ m. simp (sym (c .before .before .is-same .ensures) ∙ c .before .if1 .taken, c .after-steal .ensures), λ n. tt)
+returns c =
+    let same = sym (c .before .before .is-same .ensures) ∙ c .before .if1 .taken in
+    (λ m. simp (same, c .after-steal .ensures), λ n. tt)
 
 returns-2 : tie.Need-returns-2
 unfolding enact InStore if_then_else_

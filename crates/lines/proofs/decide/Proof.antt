@@ -1,3 +1,4 @@
+-- An arm knows its line, and with it what `Ready` says there; five places before the arm stands the function's entry.
 use native.Mathlib.Nat.{add-zero}
 use native.Mathlib.Omega.{arith}
 use borrow.Author.Needs.{needs}
@@ -36,43 +37,50 @@ size-at-requires c κs = search needs
 
 put-test-requires : tie.Need-put-test-requires
 unfolding Ready
-put-test-requires c κs = omega (arith, rw (c .before .before .line3 .given .1) at (c .before .before .before .before .before .before .before .pre .1))
+put-test-requires c κs =
+    let arm = c .before .before in
+    let h = rw (arm .line3 .given .1) at (arm .before .before .before .before .before .pre .1) in
+    omega (arith, h)
 
 enum-known-line-4 : tie.Need-enum-known-line-4
 enum-known-line-4 c = search needs
 
-put-index-requires : tie.Need-put-index-requires
+put-place-requires : tie.Need-put-place-requires
 unfolding Ready
-put-index-requires c κs = (rw (c .before .line4 .given .1) at (c .before .before .before .before .before .before .pre .1)) .0
-
-place-requires : tie.Need-place-requires
-unfolding Ready
-place-requires c κs = rw (c .put-index .ensures) (omega (arith, rw (c .before .before .line4 .given .1) at (c .before .before .before .before .before .before .before .pre .1)))
+put-place-requires c κs =
+    let arm = c .before in
+    let h = rw (arm .line4 .given .1) at (arm .before .before .before .before .before .pre .1) in
+    omega (arith, h)
 
 enum-known-line-5 : tie.Need-enum-known-line-5
 enum-known-line-5 c = search needs
 
-put-index-requires-2 : tie.Need-put-index-requires-2
+put-place-requires-2 : tie.Need-put-place-requires-2
 unfolding Ready
-put-index-requires-2 c κs = (rw (c .before .line5 .given .1) at (c .before .before .before .before .before .before .pre .1)) .0
-
-place-requires-2 : tie.Need-place-requires-2
-unfolding Ready
-place-requires-2 c κs = rw (c .put-index2 .ensures) (omega (arith, rw (c .before .before .line5 .given .1) at (c .before .before .before .before .before .before .before .pre .1)))
+put-place-requires-2 c κs =
+    let arm = c .before in
+    let h = rw (arm .line5 .given .1) at (arm .before .before .before .before .before .pre .1) in
+    omega (arith, h)
 
 enum-known-line-6 : tie.Need-enum-known-line-6
 enum-known-line-6 c = search needs
 
 after-put-requires : tie.Need-after-put-requires
 unfolding Ready
-after-put-requires c κs = omega (arith, rw (c .before .line6 .given .1) at (c .before .before .before .before .before .before .pre .1))
+after-put-requires c κs =
+    let arm = c .before in
+    let h = rw (arm .line6 .given .1) at (arm .before .before .before .before .before .pre .1) in
+    omega (arith, h)
 
 enum-known-line-7 : tie.Need-enum-known-line-7
 enum-known-line-7 c = search needs
 
 claim-requires : tie.Need-claim-requires
 unfolding Ready
-claim-requires c κs = (c .before .before .before .before .before .before .pre .0, rw (c .before .line7 .given .1) at (c .before .before .before .before .before .before .pre .1))
+claim-requires c κs =
+    let arm = c .before in
+    let h = rw (arm .line7 .given .1) at (arm .before .before .before .before .before .pre .1) in
+    (c .before .before .before .before .before .before .pre .0, h)
 
 enum-known-line-8 : tie.Need-enum-known-line-8
 enum-known-line-8 c = search needs
@@ -82,33 +90,50 @@ size-at-requires-2 c κs = search needs
 
 note-for-requires : tie.Need-note-for-requires
 unfolding Ready
-note-for-requires c κs = rw (c .before .before .line8 .given .1) at (c .before .before .before .before .before .before .before .pre .1)
+note-for-requires c κs =
+    let arm = c .before .before in
+    rw (arm .line8 .given .1) at (arm .before .before .before .before .before .pre .1)
 
 enum-known-line-9 : tie.Need-enum-known-line-9
 enum-known-line-9 c = search needs
 
 add-index : tie.Need-add-index
 unfolding Ready
-add-index c = omega (arith, rw (c .before .line9 .given .1) at (c .before .before .before .before .before .before .pre .1))
+add-index c =
+    let arm = c .before in
+    let h = rw (arm .line9 .given .1) at (arm .before .before .before .before .before .pre .1) in
+    omega (arith, h)
 
 read-word-requires : tie.Need-read-word-requires
 unfolding Ready
-read-word-requires c κs = omega (arith, rw (c .before .line9 .given .1) at (c .before .before .before .before .before .before .pre .1))
+read-word-requires c κs =
+    let arm = c .before in
+    let h = rw (arm .line9 .given .1) at (arm .before .before .before .before .before .pre .1) in
+    omega (arith, h)
 
 read-word-requires-2 : tie.Need-read-word-requires-2
 unfolding Ready
-read-word-requires-2 c κs = omega (arith, rw (c .before .before .line9 .given .1) at (c .before .before .before .before .before .before .before .pre .1))
+read-word-requires-2 c κs =
+    let arm = c .before .before in
+    let h = rw (arm .line9 .given .1) at (arm .before .before .before .before .before .pre .1) in
+    omega (arith, h)
 
 cast-claimed : tie.Need-cast-claimed
 cast-claimed c = search needs
 
-place-requires-3 : tie.Need-place-requires-3
+place-requires : tie.Need-place-requires
 unfolding Ready
-place-requires-3 c κs = omega (arith, rw (c .before .before .before .before .line9 .given .1) at (c .before .before .before .before .before .before .before .before .before .pre .1))
+place-requires c κs =
+    let arm = c .before .before .before .before in
+    let h = rw (arm .line9 .given .1) at (arm .before .before .before .before .before .pre .1) in
+    omega (arith, h)
 
 copy-on-requires : tie.Need-copy-on-requires
 unfolding Ready
-copy-on-requires c κs = omega (arith, rw (c .before .before .before .before .before .line9 .given .1) at (c .before .before .before .before .before .before .before .before .before .before .pre .1))
+copy-on-requires c κs =
+    let arm = c .before .before .before .before .before in
+    let h = rw (arm .line9 .given .1) at (arm .before .before .before .before .before .pre .1) in
+    omega (arith, h)
 
 enum-known-line-10 : tie.Need-enum-known-line-10
 enum-known-line-10 c = search needs
@@ -134,31 +159,32 @@ unless-empty-requires c κs = search needs
 enum-known-line-13 : tie.Need-enum-known-line-13
 enum-known-line-13 c = search needs
 
-take-index-requires : tie.Need-take-index-requires
+taken-word-requires : tie.Need-taken-word-requires
 unfolding Ready
-take-index-requires c κs = ((rw (c .before .line13 .given .1) at (c .before .before .before .before .before .before .pre .1)) .0, (rw (c .before .line13 .given .1) at (c .before .before .before .before .before .before .pre .1)) .1)
-
-read-word-requires-3 : tie.Need-read-word-requires-3
-unfolding Ready
-read-word-requires-3 c κs = rw (c .take-index .ensures) (omega (arith, rw (c .before .before .line13 .given .1) at (c .before .before .before .before .before .before .before .pre .1)))
+taken-word-requires c κs =
+    let arm = c .before in
+    let h = rw (arm .line13 .given .1) at (arm .before .before .before .before .before .pre .1) in
+    (omega (arith, h), (h .0, (h .1, omega (arith, h))))
 
 enum-known-line-14 : tie.Need-enum-known-line-14
 enum-known-line-14 c = search needs
 
-take-index-requires-2 : tie.Need-take-index-requires-2
+taken-word-requires-2 : tie.Need-taken-word-requires-2
 unfolding Ready
-take-index-requires-2 c κs = ((rw (c .before .line14 .given .1) at (c .before .before .before .before .before .before .pre .1)) .0, (rw (c .before .line14 .given .1) at (c .before .before .before .before .before .before .pre .1)) .1)
-
-read-word-requires-4 : tie.Need-read-word-requires-4
-unfolding Ready
-read-word-requires-4 c κs = rw (c .take-index2 .ensures) (omega (arith, rw (c .before .before .line14 .given .1) at (c .before .before .before .before .before .before .before .pre .1)))
+taken-word-requires-2 c κs =
+    let arm = c .before in
+    let h = rw (arm .line14 .given .1) at (arm .before .before .before .before .before .pre .1) in
+    (omega (arith, h), (h .0, (h .1, omega (arith, h))))
 
 enum-known-line-15 : tie.Need-enum-known-line-15
 enum-known-line-15 c = search needs
 
 after-take-requires : tie.Need-after-take-requires
 unfolding Ready
-after-take-requires c κs = ((rw (c .before .line15 .given .1) at (c .before .before .before .before .before .before .pre .1)) .0 .0, (rw (c .before .line15 .given .1) at (c .before .before .before .before .before .before .pre .1)) .1)
+after-take-requires c κs =
+    let arm = c .before in
+    let h = rw (arm .line15 .given .1) at (arm .before .before .before .before .before .pre .1) in
+    (h .0 .0, h .1)
 
 enum-told-3 : tie.Need-enum-told-3
 enum-told-3 c = search needs
@@ -184,30 +210,28 @@ enum-known-line-18 c = search needs
 enum-known-line-19 : tie.Need-enum-known-line-19
 enum-known-line-19 c = search needs
 
-steal-index-requires : tie.Need-steal-index-requires
-unfolding Ready
-steal-index-requires c κs = (rw (c .before .line19 .given .1) at (c .before .before .before .before .before .before .pre .1)) .1
+cast-stolen-word : tie.Need-cast-stolen-word
+cast-stolen-word c = search needs
 
-cast-read-word : tie.Need-cast-read-word
-cast-read-word c = search needs
-
-read-word-requires-5 : tie.Need-read-word-requires-5
+stolen-word-requires : tie.Need-stolen-word-requires
 unfolding Ready
-read-word-requires-5 c κs = rw (c .steal-index .ensures) (omega (arith, rw (c .before .before .line19 .given .1) at (c .before .before .before .before .before .before .before .pre .1)))
+stolen-word-requires c κs =
+    let arm = c .before in
+    let h = rw (arm .line19 .given .1) at (arm .before .before .before .before .before .pre .1) in
+    (omega (arith, h), (h .1, omega (arith, h)))
 
 enum-known-line-20 : tie.Need-enum-known-line-20
 enum-known-line-20 c = search needs
 
-steal-index-requires-2 : tie.Need-steal-index-requires-2
-unfolding Ready
-steal-index-requires-2 c κs = (rw (c .before .line20 .given .1) at (c .before .before .before .before .before .before .pre .1)) .1
+cast-stolen-word-2 : tie.Need-cast-stolen-word-2
+cast-stolen-word-2 c = search needs
 
-cast-read-word-2 : tie.Need-cast-read-word-2
-cast-read-word-2 c = search needs
-
-read-word-requires-6 : tie.Need-read-word-requires-6
+stolen-word-requires-2 : tie.Need-stolen-word-requires-2
 unfolding Ready
-read-word-requires-6 c κs = rw (c .steal-index2 .ensures) (omega (arith, rw (c .before .before .line20 .given .1) at (c .before .before .before .before .before .before .before .pre .1)))
+stolen-word-requires-2 c κs =
+    let arm = c .before in
+    let h = rw (arm .line20 .given .1) at (arm .before .before .before .before .before .pre .1) in
+    (omega (arith, h), (h .1, omega (arith, h)))
 
 steal-last-requires : tie.Need-steal-last-requires
 steal-last-requires c κs = search needs
@@ -217,14 +241,19 @@ enum-known-line-21 c = search needs
 
 add-h2 : tie.Need-add-h2
 unfolding Ready
-add-h2 c = omega (arith, rw (c .before .before .line21 .given .1) at (c .before .before .before .before .before .before .before .pre .1))
+add-h2 c =
+    let arm = c .before .before in
+    let h = rw (arm .line21 .given .1) at (arm .before .before .before .before .before .pre .1) in
+    omega (arith, h)
 
 enum-known-line-22 : tie.Need-enum-known-line-22
 enum-known-line-22 c = search needs
 
 compare-requires : tie.Need-compare-requires
 unfolding Ready
-compare-requires c κs = rw (c .before .line22 .given .1) at (c .before .before .before .before .before .before .pre .1)
+compare-requires c κs =
+    let arm = c .before in
+    rw (arm .line22 .given .1) at (arm .before .before .before .before .before .pre .1)
 
 returns : tie.Need-returns
 unfolding lineStep enact InStore
@@ -244,11 +273,17 @@ returns-4 c = (simp (c .before .before .before .line3 .given .1, c .before .size
 
 returns-5 : tie.Need-returns-5
 unfolding lineStep enact InStore setWord Ready
-returns-5 c = (simp (c .before .before .before .line4 .given .1, c .before .put-index .ensures, c .place .ensures), omega (arith, rw (c .before .put-index .ensures) at (c .place .ensures), rw (c .before .before .before .line4 .given .1) at (c .before .before .before .before .before .before .before .before .pre .1)))
+returns-5 c =
+    let arm = c .before .before in
+    let h = rw (arm .line4 .given .1) at (arm .before .before .before .before .before .pre .1) in
+    (simp (c .before .before .line4 .given .1, c .put-place .ensures), omega (arith, h))
 
 returns-6 : tie.Need-returns-6
 unfolding lineStep enact InStore setWord Ready
-returns-6 c = (simp (c .before .before .before .line5 .given .1, c .before .put-index2 .ensures, c .place2 .ensures), omega (arith, rw (c .before .put-index2 .ensures) at (c .place2 .ensures), rw (c .before .before .before .line5 .given .1) at (c .before .before .before .before .before .before .before .before .pre .1)))
+returns-6 c =
+    let arm = c .before .before in
+    let h = rw (arm .line5 .given .1) at (arm .before .before .before .before .before .pre .1) in
+    (simp (c .before .before .line5 .given .1, c .put-place2 .ensures), omega (arith, h))
 
 returns-7 : tie.Need-returns-7
 unfolding lineStep enact InStore
@@ -264,7 +299,19 @@ returns-9 c = (simp (c .before .before .before .line8 .given .1, c .before .size
 
 returns-10 : tie.Need-returns-10
 unfolding lineStep enact InStore setWord Ready
-returns-10 c = (simp (c .before .before .before .before .before .before .line9 .given .1, c .before .before .before .before .read-word .ensures, c .before .before .before .read-word2 .ensures, c .before .place3 .ensures, c .copy-on .ensures, add-zero), omega (arith, rw (c .before .before .before .before .before .before .line9 .given .1) at (c .before .before .before .before .before .before .before .before .before .before .before .pre .1)))
+returns-10 c =
+    let arm = c .before .before .before .before .before .before in
+    let h = rw (arm .line9 .given .1) at (arm .before .before .before .before .before .pre .1) in (
+      simp (
+        c .before .before .before .before .before .before .line9 .given .1,
+        c .before .before .before .before .read-word .ensures,
+        c .before .before .before .read-word2 .ensures,
+        c .before .place .ensures,
+        c .copy-on .ensures,
+        add-zero,
+      ),
+      omega (arith, h),
+    )
 
 returns-11 : tie.Need-returns-11
 unfolding lineStep enact InStore
@@ -284,11 +331,11 @@ returns-14 c = (simp (c .before .before .line12 .given .1, c .unless-empty .ensu
 
 returns-15 : tie.Need-returns-15
 unfolding lineStep enact InStore
-returns-15 c = (simp (c .before .before .before .line13 .given .1, c .before .take-index .ensures, c .read-word3 .ensures), tt)
+returns-15 c = (simp (c .before .before .line13 .given .1, c .taken-word .ensures), tt)
 
 returns-16 : tie.Need-returns-16
 unfolding lineStep enact InStore
-returns-16 c = (simp (c .before .before .before .line14 .given .1, c .before .take-index2 .ensures, c .read-word4 .ensures), tt)
+returns-16 c = (simp (c .before .before .line14 .given .1, c .taken-word2 .ensures), tt)
 
 returns-17 : tie.Need-returns-17
 unfolding lineStep enact InStore
@@ -312,11 +359,11 @@ returns-21 c = (simp (c .before .line18 .given .1), tt)
 
 returns-22 : tie.Need-returns-22
 unfolding lineStep enact InStore
-returns-22 c = (simp (c .before .before .before .line19 .given .1, c .before .steal-index .ensures, c .read-word5 .ensures), tt)
+returns-22 c = (simp (c .before .before .line19 .given .1, c .stolen-word .ensures), tt)
 
 returns-23 : tie.Need-returns-23
 unfolding lineStep enact InStore
-returns-23 c = (simp (c .before .before .before .before .line20 .given .1, c .before .before .steal-index2 .ensures, c .before .read-word6 .ensures, c .steal-last .ensures), tt)
+returns-23 c = (simp (c .before .before .before .line20 .given .1, c .before .stolen-word2 .ensures, c .steal-last .ensures), tt)
 
 returns-24 : tie.Need-returns-24
 unfolding lineStep enact InStore
@@ -341,11 +388,9 @@ decide-spec =
     size-at-requires
     put-test-requires
     enum-known-line-4
-    put-index-requires
-    place-requires
+    put-place-requires
     enum-known-line-5
-    put-index-requires-2
-    place-requires-2
+    put-place-requires-2
     enum-known-line-6
     after-put-requires
     enum-known-line-7
@@ -358,7 +403,7 @@ decide-spec =
     read-word-requires
     read-word-requires-2
     cast-claimed
-    place-requires-3
+    place-requires
     copy-on-requires
     enum-known-line-10
     enum-told-2
@@ -368,11 +413,9 @@ decide-spec =
     enum-known-line-12
     unless-empty-requires
     enum-known-line-13
-    take-index-requires
-    read-word-requires-3
+    taken-word-requires
     enum-known-line-14
-    take-index-requires-2
-    read-word-requires-4
+    taken-word-requires-2
     enum-known-line-15
     after-take-requires
     enum-told-3
@@ -383,13 +426,11 @@ decide-spec =
     unless-empty-requires-2
     enum-known-line-18
     enum-known-line-19
-    steal-index-requires
-    cast-read-word
-    read-word-requires-5
+    cast-stolen-word
+    stolen-word-requires
     enum-known-line-20
-    steal-index-requires-2
-    cast-read-word-2
-    read-word-requires-6
+    cast-stolen-word-2
+    stolen-word-requires-2
     steal-last-requires
     enum-known-line-21
     add-h2
