@@ -37,11 +37,7 @@ use model::Task;
 fn anchor_of(head: u32, count: u32, tag: u32) -> Anchor
     ensures { λ r. ⌜ r ≡ record { head = head; count = count; tag = tag } ⌝ }
 {
-    Anchor {
-        head: head,
-        count: count,
-        tag: tag,
-    }
+    Anchor { head, count, tag }
 }
 
 // How many tags have `width` bits.
@@ -53,7 +49,7 @@ fn tags(width: u32) -> u32
 }
 
 // g+1 of a put's last line: after the largest value of `width` bits comes 0.
-pub fn next_tag(width: u32, tag: u32) -> u32
+fn next_tag(width: u32, tag: u32) -> u32
     requires { ⌜ width ≤ 16 ⌝ }
     ensures { λ r. ⌜ r ≡ nextTag width tag ⌝ }
 {
@@ -73,8 +69,8 @@ fn slot_of(kind: Kind, size: u32, index: u32) -> u32
     }
 }
 
-// Put 3a, 3b (FIFO 4a, 4b): t; tail; h+s.
-pub fn put_index(kind: Kind, read: Anchor) -> u32
+// The index that a put writes: t; tail; h+s.
+fn put_index(kind: Kind, read: Anchor) -> u32
     requires { ⌜ (read .head ≤ 65535) × (read .count ≤ 65535) ⌝ }
     ensures { λ r. ⌜ r ≡ putIndex kind read ⌝ }
 {
@@ -85,8 +81,8 @@ pub fn put_index(kind: Kind, read: Anchor) -> u32
     }
 }
 
-// Take 3a, 3b (FIFO 4a, 4b): t−1; head; h+s−1.
-pub fn take_index(kind: Kind, read: Anchor) -> u32
+// The index that a take reads: t−1; head; h+s−1.
+fn take_index(kind: Kind, read: Anchor) -> u32
     requires { ⌜ (read .head ≤ 65535) × (read .count ≤ 65535) ⌝ }
     requires { ⌜ Some kind read ⌝ }
     ensures { λ r. ⌜ r ≡ takeIndex kind read ⌝ }
@@ -98,8 +94,8 @@ pub fn take_index(kind: Kind, read: Anchor) -> u32
     }
 }
 
-// Steal 4a, 4b (FIFO 5a, 5b): t−1; head; h.
-pub fn steal_index(kind: Kind, read: Anchor) -> u32
+// The index that a steal reads: t−1; head; h.
+fn steal_index(kind: Kind, read: Anchor) -> u32
     requires { ⌜ Some kind read ⌝ }
     ensures { λ r. ⌜ r ≡ stealIndex kind read ⌝ }
 {
@@ -111,7 +107,7 @@ pub fn steal_index(kind: Kind, read: Anchor) -> u32
 }
 
 // Put 2 (FIFO 3): t = size; tail = head + size; s = size.
-pub fn is_full(kind: Kind, size: u32, read: Anchor) -> bool
+fn is_full(kind: Kind, size: u32, read: Anchor) -> bool
     requires { ⌜ (read .head ≤ 65535) × (size ≤ 1024) ⌝ }
     ensures { λ r. ⌜ r ≡ isFull kind size read ⌝ }
 {
@@ -160,15 +156,15 @@ pub fn after_take(kind: Kind, anchor: Anchor, read: Anchor) -> Anchor
     }
 }
 
-// Steal 5 (FIFO and figure 3: 6), the compare found the anchor as read: (t−1, g); head plus 1; (h2, s−1, g).
+// Steal 5 (FIFO and figure 3: 6), where the compare found the anchor as read: what a take leaves; in figure 3 (h2, s−1, g).
 pub fn after_steal(kind: Kind, anchor: Anchor, read: Anchor, next: u32) -> Anchor
     requires { ⌜ read .head ≤ 65535 ⌝ }
     requires { ⌜ Some kind read ⌝ }
     ensures { λ r. ⌜ r ≡ afterSteal kind anchor read next ⌝ }
 {
     match kind {
-        Kind::Lifo => anchor_of(read.head, read.count - 1, read.tag),
-        Kind::Fifo => anchor_of(read.head + 1, anchor.count, anchor.tag),
+        Kind::Lifo => after_take(kind, anchor, read),
+        Kind::Fifo => after_take(kind, anchor, read),
         Kind::Deque => anchor_of(next, read.count - 1, read.tag),
     }
 }
@@ -192,9 +188,12 @@ pub fn put_read(kind: Kind, anchor: Anchor, task: Task) -> Line
     ensures { λ r. ⌜ r ≡ putRead kind anchor task ⌝ }
 {
     match kind {
-        Kind::Lifo => Line::PutTest { task: task, read: anchor },
-        Kind::Fifo => Line::PutTail { task: task, head: anchor.head },
-        Kind::Deque => Line::PutTest { task: task, read: anchor },
+        Kind::Lifo => Line::PutTest { task, read: anchor },
+        Kind::Fifo => Line::PutTail {
+            task,
+            head: anchor.head,
+        },
+        Kind::Deque => Line::PutTest { task, read: anchor },
     }
 }
 
@@ -234,9 +233,9 @@ pub fn put_test(kind: Kind, size: u32, read: Anchor, task: Task) -> Line
 {
     let full = is_full(kind, size, read);
     if full {
-        Line::Claim { task: task }
+        Line::Claim { task }
     } else {
-        Line::PutNumber { task: task, read: read }
+        Line::PutNumber { task, read }
     }
 }
 
@@ -245,9 +244,17 @@ pub fn steal_last(kind: Kind, read: Anchor, task: Task) -> Line
     ensures { λ r. ⌜ r ≡ stealLast kind read task ⌝ }
 {
     match kind {
-        Kind::Lifo => Line::StealCompare { read: read, next: 0, task: task },
-        Kind::Fifo => Line::StealCompare { read: read, next: 0, task: task },
-        Kind::Deque => Line::StealNext { read: read, task: task },
+        Kind::Lifo => Line::StealCompare {
+            read,
+            next: 0,
+            task,
+        },
+        Kind::Fifo => Line::StealCompare {
+            read,
+            next: 0,
+            task,
+        },
+        Kind::Deque => Line::StealNext { read, task },
     }
 }
 
@@ -256,9 +263,14 @@ fn note_all(task: Task, head: u32, noted: u32) -> Line
     ensures { λ r. ⌜ r ≡ noteAll task head noted ⌝ }
 {
     if noted == 0 {
-        Line::Publish { task: task }
+        Line::Publish { task }
     } else {
-        Line::Copy { task: task, head: head, noted: noted, copied: 0 }
+        Line::Copy {
+            task,
+            head,
+            noted,
+            copied: 0,
+        }
     }
 }
 
@@ -281,9 +293,14 @@ pub fn copy_on(task: Task, head: u32, noted: u32, copied: u32) -> Line
 {
     let up = copied + 1;
     if up == noted {
-        Line::Publish { task: task }
+        Line::Publish { task }
     } else {
-        Line::Copy { task: task, head: head, noted: noted, copied: up }
+        Line::Copy {
+            task,
+            head,
+            noted,
+            copied: up,
+        }
     }
 }
 
@@ -332,6 +349,59 @@ pub fn read_word(kind: Kind, queue: Queue, at: usize, index: u32, word: usize, s
 {
     let p = place(kind, queue, at, index, word);
     store[p]
+}
+
+// Put 3a, 3b (FIFO 4a, 4b): where the task's word is written.
+pub fn put_place(kind: Kind, queue: Queue, at: usize, read: Anchor, word: usize) -> usize
+    requires { ⌜ Listed queue at ⌝ }
+    requires { ⌜ (read .head ≤ 65535) × (read .count ≤ 65535) ⌝ }
+    requires { ⌜ Slotted kind queue at (putIndex kind read) ⌝ }
+    requires { ⌜ word ≤ 1 ⌝ }
+    ensures { λ r. ⌜ r ≡ offsetAt (queue .arrays) at + 2 * slot kind (sizeAt (queue .arrays) at) (putIndex kind read) + word ⌝ }
+{
+    let index = put_index(kind, read);
+    place(kind, queue, at, index, word)
+}
+
+// Take 3a, 3b (FIFO 4a, 4b): the task's word, in the array at place `at`.
+pub fn taken_word(
+    kind: Kind,
+    queue: Queue,
+    at: usize,
+    read: Anchor,
+    word: usize,
+    store: &[u32],
+) -> u32
+    requires { ⌜ Listed queue at ⌝ }
+    requires { ⌜ (read .head ≤ 65535) × (read .count ≤ 65535) ⌝ }
+    requires { ⌜ Some kind read ⌝ }
+    requires { ⌜ Slotted kind queue at (takeIndex kind read) ⌝ }
+    requires { ⌜ Inside queue (length (now store)) at ⌝ }
+    requires { ⌜ word ≤ 1 ⌝ }
+    ensures { λ r. ⌜ r ≡ wordOf kind queue (now (store .entry)) at (takeIndex kind read) word ⌝ }
+{
+    let index = take_index(kind, read);
+    read_word(kind, queue, at, index, word, store)
+}
+
+// Steal 4a, 4b (FIFO 5a, 5b): the task's word, in the noted array, at place `at`.
+pub fn stolen_word(
+    kind: Kind,
+    queue: Queue,
+    at: usize,
+    read: Anchor,
+    word: usize,
+    store: &[u32],
+) -> u32
+    requires { ⌜ Listed queue at ⌝ }
+    requires { ⌜ Some kind read ⌝ }
+    requires { ⌜ Slotted kind queue at (stealIndex kind read) ⌝ }
+    requires { ⌜ Inside queue (length (now store)) at ⌝ }
+    requires { ⌜ word ≤ 1 ⌝ }
+    ensures { λ r. ⌜ r ≡ wordOf kind queue (now (store .entry)) at (stealIndex kind read) word ⌝ }
+{
+    let index = steal_index(kind, read);
+    read_word(kind, queue, at, index, word, store)
 }
 
 // X1's condition: twice the size is at most 1,024, and the store's words left are enough.

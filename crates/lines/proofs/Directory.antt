@@ -13,11 +13,11 @@ use borrow.Author.Tests.{eqb-true, leb-true, ltb-true}
 use Rattle.model.specs.declared.Line.{Line}
 use Rattle.model.specs.declared.Region.{Region}
 use Rattle.model.specs.declared.Queue.{Queue}
-use Rattle.model.specs.Tests.{_and_, _or_, if_then_else_}
+use Rattle.model.specs.Tests.{if_then_else_}
 use Rattle.model.specs.Memory.{offsetAt, sizeAt}
 use Rattle.model.specs.World.{isExpanding}
 use Rattle.model.specs.Limits.{isSize, lengthAt, tidy, taken, directoryOk}
-use Rattle.lines.proofs.Tests.{and-left, and-right, or-cases, if-true}
+use Rattle.lines.proofs.Tests.{and-left, and-right, or-cases}
 
 -- the array at place k, in a directory whose last pair is at place m
 pub record Laid (l : List Region) (m k : ℕ) : Type 0 where
@@ -31,7 +31,8 @@ size-in : (e c : ℕ) → isSize e c ≡ true → (0 < c) × (c ≤ 2 ^ e)
 size-in zero c t = let h : c ≡ 1 = eqb-true _ _ t in omega (arith, h)
 size-in (suc e) c t = go (or-cases (eqb c (2 ^ suc e)) (isSize e c) t) (size-in e c)
   where
-    go : (eqb c (2 ^ suc e) ≡ true) ⊎ (isSize e c ≡ true) → (isSize e c ≡ true → (0 < c) × (c ≤ 2 ^ e)) → (0 < c) × (c ≤ 2 ^ suc e)
+    go : (eqb c (2 ^ suc e) ≡ true) ⊎ (isSize e c ≡ true) → (isSize e c ≡ true → (0 < c) × (c ≤ 2 ^ e))
+        → (0 < c) × (c ≤ 2 ^ suc e)
     go (inl a) f = let h : c ≡ 2 ^ suc e = eqb-true _ _ a in omega (arith, h, pow-pos (suc e))
     go (inr b) f = let i = f b in omega (arith, i, pow-succ' 2 e)
 
@@ -94,7 +95,9 @@ laid l (suc m) k t h =
     go (eq-or-lt-of-le h) (λ j i. laid l m j (and-left (tidy l (suc m)) _ t) i)
   where
     go : (k ≡ suc m) ⊎ (k < suc m) → ((j : ℕ) → j ≤ m → Laid l m j) → Laid l (suc m) k
-    go (inl e) f = subst (λ (x : ℕ). Laid l (suc m) x) {x = suc m} {y = k} (omega (arith, e)) (join l m (next l m t) (f m (omega arith)))
+    go (inl e) f =
+        subst (λ (x : ℕ). Laid l (suc m) x) {x = suc m} {y = k} (omega (arith, e))
+        (join l m (next l m t) (f m (omega arith)))
     go (inr i) f = keep l m k (next l m t) (f k (omega (arith, i)))
 
 -- a directory in a store of n words, the owner at line o
@@ -119,14 +122,14 @@ arrays-of q m o t =
     let s : 0 < q .published = ltb-true _ _ (and-left _ _ t) in
     let e : q .claimed ≡ (if isExpanding o then q .published + 1 else q .published) = eqb-true _ _ (and-left _ _ t2) in
     let b : q .published ≤ q .claimed = omega (arith, e, grown (isExpanding o) (q .published)) in
+    let one : q .claimed ≡ suc (q .claimed - 1) = omega (arith, s, b) in
+    let tidied = subst (λ (x : ℕ). tidy (q .arrays) x ≡ true) one (and-left _ _ t3) in
     record {
       some = s;
       listed = leb-true _ _ (and-left _ _ t1);
       told = e;
       behind = b;
       stands =
-          λ k h. laid (q .arrays) (q .claimed - 1) k
-          (subst (λ (x : ℕ). tidy (q .arrays) x ≡ true) {x = q .claimed} {y = suc (q .claimed - 1)} (omega (arith, s, b)) (and-left _ _ t3))
-          (omega (arith, h));
+          λ k h. laid (q .arrays) (q .claimed - 1) k tidied (omega (arith, h));
       fits = leb-true _ _ (and-right _ _ t3);
     }

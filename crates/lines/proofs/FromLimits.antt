@@ -1,10 +1,10 @@
 -- The limits give what a line needs: in a valid state each worker of the crew can do its line, and what it reads and writes
 -- lies in the store.
-use mathlib.Core.Bool.{Bool, true, false}
+use mathlib.Core.Bool.{true}
 use mathlib.Core.Path.{_≡_, refl, sym, subst, _∙_}
 use mathlib.Core.Logic.{_⊎_, inl, inr}
 use mathlib.Core.List.{List}
-use Prim.Native.Nat.{ℕ, zero, suc, _+_, _-_, _*_, _%_, _^_, _≤_, _<_}
+use Prim.Native.Nat.{ℕ, zero, suc, _+_, _-_, _^_, _≤_, _<_}
 use native.Mathlib.Omega.{arith}
 use native.Mathlib.Nat.{mod-lt, eq-or-lt-of-le}
 use lib.ListN.{length}
@@ -45,11 +45,11 @@ use Rattle.model.specs.declared.Line.the-variants.{
 use Rattle.model.specs.declared.Queue.{Queue}
 use Rattle.model.specs.declared.Worker.{Worker}
 use Rattle.model.specs.declared.Bench.{Bench}
-use Rattle.model.specs.Tests.{_and_, _or_, if_then_else_}
-use Rattle.model.specs.Memory.{offsetAt, sizeAt}
+use Rattle.model.specs.Tests.{_and_, _or_}
+use Rattle.model.specs.Memory.{sizeAt}
 use Rattle.model.specs.Figures.{slot, putIndex, takeIndex, stealIndex}
-use Rattle.model.specs.Lines.{off, size}
-use Rattle.model.specs.World.{World, lineAt, stage, isIdle, isExpanding, isOwners, isThiefs}
+use Rattle.model.specs.Lines.{size}
+use Rattle.model.specs.World.{World, lineAt, stage, isExpanding, isThiefs}
 use Rattle.model.specs.Limits.{
   widthOk,
   crewOk,
@@ -67,7 +67,7 @@ use Rattle.model.specs.Limits.{
   thievesOk,
   validOf,
 }
-use Rattle.figures.specs.Bounds.{Some, Ordered, Slotted}
+use Rattle.figures.specs.Bounds.{Some, Ordered, Inside}
 use Rattle.lines.specs.Act.{Ground, Ready, Range, Lies, Free}
 use Rattle.lines.proofs.Tests.{and-left, and-right, if-true}
 use Rattle.lines.proofs.Directory.{Laid, Arrays, arrays-of}
@@ -167,7 +167,7 @@ module _ (κ : Kind) (w : ℕ) (q : Queue) (n : ℕ) (o : Line) (A : Arrays q n 
   here : Laid (q .arrays) (q .claimed - 1) (q .published - 1)
   here = A .stands (q .published - 1) (omega (arith, A .some, A .behind))
 
-  there : (k : ℕ) → k < q .claimed → (k < 11) × (0 < sizeAt (q .arrays) k) × (offsetAt (q .arrays) k + 2 * sizeAt (q .arrays) k ≤ n)
+  there : (k : ℕ) → k < q .claimed → (k < 11) × (0 < sizeAt (q .arrays) k) × Inside q n k
   there k h =
       let L = A .stands k h in
       (omega (arith, A .listed, h), omega (arith, pow-pos k, L .large), omega (arith, L .ends, A .fits))
@@ -217,16 +217,16 @@ module _ (κ : Kind) (w : ℕ) (q : Queue) (n : ℕ) (o : Line) (A : Arrays q n 
       let two : q .claimed ≡ q .published + 1 = A .told ∙ if-true (isExpanding o) _ _ x in
       let last : q .published < q .claimed = omega (arith, two) in
       let now : q .published - 1 < q .claimed = omega (arith, A .some, two) in
-      let up : size q ≤ sizeAt (q .arrays) (q .published) =
-          subst (λ (m : ℕ). size q ≤ sizeAt (q .arrays) m) {x = q .claimed - 1} {y = q .published} (omega (arith, two)) (here .grows)
-      in (
+      let one : q .claimed - 1 ≡ q .published = omega (arith, two) in
+      let up = subst (λ (m : ℕ). size q ≤ sizeAt (q .arrays) m) one (here .grows) in (
         noted-in κ h j e,
         omega (arith, f, g, here .small),
         lies _ _ now (copy-slot κ (size q) (size q) h j k (there _ now .1) (omega arith) e f g),
         lies _ _ last (copy-slot κ (sizeAt (q .arrays) (q .published)) (size q) h j k (there _ last .1) up e f g),
       )
 
-  ready : (l : Line) → Ordered κ (q .anchor) → (isExpanding l ≡ true → isExpanding o ≡ true) → lineOk κ w q l ≡ true → Ready κ q n l
+  ready : (l : Line) → Ordered κ (q .anchor) → (isExpanding l ≡ true → isExpanding o ≡ true) → lineOk κ w q l ≡ true
+      → Ready κ q n l
   unfolding Ready
   ready Idle a x e = tt
   ready (PutRead t) a x e = tt
@@ -269,8 +269,8 @@ thief-not l t x =
     let y : _≡_ {A = ℕ} 0 1 = cc in omega arith
 
 -- thief i of the crew
-thief-of : (κ : Kind) (w : ℕ) (q : Queue) (n : ℕ) (l : List Worker) (k i : ℕ) → thievesOk κ w q n l k ≡ true → i < k → suc i < n
-    → thiefOk κ w q (lineAt l (suc i)) ≡ true
+thief-of : (κ : Kind) (w : ℕ) (q : Queue) (n : ℕ) (l : List Worker) (k i : ℕ)
+    → thievesOk κ w q n l k ≡ true → i < k → suc i < n → thiefOk κ w q (lineAt l (suc i)) ≡ true
 thief-of κ w q n l zero i t h c = absurd (omega arith)
 thief-of κ w q n l (suc k) i t h c =
     go (eq-or-lt-of-le h) (λ j. thief-of κ w q n l k i (and-left _ _ t) j c)
@@ -278,52 +278,54 @@ thief-of κ w q n l (suc k) i t h c =
     go : (suc i ≡ suc k) ⊎ (suc i < suc k) → (i < k → thiefOk κ w q (lineAt l (suc i)) ≡ true)
         → thiefOk κ w q (lineAt l (suc i)) ≡ true
     go (inl e) f =
-        let s : (if ltb (suc k) n then thiefOk κ w q (lineAt l (suc k)) else isIdle (lineAt l (suc k))) ≡ true = and-right _ _ t in
         subst (λ (x : ℕ). thiefOk κ w q (lineAt l x) ≡ true) (sym e)
-        (sym (if-true (ltb (suc k) n) _ _ (lt-ltb (suc k) n (omega (arith, e, c)))) ∙ s)
+        (sym (if-true (ltb (suc k) n) _ _ (lt-ltb (suc k) n (omega (arith, e, c)))) ∙ and-right _ _ t)
     go (inr j) f = f (omega (arith, j))
 
--- THE GROUND: what every line needs
-pub ground-of-valid : (W : World) → validOf W ≡ true → length (W .bench .queue .arrays) ≡ 11
-    → Ground (W .bench .width) (W .bench .queue) (length (W .store))
-ground-of-valid W v e =
-    let L = limits-of W v in
-    let b = W .bench in
-    let A = arrays-of (b .queue) (W .store) (lineAt (b .workers) 0) (L .directory) in
-    let h = here (b .kind) (b .width) (b .queue) (length (W .store)) (lineAt (b .workers) 0) A in
-    let r = in-range (b .kind) (size (b .queue)) (b .queue .anchor) (h .small) (now-read (b .kind) (b .width) (size (b .queue)) (b .queue .anchor) (L .anchor)) in
-    record {
-      narrow = leb-true _ _ (and-right _ _ (L .width));
-      some = A .some;
-      listed = omega (arith, A .behind, A .listed);
-      eleven = e;
-      head = r .0;
-      count = r .1;
-      small = h .small;
-      near = omega (arith, h .near, h .small);
-      inside = omega (arith, h .ends, A .fits);
-    }
+-- the anchor now, and the directory, of a valid state
+module _ (W : World) (v : validOf W ≡ true) where
+  anchored : Within (W .bench .kind) (size (W .bench .queue)) (W .bench .queue .anchor)
+  anchored =
+      now-read (W .bench .kind) (W .bench .width) (size (W .bench .queue)) (W .bench .queue .anchor) (limits-of W v .anchor)
 
--- worker i's line
-line-ok : (W : World) (i : ℕ) → Limits (W .bench) (W .store) → i < W .bench .crew
-    → (lineOk (W .bench .kind) (W .bench .width) (W .bench .queue) (lineAt (W .bench .workers) i) ≡ true)
-    × (isExpanding (lineAt (W .bench .workers) i) ≡ true → isExpanding (lineAt (W .bench .workers) 0) ≡ true)
-line-ok W zero L c = (and-right _ _ (L .owner), λ x. x)
-line-ok W (suc i) L c =
-    let n : W .bench .crew ≤ 8 = leb-true _ _ (and-right _ _ (L .crew)) in
-    let b = W .bench in
-    let t = thief-of (b .kind) (b .width) (b .queue) (b .crew) (b .workers) 7 i (L .thieves) (omega (arith, n, c)) c in
-    (and-right _ _ t, λ x. absurd (thief-not (lineAt (b .workers) (suc i)) (and-left _ _ t) x))
+  arrayed : Arrays (W .bench .queue) (length (W .store)) (lineAt (W .bench .workers) 0)
+  arrayed = arrays-of (W .bench .queue) (W .store) (lineAt (W .bench .workers) 0) (limits-of W v .directory)
 
--- READY: what worker i's line needs
-pub ready-of-valid : (W : World) (i : ℕ) → validOf W ≡ true → i < W .bench .crew
-    → Ready (W .bench .kind) (W .bench .queue) (length (W .store)) (lineAt (W .bench .workers) i)
-ready-of-valid W i v c =
-    let L = limits-of W v in
-    let b = W .bench in
-    let o = lineAt (b .workers) 0 in
-    let A = arrays-of (b .queue) (W .store) o (L .directory) in
-    let s = line-ok W i L c in
-    ready (b .kind) (b .width) (b .queue) (length (W .store)) o A (lineAt (b .workers) i)
-    (ordered (b .kind) (size (b .queue)) (b .queue .anchor) (now-read (b .kind) (b .width) (size (b .queue)) (b .queue .anchor) (L .anchor)))
-    (s .1) (s .0)
+  -- what every line needs
+  pub ground-of-valid : length (W .bench .queue .arrays) ≡ 11
+      → Ground (W .bench .width) (W .bench .queue) (length (W .store))
+  ground-of-valid e =
+      let b = W .bench in
+      let h = here (b .kind) (b .width) (b .queue) (length (W .store)) (lineAt (b .workers) 0) arrayed in
+      let r = in-range (b .kind) (size (b .queue)) (b .queue .anchor) (h .small) anchored in
+      record {
+        narrow = leb-true _ _ (and-right _ _ (limits-of W v .width));
+        some = arrayed .some;
+        listed = omega (arith, arrayed .behind, arrayed .listed);
+        eleven = e;
+        head = r .0;
+        count = r .1;
+        small = h .small;
+        near = omega (arith, h .near, h .small);
+        inside = omega (arith, h .ends, arrayed .fits);
+      }
+
+  -- the line of a worker of the crew is in the limits, and of the expansion's lines only the owner's
+  line-ok : (i : ℕ) → i < W .bench .crew
+      → (lineOk (W .bench .kind) (W .bench .width) (W .bench .queue) (lineAt (W .bench .workers) i) ≡ true)
+      × (isExpanding (lineAt (W .bench .workers) i) ≡ true → isExpanding (lineAt (W .bench .workers) 0) ≡ true)
+  line-ok zero c = (and-right _ _ (limits-of W v .owner), λ x. x)
+  line-ok (suc i) c =
+      let b = W .bench in
+      let n : W .bench .crew ≤ 8 = leb-true _ _ (and-right _ _ (limits-of W v .crew)) in
+      let s = limits-of W v .thieves in
+      let t = thief-of (b .kind) (b .width) (b .queue) (b .crew) (b .workers) 7 i s (omega (arith, n, c)) c in
+      (and-right _ _ t, λ x. absurd (thief-not (lineAt (b .workers) (suc i)) (and-left _ _ t) x))
+
+  -- what the line of worker i needs
+  pub ready-of-valid : (i : ℕ) → i < W .bench .crew
+      → Ready (W .bench .kind) (W .bench .queue) (length (W .store)) (lineAt (W .bench .workers) i)
+  ready-of-valid i c =
+      let b = W .bench in
+      ready (b .kind) (b .width) (b .queue) (length (W .store)) (lineAt (b .workers) 0) arrayed (lineAt (b .workers) i)
+      (ordered (b .kind) (size (b .queue)) (b .queue .anchor) anchored) (line-ok i c .1) (line-ok i c .0)

@@ -11,7 +11,8 @@ use Rattle.model.specs.Lines.{off, size, fits}
 use Rattle.lines.specs.Act.{Free}
 use Rattle.lines.proofs.Tests.{and-left, and-right}
 
-pub in-room : (q : Queue) (m : List ℕ) {z a : ℕ} → Free q → fits q m ≡ true → z ≡ size q → a ≡ off q + 2 * size q
+pub in-room : (q : Queue) (m : List ℕ) {z a : ℕ}
+    → Free q → fits q m ≡ true → z ≡ size q → a ≡ off q + 2 * size q
     → (a + 2 * (2 * z) ≤ length m) × (q .published < 11)
 in-room q m f t e g =
     let i : off q + 2 * size q + 2 * (2 * size q) ≤ length m = leb-true _ _ (and-right _ _ t) in

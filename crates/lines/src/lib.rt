@@ -1,7 +1,7 @@
 // What one line of figures 1, 2 and 3 does: a pure function from the line to an act. Applying the act is another crate's.
 ghost use mathlib.Core.Path.{_≡_};
 ghost use mathlib.Core.List.{List};
-ghost use Prim.Native.Nat.{ℕ, _+_, _-_, _*_, _≤_, _<_};
+ghost use Prim.Native.Nat.{ℕ};
 ghost use lib.ListN.{length};
 ghost use Rattle.model.specs.declared.Queue.{Queue};
 ghost use Rattle.model.specs.Lines.{unlessEmpty, compares, claims, lineStep};
@@ -55,7 +55,7 @@ fn unless_empty(kind: Kind, worker: u32, read: Anchor, next: Line) -> Act
     let empty = figures::is_empty(kind, read);
     if empty {
         Act::Stops {
-            answer: Answer::Empty { worker: worker },
+            answer: Answer::Empty { worker },
         }
     } else {
         Act::Goes { line: next }
@@ -75,10 +75,7 @@ fn compare(kind: Kind, queue: Queue, worker: u32, read: Anchor, next: u32, task:
         let left = figures::after_steal(kind, anchor, read, next);
         Act::Ends {
             anchor: left,
-            answer: Answer::HandedOut {
-                worker: worker,
-                task: task,
-            },
+            answer: Answer::HandedOut { worker, task },
         }
     } else {
         Act::Goes {
@@ -104,14 +101,11 @@ fn claim(width: u32, queue: Queue, store: &[u32], worker: u32, task: Task) -> Ac
         Act::Claims {
             offset: from,
             length: words,
-            line: Line::Note { task: task },
+            line: Line::Note { task },
         }
     } else {
         Act::Stops {
-            answer: Answer::Full {
-                worker: worker,
-                task: task,
-            },
+            answer: Answer::Full { worker, task },
         }
     }
 }
@@ -135,8 +129,10 @@ pub fn decide(kind: Kind, width: u32, queue: Queue, store: &[u32], worker: u32, 
         }
         // FIFO's put 2
         Line::PutTail { task, head } => {
-            let put = figures::with_tail(head, anchor);
-            Act::Goes { line: Line::PutTest { task: task, read: put } }
+            let read = figures::with_tail(head, anchor);
+            Act::Goes {
+                line: Line::PutTest { task, read },
+            }
         }
         // put 2; 3
         Line::PutTest { task, read } => {
@@ -146,20 +142,29 @@ pub fn decide(kind: Kind, width: u32, queue: Queue, store: &[u32], worker: u32, 
         }
         // put 3a; 4a
         Line::PutNumber { task, read } => {
-            let index = figures::put_index(kind, read);
-            let place = figures::place(kind, queue, at, index, 0);
-            Act::Word { place: place, value: task.number, line: Line::PutPayload { task: task, read: read } }
+            let place = figures::put_place(kind, queue, at, read, 0);
+            Act::Word {
+                place,
+                value: task.number,
+                line: Line::PutPayload { task, read },
+            }
         }
         // put 3b; 4b
         Line::PutPayload { task, read } => {
-            let index = figures::put_index(kind, read);
-            let place = figures::place(kind, queue, at, index, 1);
-            Act::Word { place: place, value: task.payload, line: Line::PutFinish { task: task, read: read } }
+            let place = figures::put_place(kind, queue, at, read, 1);
+            Act::Word {
+                place,
+                value: task.payload,
+                line: Line::PutFinish { task, read },
+            }
         }
         // put 4; 5
         Line::PutFinish { task, read } => {
             let left = figures::after_put(kind, width, anchor, read);
-            Act::Ends { anchor: left, answer: Answer::Finished { worker: worker, task: task } }
+            Act::Ends {
+                anchor: left,
+                answer: Answer::Finished { worker, task },
+            }
         }
         // X1
         Line::Claim { task } => claim(width, queue, store, worker, task),
@@ -170,17 +175,28 @@ pub fn decide(kind: Kind, width: u32, queue: Queue, store: &[u32], worker: u32, 
             Act::Goes { line: next }
         }
         // X3
-        Line::Copy { task, head, noted, copied } => {
+        Line::Copy {
+            task,
+            head,
+            noted,
+            copied,
+        } => {
             let index = head + copied;
             let number = figures::read_word(kind, queue, at, index, 0, store);
             let payload = figures::read_word(kind, queue, at, index, 1, store);
             let claimed = queue.published as usize;
             let place = figures::place(kind, queue, claimed, index, 0);
             let next = figures::copy_on(task, head, noted, copied);
-            Act::Copies { place: place, task: Task { number: number, payload: payload }, line: next }
+            Act::Copies {
+                place,
+                task: Task { number, payload },
+                line: next,
+            }
         }
         // X4
-        Line::Publish { task } => Act::Publishes { line: Line::PutRead { task: task } },
+        Line::Publish { task } => Act::Publishes {
+            line: Line::PutRead { task },
+        },
         // take 1; 1
         Line::TakeRead => {
             let next = figures::take_read(kind, anchor);
@@ -188,27 +204,37 @@ pub fn decide(kind: Kind, width: u32, queue: Queue, store: &[u32], worker: u32, 
         }
         // FIFO's take 2
         Line::TakeTail { head } => {
-            let taken = figures::with_tail(head, anchor);
-            Act::Goes { line: Line::TakeTest { read: taken } }
+            let read = figures::with_tail(head, anchor);
+            Act::Goes {
+                line: Line::TakeTest { read },
+            }
         }
         // take 2; 3
-        Line::TakeTest { read } => unless_empty(kind, worker, read, Line::TakeNumber { read: read }),
+        Line::TakeTest { read } => unless_empty(kind, worker, read, Line::TakeNumber { read }),
         // take 3a; 4a
         Line::TakeNumber { read } => {
-            let index = figures::take_index(kind, read);
-            let word = figures::read_word(kind, queue, at, index, 0, store);
-            Act::Goes { line: Line::TakePayload { read: read, number: word } }
+            let number = figures::taken_word(kind, queue, at, read, 0, store);
+            Act::Goes {
+                line: Line::TakePayload { read, number },
+            }
         }
         // take 3b; 4b
         Line::TakePayload { read, number } => {
-            let index = figures::take_index(kind, read);
-            let word = figures::read_word(kind, queue, at, index, 1, store);
-            Act::Goes { line: Line::TakeFinish { read: read, task: Task { number: number, payload: word } } }
+            let payload = figures::taken_word(kind, queue, at, read, 1, store);
+            Act::Goes {
+                line: Line::TakeFinish {
+                    read,
+                    task: Task { number, payload },
+                },
+            }
         }
         // take 4; 5
         Line::TakeFinish { read, task } => {
             let left = figures::after_take(kind, anchor, read);
-            Act::Ends { anchor: left, answer: Answer::HandedOut { worker: worker, task: task } }
+            Act::Ends {
+                anchor: left,
+                answer: Answer::HandedOut { worker, task },
+            }
         }
         // steal 1; 1
         Line::StealRead => {
@@ -217,30 +243,48 @@ pub fn decide(kind: Kind, width: u32, queue: Queue, store: &[u32], worker: u32, 
         }
         // FIFO's steal 2
         Line::StealTail { head } => {
-            let stolen = figures::with_tail(head, anchor);
-            Act::Goes { line: Line::StealTest { read: stolen } }
+            let read = figures::with_tail(head, anchor);
+            Act::Goes {
+                line: Line::StealTest { read },
+            }
         }
         // steal 2; 3
-        Line::StealTest { read } => unless_empty(kind, worker, read, Line::StealNote { read: read }),
+        Line::StealTest { read } => unless_empty(kind, worker, read, Line::StealNote { read }),
         // steal 3; 4
-        Line::StealNote { read } => Act::Goes { line: Line::StealNumber { read: read, place: here } },
+        Line::StealNote { read } => Act::Goes {
+            line: Line::StealNumber { read, place: here },
+        },
         // steal 4a; 5a
         Line::StealNumber { read, place } => {
-            let index = figures::steal_index(kind, read);
-            let word = figures::read_word(kind, queue, place as usize, index, 0, store);
-            Act::Goes { line: Line::StealPayload { read: read, place: place, number: word } }
+            let number = figures::stolen_word(kind, queue, place as usize, read, 0, store);
+            Act::Goes {
+                line: Line::StealPayload {
+                    read,
+                    place,
+                    number,
+                },
+            }
         }
         // steal 4b; 5b
-        Line::StealPayload { read, place, number } => {
-            let index = figures::steal_index(kind, read);
-            let word = figures::read_word(kind, queue, place as usize, index, 1, store);
-            let task = Task { number: number, payload: word };
-            Act::Goes { line: figures::steal_last(kind, read, task) }
+        Line::StealPayload {
+            read,
+            place,
+            number,
+        } => {
+            let payload = figures::stolen_word(kind, queue, place as usize, read, 1, store);
+            let next = figures::steal_last(kind, read, Task { number, payload });
+            Act::Goes { line: next }
         }
         // figure 3's steal 5
         Line::StealNext { read, task } => {
             let h2 = (read.head + 1) % 2048;
-            Act::Goes { line: Line::StealCompare { read: read, next: h2, task: task } }
+            Act::Goes {
+                line: Line::StealCompare {
+                    read,
+                    next: h2,
+                    task,
+                },
+            }
         }
         // steal 5, in figure 3 steal 6; 6
         Line::StealCompare { read, next, task } => compare(kind, queue, worker, read, next, task),

@@ -1,75 +1,51 @@
-use Rattle.figures.specs.Bounds.{Some}
 use native.Mathlib.Omega.{arith}
 use borrow.Author.Needs.{needs}
+use Rattle.figures.specs.Bounds.{Some}
 use Rattle.figures.proofs.after_steal.Statement.{statement}
 use Rattle.figures.proofs.after_steal.Tie as tie
-use Rattle.figures.proofs.after_steal.Reads as reads
-use Rattle.figures.proofs.after_steal.Lts as lts
-use Rattle.figures.proofs.anchor_of.Reads as anchor-of-reads
 
--- src/lib.rt:168:44
 enum-told : tie.Need-enum-told
 enum-told c = search needs
 
--- src/lib.rt:168:44
-sub-anchor-of : tie.Need-sub-anchor-of
-unfolding Some
-sub-anchor-of c = omega (arith, rw (c .before .enum-told .given .1) at (c .before .before .before .pre .1))
+after-take-requires : tie.Need-after-take-requires
+after-take-requires c κs = search needs
 
--- src/lib.rt:168:23
-anchor-of-requires : tie.Need-anchor-of-requires
-anchor-of-requires c κs = search needs
-
--- src/lib.rt:169:33
 enum-told-2 : tie.Need-enum-told-2
 enum-told-2 c = search needs
 
--- src/lib.rt:169:33
-add-anchor-of : tie.Need-add-anchor-of
-add-anchor-of c = search needs
+after-take-requires-2 : tie.Need-after-take-requires-2
+after-take-requires-2 c κs = search needs
 
--- src/lib.rt:169:23
-anchor-of-requires-2 : tie.Need-anchor-of-requires-2
-anchor-of-requires-2 c κs = search needs
-
--- src/lib.rt:170:40
 enum-told-3 : tie.Need-enum-told-3
 enum-told-3 c = search needs
 
--- src/lib.rt:170:40
-sub-anchor-of-2 : tie.Need-sub-anchor-of-2
+sub-anchor-of : tie.Need-sub-anchor-of
 unfolding Some
-sub-anchor-of-2 c = omega (arith, rw (c .before .enum-told3 .given .1) at (c .before .before .before .pre .1))
+sub-anchor-of c = omega (arith, rw (c .before .enum-told3 .given .1) at (c .before .before .before .pre .1))
 
--- src/lib.rt:170:24
-anchor-of-requires-3 : tie.Need-anchor-of-requires-3
-anchor-of-requires-3 c κs = search needs
+anchor-of-requires : tie.Need-anchor-of-requires
+anchor-of-requires c κs = search needs
 
--- src/lib.rt:162:1
 returns : tie.Need-returns
-returns c = simp (c .before .before .enum-told .given .1, c .anchor-of .ensures)
+returns c = simp (c .before .enum-told .given .1, c .after-take .ensures)
 
--- src/lib.rt:162:1
 returns-2 : tie.Need-returns-2
-returns-2 c = simp (c .before .before .enum-told2 .given .1, c .anchor-of2 .ensures)
+returns-2 c = simp (c .before .enum-told2 .given .1, c .after-take2 .ensures)
 
--- src/lib.rt:162:1
 returns-3 : tie.Need-returns-3
-returns-3 c = simp (c .before .before .enum-told3 .given .1, c .anchor-of3 .ensures)
+returns-3 c = simp (c .before .before .enum-told3 .given .1, c .anchor-of .ensures)
 
 pub after-steal-spec : {M : Type 1} → statement M
 after-steal-spec =
     tie.close
     (tie.spec
     enum-told
+    after-take-requires
+    enum-told-2
+    after-take-requires-2
+    enum-told-3
     sub-anchor-of
     anchor-of-requires
-    enum-told-2
-    add-anchor-of
-    anchor-of-requires-2
-    enum-told-3
-    sub-anchor-of-2
-    anchor-of-requires-3
     returns
     returns-2
     returns-3)

@@ -1,59 +1,44 @@
-use Rattle.figures.specs.Bounds.{Some}
 use native.Mathlib.Omega.{arith}
 use borrow.Author.Needs.{needs}
+use Rattle.figures.specs.Bounds.{Some}
 use Rattle.figures.proofs.after_take.Statement.{statement}
 use Rattle.figures.proofs.after_take.Tie as tie
-use Rattle.figures.proofs.after_take.Reads as reads
-use Rattle.figures.proofs.after_take.Lts as lts
-use Rattle.figures.proofs.anchor_of.Reads as anchor-of-reads
 
--- src/lib.rt:155:44
 enum-told : tie.Need-enum-told
 enum-told c = search needs
 
--- src/lib.rt:155:44
 sub-anchor-of : tie.Need-sub-anchor-of
 unfolding Some
 sub-anchor-of c = omega (arith, rw (c .before .enum-told .given .1) at (c .before .before .before .pre .1))
 
--- src/lib.rt:155:23
 anchor-of-requires : tie.Need-anchor-of-requires
 anchor-of-requires c κs = search needs
 
--- src/lib.rt:156:33
 enum-told-2 : tie.Need-enum-told-2
 enum-told-2 c = search needs
 
--- src/lib.rt:156:33
 add-anchor-of : tie.Need-add-anchor-of
 add-anchor-of c = search needs
 
--- src/lib.rt:156:23
 anchor-of-requires-2 : tie.Need-anchor-of-requires-2
 anchor-of-requires-2 c κs = search needs
 
--- src/lib.rt:157:45
 enum-told-3 : tie.Need-enum-told-3
 enum-told-3 c = search needs
 
--- src/lib.rt:157:45
 sub-anchor-of-2 : tie.Need-sub-anchor-of-2
 unfolding Some
 sub-anchor-of-2 c = omega (arith, rw (c .before .enum-told3 .given .1) at (c .before .before .before .pre .1))
 
--- src/lib.rt:157:24
 anchor-of-requires-3 : tie.Need-anchor-of-requires-3
 anchor-of-requires-3 c κs = search needs
 
--- src/lib.rt:149:1
 returns : tie.Need-returns
 returns c = simp (c .before .before .enum-told .given .1, c .anchor-of .ensures)
 
--- src/lib.rt:149:1
 returns-2 : tie.Need-returns-2
 returns-2 c = simp (c .before .before .enum-told2 .given .1, c .anchor-of2 .ensures)
 
--- src/lib.rt:149:1
 returns-3 : tie.Need-returns-3
 returns-3 c = simp (c .before .before .enum-told3 .given .1, c .anchor-of3 .ensures)
 

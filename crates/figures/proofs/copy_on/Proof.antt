@@ -1,22 +1,16 @@
-use Rattle.model.specs.Tests.{if_then_else_}
-use Rattle.model.specs.Tests.{_and_}
 use borrow.Author.Tests.{eq-eqb, ne-eqb}
 use borrow.Author.Needs.{needs}
+use Rattle.model.specs.Tests.{if_then_else_, _and_}
 use Rattle.figures.proofs.copy_on.Statement.{statement}
 use Rattle.figures.proofs.copy_on.Tie as tie
-use Rattle.figures.proofs.copy_on.Reads as reads
-use Rattle.figures.proofs.copy_on.Lts as lts
 
--- src/lib.rt:260:14
 add-up : tie.Need-add-up
 add-up c = search needs
 
--- src/lib.rt:256:1
 returns : tie.Need-returns
 unfolding _and_ if_then_else_
 returns c = simp (eq-eqb _ _ (c .if1 .taken))
 
--- src/lib.rt:256:1
 returns-2 : tie.Need-returns-2
 unfolding _and_ if_then_else_
 returns-2 c = simp (ne-eqb _ _ (c .if1 .left))

@@ -1,30 +1,22 @@
 use native.Mathlib.Omega.{arith}
-use Rattle.model.specs.Memory.{offsetAt}
-use Rattle.model.specs.Memory.{sizeAt}
 use borrow.Author.Needs.{needs}
+use Rattle.model.specs.Memory.{offsetAt, sizeAt}
 use Rattle.figures.proofs.end_of.Statement.{statement}
 use Rattle.figures.proofs.end_of.Tie as tie
-use Rattle.figures.proofs.end_of.Reads as reads
-use Rattle.figures.proofs.end_of.Lts as lts
 
--- src/lib.rt:283:18
 mul-region : tie.Need-mul-region
 mul-region c = search needs
 
--- src/lib.rt:283:18
 element-copy-out-region : tie.Need-element-copy-out-region
 element-copy-out-region c = search needs
 
--- src/lib.rt:285:21
 mul-result : tie.Need-mul-result
 mul-result c = search needs
 
--- src/lib.rt:285:5
 add-result : tie.Need-add-result
 unfolding sizeAt offsetAt
 add-result c = omega (arith, c .before .before .before .pre .1)
 
--- src/lib.rt:278:1
 returns : tie.Need-returns
 unfolding sizeAt offsetAt
 returns c = search needs

@@ -1,30 +1,22 @@
 use borrow.Author.Needs.{needs}
 use Rattle.figures.proofs.is_empty.Statement.{statement}
 use Rattle.figures.proofs.is_empty.Tie as tie
-use Rattle.figures.proofs.is_empty.Reads as reads
-use Rattle.figures.proofs.is_empty.Lts as lts
 
--- src/lib.rt:128:23
 enum-told : tie.Need-enum-told
 enum-told c = search needs
 
--- src/lib.rt:129:23
 enum-told-2 : tie.Need-enum-told-2
 enum-told-2 c = search needs
 
--- src/lib.rt:130:24
 enum-told-3 : tie.Need-enum-told-3
 enum-told-3 c = search needs
 
--- src/lib.rt:124:1
 returns : tie.Need-returns
 returns c = simp (c .before .enum-told .given .1)
 
--- src/lib.rt:124:1
 returns-2 : tie.Need-returns-2
 returns-2 c = simp (c .before .enum-told2 .given .1)
 
--- src/lib.rt:124:1
 returns-3 : tie.Need-returns-3
 returns-3 c = simp (c .before .enum-told3 .given .1)
 

@@ -1,50 +1,42 @@
-use Rattle.model.specs.Tests.{if_then_else_}
-use Rattle.model.specs.Tests.{_and_}
 use borrow.Author.Tests.{eq-eqb, ne-eqb}
 use borrow.Author.Needs.{needs}
+use Rattle.model.specs.Tests.{if_then_else_, _and_}
 use Rattle.figures.proofs.is_same.Statement.{statement}
 use Rattle.figures.proofs.is_same.Tie as tie
-use Rattle.figures.proofs.is_same.Reads as reads
-use Rattle.figures.proofs.is_same.Lts as lts
 
--- src/lib.rt:182:23
 enum-told : tie.Need-enum-told
 enum-told c = search needs
 
--- src/lib.rt:183:23
 enum-told-2 : tie.Need-enum-told-2
 enum-told-2 c = search needs
 
--- src/lib.rt:184:24
 enum-told-3 : tie.Need-enum-told-3
 enum-told-3 c = search needs
 
--- src/lib.rt:175:1
 returns : tie.Need-returns
 unfolding _and_ if_then_else_
 returns c = simp (c .before .before .before .enum-told .given .1, eq-eqb _ _ (c .before .if1 .taken))
 
--- src/lib.rt:175:1
 returns-2 : tie.Need-returns-2
 unfolding _and_ if_then_else_
 returns-2 c = simp (c .before .before .enum-told .given .1, ne-eqb _ _ (c .if1 .left))
 
--- src/lib.rt:175:1
 returns-3 : tie.Need-returns-3
 unfolding _and_ if_then_else_
 returns-3 c = simp (c .before .enum-told2 .given .1)
 
--- src/lib.rt:175:1
 returns-4 : tie.Need-returns-4
 unfolding _and_ if_then_else_
-returns-4 c = simp (c .before .before .before .before .before .enum-told3 .given .1, eq-eqb _ _ (c .before .before .before .if2 .taken), eq-eqb _ _ (c .before .if3 .taken))
+returns-4 c =
+    let arm = c .before .before .before .before .before in
+    simp (arm .enum-told3 .given .1, eq-eqb _ _ (c .before .before .before .if2 .taken), eq-eqb _ _ (c .before .if3 .taken))
 
--- src/lib.rt:175:1
 returns-5 : tie.Need-returns-5
 unfolding _and_ if_then_else_
-returns-5 c = simp (c .before .before .before .before .enum-told3 .given .1, eq-eqb _ _ (c .before .before .if2 .taken), ne-eqb _ _ (c .if3 .left))
+returns-5 c =
+    let arm = c .before .before .before .before in
+    simp (arm .enum-told3 .given .1, eq-eqb _ _ (c .before .before .if2 .taken), ne-eqb _ _ (c .if3 .left))
 
--- src/lib.rt:175:1
 returns-6 : tie.Need-returns-6
 unfolding _and_ if_then_else_
 returns-6 c = simp (c .before .before .enum-told3 .given .1, ne-eqb _ _ (c .if2 .left))

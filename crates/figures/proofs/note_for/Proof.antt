@@ -1,50 +1,37 @@
-use Rattle.figures.specs.Bounds.{Ordered}
 use native.Mathlib.Omega.{arith}
 use borrow.Author.Needs.{needs}
+use Rattle.figures.specs.Bounds.{Ordered}
 use Rattle.figures.proofs.note_for.Statement.{statement}
 use Rattle.figures.proofs.note_for.Tie as tie
-use Rattle.figures.proofs.note_for.Reads as reads
-use Rattle.figures.proofs.note_for.Lts as lts
-use Rattle.figures.proofs.note_all.Reads as note-all-reads
 
--- src/lib.rt:249:23
 enum-told : tie.Need-enum-told
 enum-told c = search needs
 
--- src/lib.rt:249:23
 note-all-requires : tie.Need-note-all-requires
 note-all-requires c κs = search needs
 
--- src/lib.rt:250:51
 enum-told-2 : tie.Need-enum-told-2
 enum-told-2 c = search needs
 
--- src/lib.rt:250:51
 sub-note-all : tie.Need-sub-note-all
 unfolding Ordered
 sub-note-all c = omega (arith, rw (c .before .enum-told2 .given .1) at (c .before .before .before .pre))
 
--- src/lib.rt:250:23
 note-all-requires-2 : tie.Need-note-all-requires-2
 note-all-requires-2 c κs = search needs
 
--- src/lib.rt:251:24
 enum-told-3 : tie.Need-enum-told-3
 enum-told-3 c = search needs
 
--- src/lib.rt:251:24
 note-all-requires-3 : tie.Need-note-all-requires-3
 note-all-requires-3 c κs = search needs
 
--- src/lib.rt:244:1
 returns : tie.Need-returns
 returns c = simp (c .before .enum-told .given .1, c .note-all .ensures)
 
--- src/lib.rt:244:1
 returns-2 : tie.Need-returns-2
 returns-2 c = simp (c .before .before .enum-told2 .given .1, c .note-all2 .ensures)
 
--- src/lib.rt:244:1
 returns-3 : tie.Need-returns-3
 returns-3 c = simp (c .before .enum-told3 .given .1, c .note-all3 .ensures)
 

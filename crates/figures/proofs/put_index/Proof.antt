@@ -1,34 +1,25 @@
 use borrow.Author.Needs.{needs}
 use Rattle.figures.proofs.put_index.Statement.{statement}
 use Rattle.figures.proofs.put_index.Tie as tie
-use Rattle.figures.proofs.put_index.Reads as reads
-use Rattle.figures.proofs.put_index.Lts as lts
 
--- src/lib.rt:80:23
 enum-told : tie.Need-enum-told
 enum-told c = search needs
 
--- src/lib.rt:81:23
 enum-told-2 : tie.Need-enum-told-2
 enum-told-2 c = search needs
 
--- src/lib.rt:82:24
 enum-told-3 : tie.Need-enum-told-3
 enum-told-3 c = search needs
 
--- src/lib.rt:82:24
 add-result : tie.Need-add-result
 add-result c = search needs
 
--- src/lib.rt:75:1
 returns : tie.Need-returns
 returns c = search needs
 
--- src/lib.rt:75:1
 returns-2 : tie.Need-returns-2
 returns-2 c = search needs
 
--- src/lib.rt:75:1
 returns-3 : tie.Need-returns-3
 returns-3 c = simp (c .before .enum-told3 .given .1)
 

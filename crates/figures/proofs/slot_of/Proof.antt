@@ -1,38 +1,28 @@
 use borrow.Author.Needs.{needs}
 use Rattle.figures.proofs.slot_of.Statement.{statement}
 use Rattle.figures.proofs.slot_of.Tie as tie
-use Rattle.figures.proofs.slot_of.Reads as reads
-use Rattle.figures.proofs.slot_of.Lts as lts
 
--- src/lib.rt:68:23
 enum-told : tie.Need-enum-told
 enum-told c = search needs
 
--- src/lib.rt:69:23
 enum-told-2 : tie.Need-enum-told-2
 enum-told-2 c = search needs
 
--- src/lib.rt:69:23
 rem-result : tie.Need-rem-result
 rem-result c = search needs
 
--- src/lib.rt:70:24
 enum-told-3 : tie.Need-enum-told-3
 enum-told-3 c = search needs
 
--- src/lib.rt:70:24
 rem-result-2 : tie.Need-rem-result-2
 rem-result-2 c = search needs
 
--- src/lib.rt:63:1
 returns : tie.Need-returns
 returns c = search needs
 
--- src/lib.rt:63:1
 returns-2 : tie.Need-returns-2
 returns-2 c = simp (c .enum-told2 .given .1)
 
--- src/lib.rt:63:1
 returns-3 : tie.Need-returns-3
 returns-3 c = simp (c .enum-told3 .given .1)
 

@@ -1,37 +1,28 @@
-use Rattle.figures.specs.Bounds.{Some}
 use native.Mathlib.Omega.{arith}
 use borrow.Author.Needs.{needs}
+use Rattle.figures.specs.Bounds.{Some}
 use Rattle.figures.proofs.steal_index.Statement.{statement}
 use Rattle.figures.proofs.steal_index.Tie as tie
-use Rattle.figures.proofs.steal_index.Reads as reads
-use Rattle.figures.proofs.steal_index.Lts as lts
 
--- src/lib.rt:105:23
 enum-told : tie.Need-enum-told
 enum-told c = search needs
 
--- src/lib.rt:105:23
 sub-result : tie.Need-sub-result
 unfolding Some
 sub-result c = omega (arith, rw (c .before .enum-told .given .1) at (c .before .before .before .pre))
 
--- src/lib.rt:106:23
 enum-told-2 : tie.Need-enum-told-2
 enum-told-2 c = search needs
 
--- src/lib.rt:107:24
 enum-told-3 : tie.Need-enum-told-3
 enum-told-3 c = search needs
 
--- src/lib.rt:100:1
 returns : tie.Need-returns
 returns c = simp (c .before .enum-told .given .1)
 
--- src/lib.rt:100:1
 returns-2 : tie.Need-returns-2
 returns-2 c = search needs
 
--- src/lib.rt:100:1
 returns-3 : tie.Need-returns-3
 returns-3 c = search needs
 

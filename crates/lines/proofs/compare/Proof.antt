@@ -1,28 +1,22 @@
-use Rattle.lines.specs.Act.{enact, InStore}
-use Rattle.model.specs.Tests.{if_then_else_}
 use mathlib.Core.Path.{sym, _∙_}
 use borrow.Author.Needs.{needs}
+use Rattle.model.specs.Tests.{if_then_else_}
+use Rattle.lines.specs.Act.{enact, InStore}
 use Rattle.lines.proofs.compare.Statement.{statement}
 use Rattle.lines.proofs.compare.Tie as tie
-use Rattle.lines.proofs.compare.Reads as reads
-use Rattle.lines.proofs.compare.Lts as lts
-use Rattle.figures.proofs.after_steal.Reads as after-steal-reads
-use Rattle.figures.proofs.is_same.Reads as is-same-reads
 
--- src/lib.rt:73:9
 is-same-requires : tie.Need-is-same-requires
 is-same-requires c κs = search needs
 
--- src/lib.rt:75:13
 after-steal-requires : tie.Need-after-steal-requires
 after-steal-requires c κs = search needs
 
--- src/lib.rt:66:1
 returns : tie.Need-returns
 unfolding enact InStore if_then_else_
-returns c = (λ m. simp (sym (c .before .before .is-same .ensures) ∙ c .before .if1 .taken, c .after-steal .ensures), λ n. tt)
+returns c =
+    let same = sym (c .before .before .is-same .ensures) ∙ c .before .if1 .taken in
+    (λ m. simp (same, c .after-steal .ensures), λ n. tt)
 
--- src/lib.rt:66:1
 returns-2 : tie.Need-returns-2
 unfolding enact InStore if_then_else_
 returns-2 c = (λ m. simp (sym (c .before .is-same .ensures) ∙ c .if1 .left), λ n. tt)

@@ -1,440 +1,374 @@
-use Rattle.lines.specs.Act.{Ready}
-use Rattle.model.specs.Memory.{setWord}
+-- An arm knows its line, and with it what `Ready` says there; five places before the arm stands the function's entry.
 use native.Mathlib.Nat.{add-zero}
 use native.Mathlib.Omega.{arith}
-use Rattle.lines.specs.Act.{InStore}
-use Rattle.lines.specs.Act.{enact}
-use Rattle.model.specs.Lines.{lineStep}
 use borrow.Author.Needs.{needs}
+use Rattle.model.specs.Memory.{setWord}
+use Rattle.model.specs.Lines.{lineStep}
+use Rattle.lines.specs.Act.{Ready, InStore, enact}
 use Rattle.lines.proofs.decide.Statement.{statement}
 use Rattle.lines.proofs.decide.Tie as tie
-use Rattle.lines.proofs.decide.Reads as reads
-use Rattle.lines.proofs.decide.Lts as lts
-use Rattle.figures.proofs.after_put.Reads as after-put-reads
-use Rattle.figures.proofs.after_take.Reads as after-take-reads
-use Rattle.figures.proofs.copy_on.Reads as copy-on-reads
-use Rattle.figures.proofs.note_for.Reads as note-for-reads
-use Rattle.figures.proofs.place.Reads as place-reads
-use Rattle.figures.proofs.put_index.Reads as put-index-reads
-use Rattle.figures.proofs.put_read.Reads as put-read-reads
-use Rattle.figures.proofs.put_test.Reads as put-test-reads
-use Rattle.figures.proofs.read_word.Reads as read-word-reads
-use Rattle.figures.proofs.size_at.Reads as size-at-reads
-use Rattle.figures.proofs.steal_index.Reads as steal-index-reads
-use Rattle.figures.proofs.steal_last.Reads as steal-last-reads
-use Rattle.figures.proofs.steal_read.Reads as steal-read-reads
-use Rattle.figures.proofs.take_index.Reads as take-index-reads
-use Rattle.figures.proofs.take_read.Reads as take-read-reads
-use Rattle.figures.proofs.with_tail.Reads as with-tail-reads
-use Rattle.lines.proofs.claim.Reads as claim-reads
-use Rattle.lines.proofs.compare.Reads as compare-reads
-use Rattle.lines.proofs.unless_empty.Reads as unless-empty-reads
 
--- src/lib.rt:127:16
 sub-here : tie.Need-sub-here
 sub-here c = search needs
 
--- src/lib.rt:128:14
 cast-at : tie.Need-cast-at
 cast-at c = search needs
 
--- src/lib.rt:130:41
 enum-told : tie.Need-enum-told
 enum-told c = search needs
 
--- src/lib.rt:132:25
 enum-known-line : tie.Need-enum-known-line
 enum-known-line c = search needs
 
--- src/lib.rt:133:17
 put-read-requires : tie.Need-put-read-requires
 put-read-requires c κs = search needs
 
--- src/lib.rt:137:25
 enum-known-line-2 : tie.Need-enum-known-line-2
 enum-known-line-2 c = search needs
 
--- src/lib.rt:138:17
 with-tail-requires : tie.Need-with-tail-requires
 with-tail-requires c κs = search needs
 
--- src/lib.rt:142:25
 enum-known-line-3 : tie.Need-enum-known-line-3
 enum-known-line-3 c = search needs
 
--- src/lib.rt:143:17
 size-at-requires : tie.Need-size-at-requires
 size-at-requires c κs = search needs
 
--- src/lib.rt:144:17
 put-test-requires : tie.Need-put-test-requires
 unfolding Ready
-put-test-requires c κs = omega (arith, rw (c .before .before .line3 .given .1) at (c .before .before .before .before .before .before .before .pre .1))
+put-test-requires c κs =
+    let arm = c .before .before in
+    let h = rw (arm .line3 .given .1) at (arm .before .before .before .before .before .pre .1) in
+    omega (arith, h)
 
--- src/lib.rt:148:27
 enum-known-line-4 : tie.Need-enum-known-line-4
 enum-known-line-4 c = search needs
 
--- src/lib.rt:149:17
-put-index-requires : tie.Need-put-index-requires
+put-place-requires : tie.Need-put-place-requires
 unfolding Ready
-put-index-requires c κs = (rw (c .before .line4 .given .1) at (c .before .before .before .before .before .before .pre .1)) .0
+put-place-requires c κs =
+    let arm = c .before in
+    let h = rw (arm .line4 .given .1) at (arm .before .before .before .before .before .pre .1) in
+    omega (arith, h)
 
--- src/lib.rt:150:17
-place-requires : tie.Need-place-requires
-unfolding Ready
-place-requires c κs = rw (c .put-index .ensures) (omega (arith, rw (c .before .before .line4 .given .1) at (c .before .before .before .before .before .before .before .pre .1)))
-
--- src/lib.rt:154:28
 enum-known-line-5 : tie.Need-enum-known-line-5
 enum-known-line-5 c = search needs
 
--- src/lib.rt:155:17
-put-index-requires-2 : tie.Need-put-index-requires-2
+put-place-requires-2 : tie.Need-put-place-requires-2
 unfolding Ready
-put-index-requires-2 c κs = (rw (c .before .line5 .given .1) at (c .before .before .before .before .before .before .pre .1)) .0
+put-place-requires-2 c κs =
+    let arm = c .before in
+    let h = rw (arm .line5 .given .1) at (arm .before .before .before .before .before .pre .1) in
+    omega (arith, h)
 
--- src/lib.rt:156:17
-place-requires-2 : tie.Need-place-requires-2
-unfolding Ready
-place-requires-2 c κs = rw (c .put-index2 .ensures) (omega (arith, rw (c .before .before .line5 .given .1) at (c .before .before .before .before .before .before .before .pre .1)))
-
--- src/lib.rt:160:27
 enum-known-line-6 : tie.Need-enum-known-line-6
 enum-known-line-6 c = search needs
 
--- src/lib.rt:161:17
 after-put-requires : tie.Need-after-put-requires
 unfolding Ready
-after-put-requires c κs = omega (arith, rw (c .before .line6 .given .1) at (c .before .before .before .before .before .before .pre .1))
+after-put-requires c κs =
+    let arm = c .before in
+    let h = rw (arm .line6 .given .1) at (arm .before .before .before .before .before .pre .1) in
+    omega (arith, h)
 
--- src/lib.rt:165:23
 enum-known-line-7 : tie.Need-enum-known-line-7
 enum-known-line-7 c = search needs
 
--- src/lib.rt:165:33
 claim-requires : tie.Need-claim-requires
 unfolding Ready
-claim-requires c κs = (c .before .before .before .before .before .before .pre .0, rw (c .before .line7 .given .1) at (c .before .before .before .before .before .before .pre .1))
+claim-requires c κs =
+    let arm = c .before in
+    let h = rw (arm .line7 .given .1) at (arm .before .before .before .before .before .pre .1) in
+    (c .before .before .before .before .before .before .pre .0, h)
 
--- src/lib.rt:167:22
 enum-known-line-8 : tie.Need-enum-known-line-8
 enum-known-line-8 c = search needs
 
--- src/lib.rt:168:17
 size-at-requires-2 : tie.Need-size-at-requires-2
 size-at-requires-2 c κs = search needs
 
--- src/lib.rt:169:17
 note-for-requires : tie.Need-note-for-requires
 unfolding Ready
-note-for-requires c κs = rw (c .before .before .line8 .given .1) at (c .before .before .before .before .before .before .before .pre .1)
+note-for-requires c κs =
+    let arm = c .before .before in
+    rw (arm .line8 .given .1) at (arm .before .before .before .before .before .pre .1)
 
--- src/lib.rt:173:22
 enum-known-line-9 : tie.Need-enum-known-line-9
 enum-known-line-9 c = search needs
 
--- src/lib.rt:174:25
 add-index : tie.Need-add-index
 unfolding Ready
-add-index c = omega (arith, rw (c .before .line9 .given .1) at (c .before .before .before .before .before .before .pre .1))
+add-index c =
+    let arm = c .before in
+    let h = rw (arm .line9 .given .1) at (arm .before .before .before .before .before .pre .1) in
+    omega (arith, h)
 
--- src/lib.rt:175:17
 read-word-requires : tie.Need-read-word-requires
 unfolding Ready
-read-word-requires c κs = omega (arith, rw (c .before .line9 .given .1) at (c .before .before .before .before .before .before .pre .1))
+read-word-requires c κs =
+    let arm = c .before in
+    let h = rw (arm .line9 .given .1) at (arm .before .before .before .before .before .pre .1) in
+    omega (arith, h)
 
--- src/lib.rt:176:17
 read-word-requires-2 : tie.Need-read-word-requires-2
 unfolding Ready
-read-word-requires-2 c κs = omega (arith, rw (c .before .before .line9 .given .1) at (c .before .before .before .before .before .before .before .pre .1))
+read-word-requires-2 c κs =
+    let arm = c .before .before in
+    let h = rw (arm .line9 .given .1) at (arm .before .before .before .before .before .pre .1) in
+    omega (arith, h)
 
--- src/lib.rt:177:27
 cast-claimed : tie.Need-cast-claimed
 cast-claimed c = search needs
 
--- src/lib.rt:178:17
-place-requires-3 : tie.Need-place-requires-3
+place-requires : tie.Need-place-requires
 unfolding Ready
-place-requires-3 c κs = omega (arith, rw (c .before .before .before .before .line9 .given .1) at (c .before .before .before .before .before .before .before .before .before .pre .1))
+place-requires c κs =
+    let arm = c .before .before .before .before in
+    let h = rw (arm .line9 .given .1) at (arm .before .before .before .before .before .pre .1) in
+    omega (arith, h)
 
--- src/lib.rt:179:17
 copy-on-requires : tie.Need-copy-on-requires
 unfolding Ready
-copy-on-requires c κs = omega (arith, rw (c .before .before .before .before .before .line9 .given .1) at (c .before .before .before .before .before .before .before .before .before .before .pre .1))
+copy-on-requires c κs =
+    let arm = c .before .before .before .before .before in
+    let h = rw (arm .line9 .given .1) at (arm .before .before .before .before .before .pre .1) in
+    omega (arith, h)
 
--- src/lib.rt:183:25
 enum-known-line-10 : tie.Need-enum-known-line-10
 enum-known-line-10 c = search needs
 
--- src/lib.rt:186:17
 enum-told-2 : tie.Need-enum-told-2
 enum-told-2 c = search needs
 
--- src/lib.rt:186:17
 take-read-requires : tie.Need-take-read-requires
 take-read-requires c κs = search needs
 
--- src/lib.rt:190:26
 enum-known-line-11 : tie.Need-enum-known-line-11
 enum-known-line-11 c = search needs
 
--- src/lib.rt:191:17
 with-tail-requires-2 : tie.Need-with-tail-requires-2
 with-tail-requires-2 c κs = search needs
 
--- src/lib.rt:195:26
 enum-known-line-12 : tie.Need-enum-known-line-12
 enum-known-line-12 c = search needs
 
--- src/lib.rt:195:36
 unless-empty-requires : tie.Need-unless-empty-requires
 unless-empty-requires c κs = search needs
 
--- src/lib.rt:197:28
 enum-known-line-13 : tie.Need-enum-known-line-13
 enum-known-line-13 c = search needs
 
--- src/lib.rt:198:17
-take-index-requires : tie.Need-take-index-requires
+taken-word-requires : tie.Need-taken-word-requires
 unfolding Ready
-take-index-requires c κs = ((rw (c .before .line13 .given .1) at (c .before .before .before .before .before .before .pre .1)) .0, (rw (c .before .line13 .given .1) at (c .before .before .before .before .before .before .pre .1)) .1)
+taken-word-requires c κs =
+    let arm = c .before in
+    let h = rw (arm .line13 .given .1) at (arm .before .before .before .before .before .pre .1) in
+    (omega (arith, h), (h .0, (h .1, omega (arith, h))))
 
--- src/lib.rt:199:17
-read-word-requires-3 : tie.Need-read-word-requires-3
-unfolding Ready
-read-word-requires-3 c κs = rw (c .take-index .ensures) (omega (arith, rw (c .before .before .line13 .given .1) at (c .before .before .before .before .before .before .before .pre .1)))
-
--- src/lib.rt:203:29
 enum-known-line-14 : tie.Need-enum-known-line-14
 enum-known-line-14 c = search needs
 
--- src/lib.rt:204:17
-take-index-requires-2 : tie.Need-take-index-requires-2
+taken-word-requires-2 : tie.Need-taken-word-requires-2
 unfolding Ready
-take-index-requires-2 c κs = ((rw (c .before .line14 .given .1) at (c .before .before .before .before .before .before .pre .1)) .0, (rw (c .before .line14 .given .1) at (c .before .before .before .before .before .before .pre .1)) .1)
+taken-word-requires-2 c κs =
+    let arm = c .before in
+    let h = rw (arm .line14 .given .1) at (arm .before .before .before .before .before .pre .1) in
+    (omega (arith, h), (h .0, (h .1, omega (arith, h))))
 
--- src/lib.rt:205:17
-read-word-requires-4 : tie.Need-read-word-requires-4
-unfolding Ready
-read-word-requires-4 c κs = rw (c .take-index2 .ensures) (omega (arith, rw (c .before .before .line14 .given .1) at (c .before .before .before .before .before .before .before .pre .1)))
-
--- src/lib.rt:209:28
 enum-known-line-15 : tie.Need-enum-known-line-15
 enum-known-line-15 c = search needs
 
--- src/lib.rt:210:17
 after-take-requires : tie.Need-after-take-requires
 unfolding Ready
-after-take-requires c κs = ((rw (c .before .line15 .given .1) at (c .before .before .before .before .before .before .pre .1)) .0 .0, (rw (c .before .line15 .given .1) at (c .before .before .before .before .before .before .pre .1)) .1)
+after-take-requires c κs =
+    let arm = c .before in
+    let h = rw (arm .line15 .given .1) at (arm .before .before .before .before .before .pre .1) in
+    (h .0 .0, h .1)
 
--- src/lib.rt:215:17
 enum-told-3 : tie.Need-enum-told-3
 enum-told-3 c = search needs
 
--- src/lib.rt:215:17
 steal-read-requires : tie.Need-steal-read-requires
 steal-read-requires c κs = search needs
 
--- src/lib.rt:219:27
 enum-known-line-16 : tie.Need-enum-known-line-16
 enum-known-line-16 c = search needs
 
--- src/lib.rt:220:17
 with-tail-requires-3 : tie.Need-with-tail-requires-3
 with-tail-requires-3 c κs = search needs
 
--- src/lib.rt:224:27
 enum-known-line-17 : tie.Need-enum-known-line-17
 enum-known-line-17 c = search needs
 
--- src/lib.rt:224:37
 unless-empty-requires-2 : tie.Need-unless-empty-requires-2
 unless-empty-requires-2 c κs = search needs
 
--- src/lib.rt:226:27
 enum-known-line-18 : tie.Need-enum-known-line-18
 enum-known-line-18 c = search needs
 
--- src/lib.rt:228:29
 enum-known-line-19 : tie.Need-enum-known-line-19
 enum-known-line-19 c = search needs
 
--- src/lib.rt:229:17
-steal-index-requires : tie.Need-steal-index-requires
+cast-stolen-word : tie.Need-cast-stolen-word
+cast-stolen-word c = search needs
+
+stolen-word-requires : tie.Need-stolen-word-requires
 unfolding Ready
-steal-index-requires c κs = (rw (c .before .line19 .given .1) at (c .before .before .before .before .before .before .pre .1)) .1
+stolen-word-requires c κs =
+    let arm = c .before in
+    let h = rw (arm .line19 .given .1) at (arm .before .before .before .before .before .pre .1) in
+    (omega (arith, h), (h .1, omega (arith, h)))
 
--- src/lib.rt:230:56
-cast-read-word : tie.Need-cast-read-word
-cast-read-word c = search needs
-
--- src/lib.rt:230:17
-read-word-requires-5 : tie.Need-read-word-requires-5
-unfolding Ready
-read-word-requires-5 c κs = rw (c .steal-index .ensures) (omega (arith, rw (c .before .before .line19 .given .1) at (c .before .before .before .before .before .before .before .pre .1)))
-
--- src/lib.rt:234:30
 enum-known-line-20 : tie.Need-enum-known-line-20
 enum-known-line-20 c = search needs
 
--- src/lib.rt:235:17
-steal-index-requires-2 : tie.Need-steal-index-requires-2
+cast-stolen-word-2 : tie.Need-cast-stolen-word-2
+cast-stolen-word-2 c = search needs
+
+stolen-word-requires-2 : tie.Need-stolen-word-requires-2
 unfolding Ready
-steal-index-requires-2 c κs = (rw (c .before .line20 .given .1) at (c .before .before .before .before .before .before .pre .1)) .1
+stolen-word-requires-2 c κs =
+    let arm = c .before in
+    let h = rw (arm .line20 .given .1) at (arm .before .before .before .before .before .pre .1) in
+    (omega (arith, h), (h .1, omega (arith, h)))
 
--- src/lib.rt:236:56
-cast-read-word-2 : tie.Need-cast-read-word-2
-cast-read-word-2 c = search needs
-
--- src/lib.rt:236:17
-read-word-requires-6 : tie.Need-read-word-requires-6
-unfolding Ready
-read-word-requires-6 c κs = rw (c .steal-index2 .ensures) (omega (arith, rw (c .before .before .line20 .given .1) at (c .before .before .before .before .before .before .before .pre .1)))
-
--- src/lib.rt:238:31
 steal-last-requires : tie.Need-steal-last-requires
 steal-last-requires c κs = search needs
 
--- src/lib.rt:241:27
 enum-known-line-21 : tie.Need-enum-known-line-21
 enum-known-line-21 c = search needs
 
--- src/lib.rt:242:23
 add-h2 : tie.Need-add-h2
 unfolding Ready
-add-h2 c = omega (arith, rw (c .before .before .line21 .given .1) at (c .before .before .before .before .before .before .before .pre .1))
+add-h2 c =
+    let arm = c .before .before in
+    let h = rw (arm .line21 .given .1) at (arm .before .before .before .before .before .pre .1) in
+    omega (arith, h)
 
--- src/lib.rt:246:30
 enum-known-line-22 : tie.Need-enum-known-line-22
 enum-known-line-22 c = search needs
 
--- src/lib.rt:246:52
 compare-requires : tie.Need-compare-requires
 unfolding Ready
-compare-requires c κs = rw (c .before .line22 .given .1) at (c .before .before .before .before .before .before .pre .1)
+compare-requires c κs =
+    let arm = c .before in
+    rw (arm .line22 .given .1) at (arm .before .before .before .before .before .pre .1)
 
--- src/lib.rt:120:1
 returns : tie.Need-returns
 unfolding lineStep enact InStore
 returns c = (simp (c .enum-told .given .1), tt)
 
--- src/lib.rt:120:1
 returns-2 : tie.Need-returns-2
 unfolding lineStep enact InStore
 returns-2 c = (simp (c .before .before .line .given .1, c .put-read .ensures), tt)
 
--- src/lib.rt:120:1
 returns-3 : tie.Need-returns-3
 unfolding lineStep enact InStore
 returns-3 c = (simp (c .before .before .line2 .given .1, c .with-tail .ensures), tt)
 
--- src/lib.rt:120:1
 returns-4 : tie.Need-returns-4
 unfolding lineStep enact InStore
 returns-4 c = (simp (c .before .before .before .line3 .given .1, c .before .size-at .ensures, c .put-test .ensures), tt)
 
--- src/lib.rt:120:1
 returns-5 : tie.Need-returns-5
 unfolding lineStep enact InStore setWord Ready
-returns-5 c = (simp (c .before .before .before .line4 .given .1, c .before .put-index .ensures, c .place .ensures), omega (arith, rw (c .before .put-index .ensures) at (c .place .ensures), rw (c .before .before .before .line4 .given .1) at (c .before .before .before .before .before .before .before .before .pre .1)))
+returns-5 c =
+    let arm = c .before .before in
+    let h = rw (arm .line4 .given .1) at (arm .before .before .before .before .before .pre .1) in
+    (simp (c .before .before .line4 .given .1, c .put-place .ensures), omega (arith, h))
 
--- src/lib.rt:120:1
 returns-6 : tie.Need-returns-6
 unfolding lineStep enact InStore setWord Ready
-returns-6 c = (simp (c .before .before .before .line5 .given .1, c .before .put-index2 .ensures, c .place2 .ensures), omega (arith, rw (c .before .put-index2 .ensures) at (c .place2 .ensures), rw (c .before .before .before .line5 .given .1) at (c .before .before .before .before .before .before .before .before .pre .1)))
+returns-6 c =
+    let arm = c .before .before in
+    let h = rw (arm .line5 .given .1) at (arm .before .before .before .before .before .pre .1) in
+    (simp (c .before .before .line5 .given .1, c .put-place2 .ensures), omega (arith, h))
 
--- src/lib.rt:120:1
 returns-7 : tie.Need-returns-7
 unfolding lineStep enact InStore
 returns-7 c = (simp (c .before .before .line6 .given .1, c .after-put .ensures), tt)
 
--- src/lib.rt:120:1
 returns-8 : tie.Need-returns-8
 unfolding lineStep enact InStore
 returns-8 c = (simp (c .before .before .line7 .given .1, c .claim .ensures .0), c .claim .ensures .1)
 
--- src/lib.rt:120:1
 returns-9 : tie.Need-returns-9
 unfolding lineStep enact InStore
 returns-9 c = (simp (c .before .before .before .line8 .given .1, c .before .size-at2 .ensures, c .note-for .ensures), tt)
 
--- src/lib.rt:120:1
 returns-10 : tie.Need-returns-10
 unfolding lineStep enact InStore setWord Ready
-returns-10 c = (simp (c .before .before .before .before .before .before .line9 .given .1, c .before .before .before .before .read-word .ensures, c .before .before .before .read-word2 .ensures, c .before .place3 .ensures, c .copy-on .ensures, add-zero), omega (arith, rw (c .before .before .before .before .before .before .line9 .given .1) at (c .before .before .before .before .before .before .before .before .before .before .before .pre .1)))
+returns-10 c =
+    let arm = c .before .before .before .before .before .before in
+    let h = rw (arm .line9 .given .1) at (arm .before .before .before .before .before .pre .1) in (
+      simp (
+        c .before .before .before .before .before .before .line9 .given .1,
+        c .before .before .before .before .read-word .ensures,
+        c .before .before .before .read-word2 .ensures,
+        c .before .place .ensures,
+        c .copy-on .ensures,
+        add-zero,
+      ),
+      omega (arith, h),
+    )
 
--- src/lib.rt:120:1
 returns-11 : tie.Need-returns-11
 unfolding lineStep enact InStore
 returns-11 c = (simp (c .before .line10 .given .1), tt)
 
--- src/lib.rt:120:1
 returns-12 : tie.Need-returns-12
 unfolding lineStep enact InStore
 returns-12 c = (simp (c .before .enum-told2 .given .1, c .take-read .ensures), tt)
 
--- src/lib.rt:120:1
 returns-13 : tie.Need-returns-13
 unfolding lineStep enact InStore
 returns-13 c = (simp (c .before .before .line11 .given .1, c .with-tail2 .ensures), tt)
 
--- src/lib.rt:120:1
 returns-14 : tie.Need-returns-14
 unfolding lineStep enact InStore
 returns-14 c = (simp (c .before .before .line12 .given .1, c .unless-empty .ensures .0), c .unless-empty .ensures .1 _ _)
 
--- src/lib.rt:120:1
 returns-15 : tie.Need-returns-15
 unfolding lineStep enact InStore
-returns-15 c = (simp (c .before .before .before .line13 .given .1, c .before .take-index .ensures, c .read-word3 .ensures), tt)
+returns-15 c = (simp (c .before .before .line13 .given .1, c .taken-word .ensures), tt)
 
--- src/lib.rt:120:1
 returns-16 : tie.Need-returns-16
 unfolding lineStep enact InStore
-returns-16 c = (simp (c .before .before .before .line14 .given .1, c .before .take-index2 .ensures, c .read-word4 .ensures), tt)
+returns-16 c = (simp (c .before .before .line14 .given .1, c .taken-word2 .ensures), tt)
 
--- src/lib.rt:120:1
 returns-17 : tie.Need-returns-17
 unfolding lineStep enact InStore
 returns-17 c = (simp (c .before .before .line15 .given .1, c .after-take .ensures), tt)
 
--- src/lib.rt:120:1
 returns-18 : tie.Need-returns-18
 unfolding lineStep enact InStore
 returns-18 c = (simp (c .before .enum-told3 .given .1, c .steal-read .ensures), tt)
 
--- src/lib.rt:120:1
 returns-19 : tie.Need-returns-19
 unfolding lineStep enact InStore
 returns-19 c = (simp (c .before .before .line16 .given .1, c .with-tail3 .ensures), tt)
 
--- src/lib.rt:120:1
 returns-20 : tie.Need-returns-20
 unfolding lineStep enact InStore
 returns-20 c = (simp (c .before .before .line17 .given .1, c .unless-empty2 .ensures .0), c .unless-empty2 .ensures .1 _ _)
 
--- src/lib.rt:120:1
 returns-21 : tie.Need-returns-21
 unfolding lineStep enact InStore
 returns-21 c = (simp (c .before .line18 .given .1), tt)
 
--- src/lib.rt:120:1
 returns-22 : tie.Need-returns-22
 unfolding lineStep enact InStore
-returns-22 c = (simp (c .before .before .before .line19 .given .1, c .before .steal-index .ensures, c .read-word5 .ensures), tt)
+returns-22 c = (simp (c .before .before .line19 .given .1, c .stolen-word .ensures), tt)
 
--- src/lib.rt:120:1
 returns-23 : tie.Need-returns-23
 unfolding lineStep enact InStore
-returns-23 c = (simp (c .before .before .before .before .line20 .given .1, c .before .before .steal-index2 .ensures, c .before .read-word6 .ensures, c .steal-last .ensures), tt)
+returns-23 c = (simp (c .before .before .before .line20 .given .1, c .before .stolen-word2 .ensures, c .steal-last .ensures), tt)
 
--- src/lib.rt:120:1
 returns-24 : tie.Need-returns-24
 unfolding lineStep enact InStore
 returns-24 c = (simp (c .before .before .line21 .given .1), tt)
 
--- src/lib.rt:120:1
 returns-25 : tie.Need-returns-25
 unfolding lineStep enact InStore
 returns-25 c = (simp (c .before .before .line22 .given .1, c .compare .ensures .0), c .compare .ensures .1 _)
@@ -454,11 +388,9 @@ decide-spec =
     size-at-requires
     put-test-requires
     enum-known-line-4
-    put-index-requires
-    place-requires
+    put-place-requires
     enum-known-line-5
-    put-index-requires-2
-    place-requires-2
+    put-place-requires-2
     enum-known-line-6
     after-put-requires
     enum-known-line-7
@@ -471,7 +403,7 @@ decide-spec =
     read-word-requires
     read-word-requires-2
     cast-claimed
-    place-requires-3
+    place-requires
     copy-on-requires
     enum-known-line-10
     enum-told-2
@@ -481,11 +413,9 @@ decide-spec =
     enum-known-line-12
     unless-empty-requires
     enum-known-line-13
-    take-index-requires
-    read-word-requires-3
+    taken-word-requires
     enum-known-line-14
-    take-index-requires-2
-    read-word-requires-4
+    taken-word-requires-2
     enum-known-line-15
     after-take-requires
     enum-told-3
@@ -496,13 +426,11 @@ decide-spec =
     unless-empty-requires-2
     enum-known-line-18
     enum-known-line-19
-    steal-index-requires
-    cast-read-word
-    read-word-requires-5
+    cast-stolen-word
+    stolen-word-requires
     enum-known-line-20
-    steal-index-requires-2
-    cast-read-word-2
-    read-word-requires-6
+    cast-stolen-word-2
+    stolen-word-requires-2
     steal-last-requires
     enum-known-line-21
     add-h2

@@ -1,23 +1,17 @@
-use Rattle.lines.specs.Act.{enact, InStore}
-use Rattle.model.specs.Tests.{if_then_else_}
 use mathlib.Core.Path.{sym, _∙_}
 use borrow.Author.Needs.{needs}
+use Rattle.model.specs.Tests.{if_then_else_}
+use Rattle.lines.specs.Act.{enact, InStore}
 use Rattle.lines.proofs.unless_empty.Statement.{statement}
 use Rattle.lines.proofs.unless_empty.Tie as tie
-use Rattle.lines.proofs.unless_empty.Reads as reads
-use Rattle.lines.proofs.unless_empty.Lts as lts
-use Rattle.figures.proofs.is_empty.Reads as is-empty-reads
 
--- src/lib.rt:55:9
 is-empty-requires : tie.Need-is-empty-requires
 is-empty-requires c κs = search needs
 
--- src/lib.rt:51:1
 returns : tie.Need-returns
 unfolding enact InStore if_then_else_
 returns c = (λ q m. simp (sym (c .before .is-empty .ensures) ∙ c .if1 .taken), λ q n. tt)
 
--- src/lib.rt:51:1
 returns-2 : tie.Need-returns-2
 unfolding enact InStore if_then_else_
 returns-2 c = (λ q m. simp (sym (c .before .is-empty .ensures) ∙ c .if1 .left), λ q n. tt)
