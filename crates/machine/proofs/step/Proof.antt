@@ -79,7 +79,7 @@ decide-requires : tie.Need-decide-requires
 decide-requires c κs =
     let W = lent (c .before .before .before .before .before .before .before .before .before .before .before .before .args .t1) (c .before .before .before .before .before .before .before .before .before .before .before .before .args .store .now) (c .before .before .before .before .before .before .before .before .before .before .before .before .args .log .now) in
     let v = passed (c .before .before .before .before .before .before .before .valid .ensures) (c .before .before .before .before .before .before .if1 .left) in
-    (ground-of-valid W v (eleven (c .before .before .before .before .before .before .before .before .before .before .before .before)), ready-of-valid W (c .before .before .before .before .before .before .before .before .before .before .before .before .args .worker) v (c .before .before .before .before .before .if2 .left))
+    (ground-of-valid W v (eleven (c .before .before .before .before .before .before .before .before .before .before .before .before)), ready-of-valid W v (c .before .before .before .before .before .before .before .before .before .before .before .before .args .worker) (c .before .before .before .before .before .if2 .left))
 
 apply-requires : tie.Need-apply-requires
 apply-requires c κs =
