@@ -1,0 +1,48 @@
+use native.Mathlib.Omega.{arith}
+use borrow.Author.Needs.{needs}
+use Rattle.model.specs.Memory.{offsetAt, sizeAt}
+use Rattle.figures.proofs.place.Statement.{statement}
+use Rattle.figures.proofs.place.Tie as tie
+
+mul-region : tie.Need-mul-region
+mul-region c = search needs
+
+element-copy-out-region : tie.Need-element-copy-out-region
+element-copy-out-region c = search needs
+
+slot-of-requires : tie.Need-slot-of-requires
+unfolding sizeAt
+slot-of-requires c κs = omega (arith, c .before .before .pre .1)
+
+cast-first : tie.Need-cast-first
+cast-first c = search needs
+
+cast-task : tie.Need-cast-task
+cast-task c = search needs
+
+mul-result : tie.Need-mul-result
+mul-result c = search needs
+
+add-result : tie.Need-add-result
+add-result c = search needs
+
+add-result-2 : tie.Need-add-result-2
+add-result-2 c = search needs
+
+returns : tie.Need-returns
+unfolding sizeAt offsetAt
+returns c = simp (c .before .slot-of .ensures)
+
+pub place-spec : {M : Type 1} → statement M
+place-spec =
+    tie.close
+    (tie.spec
+    mul-region
+    element-copy-out-region
+    slot-of-requires
+    cast-first
+    cast-task
+    mul-result
+    add-result
+    add-result-2
+    returns)

@@ -1,0 +1,16 @@
+use native.Mathlib.Omega.{arith}
+use borrow.Author.Needs.{needs}
+use Rattle.figures.proofs.put_place.Statement.{statement}
+use Rattle.figures.proofs.put_place.Tie as tie
+
+put-index-requires : tie.Need-put-index-requires
+put-index-requires c κs = search needs
+
+place-requires : tie.Need-place-requires
+place-requires c κs = rw (c .put-index .ensures) (omega arith)
+
+returns : tie.Need-returns
+returns c = simp (c .before .put-index .ensures, c .place .ensures)
+
+pub put-place-spec : {M : Type 1} → statement M
+put-place-spec = tie.close (tie.spec put-index-requires place-requires returns)

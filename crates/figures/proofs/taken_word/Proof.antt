@@ -1,0 +1,16 @@
+use native.Mathlib.Omega.{arith}
+use borrow.Author.Needs.{needs}
+use Rattle.figures.proofs.taken_word.Statement.{statement}
+use Rattle.figures.proofs.taken_word.Tie as tie
+
+take-index-requires : tie.Need-take-index-requires
+take-index-requires c κs = search needs
+
+read-word-requires : tie.Need-read-word-requires
+read-word-requires c κs = rw (c .take-index .ensures) (omega arith)
+
+returns : tie.Need-returns
+returns c = simp (c .before .take-index .ensures, c .read-word .ensures)
+
+pub taken-word-spec : {M : Type 1} → statement M
+taken-word-spec = tie.close (tie.spec take-index-requires read-word-requires returns)

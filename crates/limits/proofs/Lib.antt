@@ -1,0 +1,5 @@
+pub mod Chains
+pub mod Sizes
+pub mod Scan
+pub mod Directory
+pub mod Thieves

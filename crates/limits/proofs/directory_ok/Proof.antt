@@ -1,0 +1,68 @@
+use mathlib.Core.Path.{sym, _∙_}
+use native.Mathlib.Omega.{arith}
+use borrow.Author.Needs.{needs}
+use borrow.Author.Tests.{not-true, not-false, lt-ltb, le-ltb, le-leb, lt-leb}
+use Rattle.limits.proofs.Chains.{holds, fails}
+use Rattle.limits.proofs.Directory.{reaches}
+use Rattle.limits.proofs.directory_ok.Statement.{statement}
+use Rattle.limits.proofs.directory_ok.Tie as tie
+
+returns : tie.Need-returns
+returns c = let q = c .before .before .args .queue in sym (fails _ (le-ltb 0 (q .published) (omega arith)))
+
+returns-2 : tie.Need-returns-2
+returns-2 c =
+    let q = c .before .before .before .args .queue in sym (holds (lt-ltb 0 (q .published) (omega arith)) ∙ fails _ (lt-leb _ _ (c .if2 .taken)))
+
+claims-ok-requires : tie.Need-claims-ok-requires
+claims-ok-requires c κs = search needs
+
+returns-3 : tie.Need-returns-3
+returns-3 c =
+    let q = c .before .before .before .before .before .args .queue in
+    sym
+    (holds (lt-ltb 0 (q .published) (omega arith))
+    ∙ holds (le-leb _ _ (c .before .before .if2 .left))
+    ∙ fails _ (sym (c .before .claims-ok .ensures) ∙ not-true _ (c .if3 .taken)))
+
+tidy-requires : tie.Need-tidy-requires
+tidy-requires c κs =
+    let p = reaches _ _ _ (sym (c .before .claims-ok .ensures) ∙ not-false _ (c .if3 .left)) in
+    (omega arith, c .before .before .if2 .left)
+
+returns-4 : tie.Need-returns-4
+returns-4 c =
+    let q = c .before .before .before .before .before .before .before .args .queue in
+    sym
+    (holds (lt-ltb 0 (q .published) (omega arith))
+    ∙ holds (le-leb _ _ (c .before .before .before .before .if2 .left))
+    ∙ holds (sym (c .before .before .before .claims-ok .ensures) ∙ not-false _ (c .before .before .if3 .left))
+    ∙ fails _ (sym (c .before .tidy .ensures) ∙ not-true _ (c .if4 .taken)))
+
+fits-requires : tie.Need-fits-requires
+fits-requires c κs =
+    let p = reaches _ _ _ (sym (c .before .before .before .claims-ok .ensures) ∙ not-false _ (c .before .before .if3 .left)) in
+    (omega arith, c .before .before .before .before .if2 .left)
+
+returns-5 : tie.Need-returns-5
+returns-5 c =
+    let q = c .before .before .before .before .before .before .before .before .args .queue in
+    c .fits2 .ensures
+    ∙ sym
+    (holds (lt-ltb 0 (q .published) (omega arith))
+    ∙ holds (le-leb _ _ (c .before .before .before .before .before .if2 .left))
+    ∙ holds (sym (c .before .before .before .before .claims-ok .ensures) ∙ not-false _ (c .before .before .before .if3 .left))
+    ∙ holds (sym (c .before .before .tidy .ensures) ∙ not-false _ (c .before .if4 .left)))
+
+pub directory-ok-spec : {M : Type 1} → statement M
+directory-ok-spec =
+    tie.close
+    (tie.spec
+    returns
+    returns-2
+    claims-ok-requires
+    returns-3
+    tidy-requires
+    returns-4
+    fits-requires
+    returns-5)

@@ -1,0 +1,82 @@
+use mathlib.Core.Path.{sym, _∙_}
+use borrow.Author.Needs.{needs}
+use borrow.Author.Tests.{leb-true, le-leb, lt-leb}
+use Rattle.model.specs.World.{lineAt}
+use Rattle.model.specs.Limits.{validOf}
+use Rattle.limits.proofs.Chains.{holds, fails, passed, refused, rest}
+use Rattle.limits.proofs.Directory.{published-in}
+use Rattle.limits.proofs.valid.Statement.{statement}
+use Rattle.limits.proofs.valid.Tie as tie
+
+element-copy-out-owner : tie.Need-element-copy-out-owner
+element-copy-out-owner c = search needs
+
+width-ok-requires : tie.Need-width-ok-requires
+width-ok-requires c κs = search needs
+
+returns : tie.Need-returns
+unfolding validOf
+returns c = sym (fails _ (refused (c .before .width-ok .ensures) (c .if1 .taken)))
+
+crew-ok-requires : tie.Need-crew-ok-requires
+crew-ok-requires c κs = search needs
+
+returns-2 : tie.Need-returns-2
+unfolding validOf
+returns-2 c = sym (holds (passed (c .before .before .before .width-ok .ensures) (c .before .before .if1 .left)) ∙ fails _ (refused (c .before .crew-ok .ensures) (c .if2 .taken)))
+
+directory-ok-requires : tie.Need-directory-ok-requires
+directory-ok-requires c κs = search needs
+
+returns-3 : tie.Need-returns-3
+unfolding validOf
+returns-3 c =
+    sym
+    (holds (passed (c .before .before .before .before .before .width-ok .ensures) (c .before .before .before .before .if1 .left))
+    ∙ holds (passed (c .before .before .before .crew-ok .ensures) (c .before .before .if2 .left))
+    ∙ fails _ (refused (c .before .directory-ok .ensures) (c .if3 .taken)))
+
+cast-written : tie.Need-cast-written
+cast-written c = search needs
+
+returns-4 : tie.Need-returns-4
+unfolding validOf
+returns-4 c =
+    sym
+    (holds (passed (c .before .before .before .before .before .before .width-ok .ensures) (c .before .before .before .before .before .if1 .left))
+    ∙ holds (passed (c .before .before .before .before .crew-ok .ensures) (c .before .before .before .if2 .left))
+    ∙ holds (passed (c .before .before .directory-ok .ensures) (c .before .if3 .left))
+    ∙ fails _ (lt-leb _ _ (c .if4 .taken)))
+
+contents-ok-requires : tie.Need-contents-ok-requires
+contents-ok-requires c κs =
+    let b = c .before .before .before .before .before .before .before .before .before .before .before .args .t1 in (
+      leb-true _ _ (rest _ _ (passed (c .before .before .before .before .before .before .width-ok .ensures) (c .before .before .before .before .before .if1 .left))),
+      published-in (b .queue) (c .before .before .before .before .before .before .before .before .before .before .before .args .store .now) (lineAt (b .workers) 0) (passed (c .before .before .directory-ok .ensures) (c .before .if3 .left)),
+    )
+
+returns-5 : tie.Need-returns-5
+unfolding validOf
+returns-5 c =
+    c .contents-ok .ensures
+    ∙ sym
+    (holds (passed (c .before .before .before .before .before .before .before .width-ok .ensures) (c .before .before .before .before .before .before .if1 .left))
+    ∙ holds (passed (c .before .before .before .before .before .crew-ok .ensures) (c .before .before .before .before .if2 .left))
+    ∙ holds (passed (c .before .before .before .directory-ok .ensures) (c .before .before .if3 .left))
+    ∙ holds (le-leb _ _ (c .before .if4 .left)))
+
+pub valid-spec : {M : Type 1} → statement M
+valid-spec =
+    tie.close
+    (tie.spec
+    element-copy-out-owner
+    width-ok-requires
+    returns
+    crew-ok-requires
+    returns-2
+    directory-ok-requires
+    returns-3
+    cast-written
+    returns-4
+    contents-ok-requires
+    returns-5)

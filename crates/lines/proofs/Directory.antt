@@ -1,0 +1,135 @@
+-- The directory of arrays as the limits lay it out: by induction over its pairs, where each array lies and how large it is.
+use mathlib.Core.Bool.{Bool, true, false}
+use mathlib.Core.Path.{_≡_, ap, subst, _∙_}
+use mathlib.Core.Logic.{_⊎_, inl, inr}
+use mathlib.Core.List.{List}
+use Prim.Native.Nat.{ℕ, zero, suc, _+_, _-_, _*_, _/_, _^_, _≤_, _<_}
+use native.Mathlib.Omega.{arith}
+use native.Mathlib.Nat.{mul-div-cancel-left, pow-succ', eq-or-lt-of-le}
+use lib.Pow.{pow-pos}
+use lib.Dec.{eqb}
+use lib.ListN.{length}
+use borrow.Author.Tests.{eqb-true, leb-true, ltb-true}
+use Rattle.model.specs.declared.Line.{Line}
+use Rattle.model.specs.declared.Region.{Region}
+use Rattle.model.specs.declared.Queue.{Queue}
+use Rattle.model.specs.Tests.{if_then_else_}
+use Rattle.model.specs.Memory.{offsetAt, sizeAt}
+use Rattle.model.specs.World.{isExpanding}
+use Rattle.model.specs.Limits.{isSize, lengthAt, tidy, taken, directoryOk}
+use Rattle.lines.proofs.Tests.{and-left, and-right, or-cases}
+
+-- the array at place k, in a directory whose last pair is at place m
+pub record Laid (l : List Region) (m k : ℕ) : Type 0 where
+  pub large : 2 ^ k ≤ sizeAt l k
+  pub small : sizeAt l k ≤ 1024
+  pub near : offsetAt l k ≤ 2 * sizeAt l k
+  pub grows : sizeAt l k ≤ sizeAt l m
+  pub ends : offsetAt l k + 2 * sizeAt l k ≤ offsetAt l m + 2 * sizeAt l m
+
+size-in : (e c : ℕ) → isSize e c ≡ true → (0 < c) × (c ≤ 2 ^ e)
+size-in zero c t = let h : c ≡ 1 = eqb-true _ _ t in omega (arith, h)
+size-in (suc e) c t = go (or-cases (eqb c (2 ^ suc e)) (isSize e c) t) (size-in e c)
+  where
+    go : (eqb c (2 ^ suc e) ≡ true) ⊎ (isSize e c ≡ true) → (isSize e c ≡ true → (0 < c) × (c ≤ 2 ^ e))
+        → (0 < c) × (c ≤ 2 ^ suc e)
+    go (inl a) f = let h : c ≡ 2 ^ suc e = eqb-true _ _ a in omega (arith, h, pow-pos (suc e))
+    go (inr b) f = let i = f b in omega (arith, i, pow-succ' 2 e)
+
+first : (l : List Region) → tidy l 1 ≡ true → Laid l 0 0
+first l t =
+    let o : offsetAt l 0 ≡ 0 = eqb-true _ _ (and-left _ _ t) in
+    let s = size-in 10 (sizeAt l 0) (and-right _ _ (and-right _ _ t)) in
+    record {
+      large = s .0;
+      small = s .1;
+      near = omega (arith, o);
+      grows = omega arith;
+      ends = omega arith;
+    }
+
+-- one array after the other
+record Next (l : List Region) (m : ℕ) : Type 0 where
+  place : offsetAt l (suc m) ≡ offsetAt l m + 2 * sizeAt l m
+  twice : sizeAt l (suc m) ≡ 2 * sizeAt l m
+  small : 2 * sizeAt l m ≤ 1024
+
+size-of : (l : List Region) (k z : ℕ) → lengthAt l k ≡ 2 * z → sizeAt l k ≡ z
+unfolding sizeAt
+size-of l k z e = ap (λ (x : ℕ). x / 2) e ∙ mul-div-cancel-left z (omega arith)
+
+next : (l : List Region) (m : ℕ) → tidy l (suc (suc m)) ≡ true → Next l m
+next l m t =
+    let a = and-right (tidy l (suc m)) _ t in
+    let b = and-right (eqb (offsetAt l (suc m)) (offsetAt l m + 2 * sizeAt l m)) _ a in
+    record {
+      place = eqb-true _ _ (and-left _ _ a);
+      twice = size-of l (suc m) (2 * sizeAt l m) (eqb-true _ _ (and-left _ _ b));
+      small = leb-true _ _ (and-right _ _ b);
+    }
+
+-- what stood before the next array still does, and the next one stands so too
+keep : (l : List Region) (m k : ℕ) → Next l m → Laid l m k → Laid l (suc m) k
+keep l m k N L =
+    record {
+      large = L .large;
+      small = L .small;
+      near = L .near;
+      grows = omega (arith, N .twice, L .grows);
+      ends = omega (arith, N .place, N .twice, L .ends);
+    }
+
+join : (l : List Region) (m : ℕ) → Next l m → Laid l m m → Laid l (suc m) (suc m)
+join l m N L =
+    record {
+      large = omega (arith, N .twice, L .large, pow-succ' 2 m);
+      small = omega (arith, N .twice, N .small);
+      near = omega (arith, N .place, N .twice, L .near);
+      grows = omega arith;
+      ends = omega arith;
+    }
+
+pub laid : (l : List Region) (m k : ℕ) → tidy l (suc m) ≡ true → k ≤ m → Laid l m k
+laid l zero k t h = subst (λ (x : ℕ). Laid l 0 x) {x = 0} {y = k} (omega arith) (first l t)
+laid l (suc m) k t h =
+    go (eq-or-lt-of-le h) (λ j i. laid l m j (and-left (tidy l (suc m)) _ t) i)
+  where
+    go : (k ≡ suc m) ⊎ (k < suc m) → ((j : ℕ) → j ≤ m → Laid l m j) → Laid l (suc m) k
+    go (inl e) f =
+        subst (λ (x : ℕ). Laid l (suc m) x) {x = suc m} {y = k} (omega (arith, e))
+        (join l m (next l m t) (f m (omega arith)))
+    go (inr i) f = keep l m k (next l m t) (f k (omega (arith, i)))
+
+-- a directory in a store of n words, the owner at line o
+pub record Arrays (q : Queue) (n : ℕ) (o : Line) : Type 0 where
+  pub some : 0 < q .published
+  pub listed : q .claimed ≤ 11
+  pub told : q .claimed ≡ (if isExpanding o then q .published + 1 else q .published)
+  pub behind : q .published ≤ q .claimed
+  pub stands : (k : ℕ) → k < q .claimed → Laid (q .arrays) (q .claimed - 1) k
+  pub fits : taken q ≤ n
+
+grown : (x : Bool) (p : ℕ) → p ≤ (if x then p + 1 else p)
+unfolding if_then_else_
+grown true p = omega arith
+grown false p = omega arith
+
+pub arrays-of : (q : Queue) (m : List ℕ) (o : Line) → directoryOk q m o ≡ true → Arrays q (length m) o
+arrays-of q m o t =
+    let t1 = and-right _ _ t in
+    let t2 = and-right _ _ t1 in
+    let t3 = and-right _ _ t2 in
+    let s : 0 < q .published = ltb-true _ _ (and-left _ _ t) in
+    let e : q .claimed ≡ (if isExpanding o then q .published + 1 else q .published) = eqb-true _ _ (and-left _ _ t2) in
+    let b : q .published ≤ q .claimed = omega (arith, e, grown (isExpanding o) (q .published)) in
+    let one : q .claimed ≡ suc (q .claimed - 1) = omega (arith, s, b) in
+    let tidied = subst (λ (x : ℕ). tidy (q .arrays) x ≡ true) one (and-left _ _ t3) in
+    record {
+      some = s;
+      listed = leb-true _ _ (and-left _ _ t1);
+      told = e;
+      behind = b;
+      stands =
+          λ k h. laid (q .arrays) (q .claimed - 1) k tidied (omega (arith, h));
+      fits = leb-true _ _ (and-right _ _ t3);
+    }

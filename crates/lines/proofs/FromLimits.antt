@@ -1,0 +1,331 @@
+-- The limits give what a line needs: in a valid state each worker of the crew can do its line, and what it reads and writes
+-- lies in the store.
+use mathlib.Core.Bool.{true}
+use mathlib.Core.Path.{_≡_, refl, sym, subst, _∙_}
+use mathlib.Core.Logic.{_⊎_, inl, inr}
+use mathlib.Core.List.{List}
+use Prim.Native.Nat.{ℕ, zero, suc, _+_, _-_, _^_, _≤_, _<_}
+use native.Mathlib.Omega.{arith}
+use native.Mathlib.Nat.{mod-lt, eq-or-lt-of-le}
+use lib.ListN.{length}
+use lib.Pow.{pow-pos}
+use borrow.Author.Tests.{ltb-true, leb-true, eqb-true, lt-ltb}
+use lib.Dec.{eqb, ltb}
+use Rattle.model.specs.declared.Kind.{Kind}
+use Rattle.model.specs.declared.Kind.the-variants.{Lifo, Fifo, Deque}
+use Rattle.model.specs.declared.Anchor.{Anchor}
+use Rattle.model.specs.declared.Line.{Line}
+use Rattle.model.specs.declared.Line.the-variants.{
+  Idle,
+  PutRead,
+  PutTail,
+  PutTest,
+  PutNumber,
+  PutPayload,
+  PutFinish,
+  Claim,
+  Note,
+  Copy,
+  Publish,
+  TakeRead,
+  TakeTail,
+  TakeTest,
+  TakeNumber,
+  TakePayload,
+  TakeFinish,
+  StealRead,
+  StealTail,
+  StealTest,
+  StealNote,
+  StealNumber,
+  StealPayload,
+  StealNext,
+  StealCompare,
+}
+use Rattle.model.specs.declared.Queue.{Queue}
+use Rattle.model.specs.declared.Worker.{Worker}
+use Rattle.model.specs.declared.Bench.{Bench}
+use Rattle.model.specs.Tests.{_and_, _or_}
+use Rattle.model.specs.Memory.{sizeAt}
+use Rattle.model.specs.Figures.{slot, putIndex, takeIndex, stealIndex}
+use Rattle.model.specs.Lines.{size}
+use Rattle.model.specs.World.{World, lineAt, stage, isExpanding, isThiefs}
+use Rattle.model.specs.Limits.{
+  widthOk,
+  crewOk,
+  directoryOk,
+  anchorOk,
+  readOk,
+  roomOk,
+  someOk,
+  notedOk,
+  slotOk,
+  placeOk,
+  lineOk,
+  ownerOk,
+  thiefOk,
+  thievesOk,
+  validOf,
+}
+use Rattle.figures.specs.Bounds.{Some, Ordered, Inside}
+use Rattle.lines.specs.Act.{Ground, Ready, Range, Lies, Free}
+use Rattle.lines.proofs.Tests.{and-left, and-right, if-true}
+use Rattle.lines.proofs.Directory.{Laid, Arrays, arrays-of}
+
+-- the limits' parts that bound a line
+pub record Limits (b : Bench) (m : List ℕ) : Type 0 where
+  pub width : widthOk (b .width) ≡ true
+  pub crew : crewOk (b .crew) ≡ true
+  pub directory : directoryOk (b .queue) m (lineAt (b .workers) 0) ≡ true
+  pub anchor : anchorOk (b .kind) (b .width) (size (b .queue)) (b .queue .anchor) ≡ true
+  pub owner : ownerOk (b .kind) (b .width) (b .queue) (lineAt (b .workers) 0) ≡ true
+  pub thieves : thievesOk (b .kind) (b .width) (b .queue) (b .crew) (b .workers) 7 ≡ true
+
+pub limits-of : (W : World) → validOf W ≡ true → Limits (W .bench) (W .store)
+unfolding validOf
+limits-of W v =
+    let v1 = and-right _ _ v in
+    let v2 = and-right _ _ v1 in
+    let v3 = and-right _ _ v2 in
+    let v4 = and-right _ _ v3 in
+    let v5 = and-right _ _ v4 in
+    let v6 = and-right _ _ v5 in
+    record {
+      width = and-left _ _ v;
+      crew = and-left _ _ v1;
+      directory = and-left _ _ v2;
+      anchor = and-left _ _ v4;
+      owner = and-left _ _ v6;
+      thieves = and-right _ _ v6;
+    }
+
+-- the anchor read, by the kind
+abbrev Within : Kind → ℕ → Anchor → Type 0
+Within Lifo z r = (r .head ≡ 0) × (r .count ≤ z)
+Within Fifo z r = (r .head ≤ r .count) × (r .count ≤ 65535)
+Within Deque z r = (r .head < 2048) × (r .count ≤ z)
+
+within : (κ : Kind) (w z : ℕ) (r : Anchor) → readOk κ w z r ≡ true → Within κ z r
+within Lifo w z r e = (eqb-true _ _ (and-left _ _ e), leb-true _ _ (and-left _ _ (and-right _ _ e)))
+within Fifo w z r e = (leb-true _ _ (and-left _ _ e), leb-true _ _ (and-left _ _ (and-right _ _ e)))
+within Deque w z r e = (ltb-true _ _ (and-left _ _ e), leb-true _ _ (and-left _ _ (and-right _ _ e)))
+
+-- the anchor now is one that could be read
+now-read : (κ : Kind) (w z : ℕ) (a : Anchor) → anchorOk κ w z a ≡ true → Within κ z a
+now-read Lifo w z a e = within Lifo w z a e
+now-read Fifo w z a e =
+    let e2 = and-right _ _ (and-right _ _ e) in (leb-true _ _ (and-left _ _ e), leb-true _ _ (and-left _ _ e2))
+now-read Deque w z a e = within Deque w z a e
+
+in-range : (κ : Kind) (z : ℕ) (r : Anchor) → z ≤ 1024 → Within κ z r → Range r
+in-range Lifo z r b e = omega (arith, b, e)
+in-range Fifo z r b e = omega (arith, b, e)
+in-range Deque z r b e = omega (arith, b, e)
+
+ordered : (κ : Kind) (z : ℕ) (a : Anchor) → Within κ z a → Ordered κ a
+unfolding Ordered
+ordered Lifo z a e = tt
+ordered Fifo z a e = e .0
+ordered Deque z a e = tt
+
+some : (κ : Kind) (r : Anchor) → someOk κ r ≡ true → Some κ r
+unfolding Some
+some Lifo r e = ltb-true _ _ e
+some Fifo r e = tt
+some Deque r e = ltb-true _ _ e
+
+-- the slot of each index exists
+put-slot : (κ : Kind) (z : ℕ) (r : Anchor) → 0 < z → roomOk κ z r ≡ true → slot κ z (putIndex κ r) < z
+put-slot Lifo z r b e = ltb-true _ _ e
+put-slot Fifo z r b e = mod-lt _ b
+put-slot Deque z r b e = mod-lt _ b
+
+take-slot : (κ : Kind) (z : ℕ) (r : Anchor) → 0 < z → Within κ z r → Some κ r → slot κ z (takeIndex κ r) < z
+unfolding Some
+take-slot Lifo z r b e f = omega (arith, e, f)
+take-slot Fifo z r b e f = mod-lt _ b
+take-slot Deque z r b e f = mod-lt _ b
+
+steal-slot : (κ : Kind) (z : ℕ) (r : Anchor) → 0 < z → slotOk κ z r ≡ true → Some κ r → slot κ z (stealIndex κ r) < z
+unfolding Some
+steal-slot Lifo z r b e f = let g : r .count ≤ z = leb-true _ _ e in omega (arith, f, g)
+steal-slot Fifo z r b e f = mod-lt _ b
+steal-slot Deque z r b e f = mod-lt _ b
+
+copy-slot : (κ : Kind) (y z h j k : ℕ) → 0 < y → z ≤ y → notedOk κ h j ≡ true → j ≤ z → k < j → slot κ y (h + k) < y
+copy-slot Lifo y z h j k a b e f g = let o : h ≡ 0 = eqb-true _ _ e in omega (arith, o, b, f, g)
+copy-slot Fifo y z h j k a b e f g = mod-lt _ a
+copy-slot Deque y z h j k a b e f g = mod-lt _ a
+
+noted-in : (κ : Kind) (h j : ℕ) → notedOk κ h j ≡ true → h ≤ 65535
+noted-in Lifo h j e = let o : h ≡ 0 = eqb-true _ _ e in omega (arith, o)
+noted-in Fifo h j e = let o : h + j ≤ 65535 = leb-true _ _ e in omega (arith, o)
+noted-in Deque h j e = let o : h < 2048 = ltb-true _ _ e in omega (arith, o)
+
+-- each line, from its own limits and the directory; a line of an expansion is the owner's, o
+module _ (κ : Kind) (w : ℕ) (q : Queue) (n : ℕ) (o : Line) (A : Arrays q n o) where
+  here : Laid (q .arrays) (q .claimed - 1) (q .published - 1)
+  here = A .stands (q .published - 1) (omega (arith, A .some, A .behind))
+
+  there : (k : ℕ) → k < q .claimed → (k < 11) × (0 < sizeAt (q .arrays) k) × Inside q n k
+  there k h =
+      let L = A .stands k h in
+      (omega (arith, A .listed, h), omega (arith, pow-pos k, L .large), omega (arith, L .ends, A .fits))
+
+  range : (r : Anchor) → readOk κ w (size q) r ≡ true → Range r
+  range r e = in-range κ (size q) r (here .small) (within κ w (size q) r e)
+
+  lies : (k i : ℕ) → k < q .claimed → slot κ (sizeAt (q .arrays) k) i < sizeAt (q .arrays) k → Lies κ q n k i
+  lies k i h s = let t = there k h in (t .0, s, t .2)
+
+  behind : (k : ℕ) → k < q .published → k < q .claimed
+  behind k h = omega (arith, A .behind, h)
+
+  put-ready : (r : Anchor) → (readOk κ w (size q) r and roomOk κ (size q) r) ≡ true
+      → Range r × Lies κ q n (q .published - 1) (putIndex κ r)
+  put-ready r e =
+      let h : q .published - 1 < q .claimed = omega (arith, A .some, A .behind) in
+      (range r (and-left _ _ e), lies _ _ h (put-slot κ (size q) r (there _ h .1) (and-right _ _ e)))
+
+  take-ready : (r : Anchor) → readOk κ w (size q) r ≡ true → someOk κ r ≡ true
+      → Range r × Some κ r × Lies κ q n (q .published - 1) (takeIndex κ r)
+  take-ready r e f =
+      let h : q .published - 1 < q .claimed = omega (arith, A .some, A .behind) in
+      let s = some κ r f in
+      (range r e, s, lies _ _ h (take-slot κ (size q) r (there _ h .1) (within κ w (size q) r e) s))
+
+  steal-ready : (r : Anchor) (k : ℕ) → readOk κ w (size q) r ≡ true → someOk κ r ≡ true → placeOk κ q r k ≡ true
+      → Range r × Some κ r × Lies κ q n k (stealIndex κ r)
+  steal-ready r k e f p =
+      let h : k < q .claimed = behind k (ltb-true _ _ (and-left _ _ p)) in
+      let s = some κ r f in
+      (range r e, s, lies k _ h (steal-slot κ (sizeAt (q .arrays) k) r (there k h .1) (and-right _ _ p) s))
+
+  free : Free q
+  free d = go (eq-or-lt-of-le {n = q .published} {m = 11} (omega (arith, A .behind, A .listed)))
+    where
+      go : (q .published ≡ 11) ⊎ (q .published < 11) → q .published < 11
+      go (inr i) = i
+      go (inl e) =
+          let ten : 10 ≡ q .published - 1 = omega (arith, e) in
+          let z : 1024 ≤ size q = subst (λ (x : ℕ). 2 ^ x ≤ size q) (sym ten) (here .large) in
+          omega (arith, z, d)
+
+  copy-ready : (h j k : ℕ) → isExpanding o ≡ true → notedOk κ h j ≡ true → j ≤ size q → k < j
+      → (h ≤ 65535) × (k ≤ 1024) × Lies κ q n (q .published - 1) (h + k) × Lies κ q n (q .published) (h + k)
+  copy-ready h j k x e f g =
+      let two : q .claimed ≡ q .published + 1 = A .told ∙ if-true (isExpanding o) _ _ x in
+      let last : q .published < q .claimed = omega (arith, two) in
+      let now : q .published - 1 < q .claimed = omega (arith, A .some, two) in
+      let one : q .claimed - 1 ≡ q .published = omega (arith, two) in
+      let up = subst (λ (m : ℕ). size q ≤ sizeAt (q .arrays) m) one (here .grows) in (
+        noted-in κ h j e,
+        omega (arith, f, g, here .small),
+        lies _ _ now (copy-slot κ (size q) (size q) h j k (there _ now .1) (omega arith) e f g),
+        lies _ _ last (copy-slot κ (sizeAt (q .arrays) (q .published)) (size q) h j k (there _ last .1) up e f g),
+      )
+
+  ready : (l : Line) → Ordered κ (q .anchor) → (isExpanding l ≡ true → isExpanding o ≡ true) → lineOk κ w q l ≡ true
+      → Ready κ q n l
+  unfolding Ready
+  ready Idle a x e = tt
+  ready (PutRead t) a x e = tt
+  ready (PutTail t h) a x e = tt
+  ready (PutTest t r) a x e = range r (and-right _ _ e)
+  ready (PutNumber t r) a x e = put-ready r (and-right _ _ e)
+  ready (PutPayload t r) a x e = put-ready r (and-right _ _ e)
+  ready (PutFinish t r) a x e = range r (and-left _ _ (and-right _ _ e))
+  ready (Claim t) a x e = free
+  ready (Note t) a x e = a
+  ready (Copy t h j k) a x e =
+      let e1 = and-right _ _ e in
+      let e2 = and-right _ _ e1 in
+      copy-ready h j k (x refl) (and-left _ _ e1) (leb-true _ _ (and-left _ _ e2)) (ltb-true _ _ (and-right _ _ e2))
+  ready (Publish t) a x e = tt
+  ready TakeRead a x e = tt
+  ready (TakeTail h) a x e = tt
+  ready (TakeTest r) a x e = tt
+  ready (TakeNumber r) a x e = take-ready r (and-left _ _ e) (and-right _ _ e)
+  ready (TakePayload r m) a x e = take-ready r (and-left _ _ e) (and-left _ _ (and-right _ _ e))
+  ready (TakeFinish r t) a x e = (range r (and-left _ _ e), some κ r (and-left _ _ (and-right _ _ e)))
+  ready StealRead a x e = tt
+  ready (StealTail h) a x e = tt
+  ready (StealTest r) a x e = tt
+  ready (StealNote r) a x e = tt
+  ready (StealNumber r k) a x e =
+      let e1 = and-right _ _ e in steal-ready r k (and-left _ _ e) (and-left _ _ e1) (and-right _ _ e1)
+  ready (StealPayload r k m) a x e =
+      let e1 = and-right _ _ e in
+      steal-ready r k (and-left _ _ e) (and-left _ _ e1) (and-left _ _ (and-right _ _ e1))
+  ready (StealNext r t) a x e = range r (and-left _ _ e)
+  ready (StealCompare r i t) a x e = (range r (and-left _ _ e), some κ r (and-left _ _ (and-right _ _ e)))
+
+-- a thief is at no line of an expansion
+thief-not : (l : Line) → isThiefs l ≡ true → isExpanding l ≡ true → ⊥
+unfolding _or_
+thief-not l t x =
+    let two : stage l ≡ 2 = eqb-true _ _ x in
+    let z : (eqb 2 0 or ltb 3 2) ≡ true = subst (λ (s : ℕ). (eqb s 0 or ltb 3 s) ≡ true) two t in
+    let y : _≡_ {A = ℕ} 0 1 = cc in omega arith
+
+-- thief i of the crew
+thief-of : (κ : Kind) (w : ℕ) (q : Queue) (n : ℕ) (l : List Worker) (k i : ℕ)
+    → thievesOk κ w q n l k ≡ true → i < k → suc i < n → thiefOk κ w q (lineAt l (suc i)) ≡ true
+thief-of κ w q n l zero i t h c = absurd (omega arith)
+thief-of κ w q n l (suc k) i t h c =
+    go (eq-or-lt-of-le h) (λ j. thief-of κ w q n l k i (and-left _ _ t) j c)
+  where
+    go : (suc i ≡ suc k) ⊎ (suc i < suc k) → (i < k → thiefOk κ w q (lineAt l (suc i)) ≡ true)
+        → thiefOk κ w q (lineAt l (suc i)) ≡ true
+    go (inl e) f =
+        subst (λ (x : ℕ). thiefOk κ w q (lineAt l x) ≡ true) (sym e)
+        (sym (if-true (ltb (suc k) n) _ _ (lt-ltb (suc k) n (omega (arith, e, c)))) ∙ and-right _ _ t)
+    go (inr j) f = f (omega (arith, j))
+
+-- the anchor now, and the directory, of a valid state
+module _ (W : World) (v : validOf W ≡ true) where
+  anchored : Within (W .bench .kind) (size (W .bench .queue)) (W .bench .queue .anchor)
+  anchored =
+      now-read (W .bench .kind) (W .bench .width) (size (W .bench .queue)) (W .bench .queue .anchor) (limits-of W v .anchor)
+
+  arrayed : Arrays (W .bench .queue) (length (W .store)) (lineAt (W .bench .workers) 0)
+  arrayed = arrays-of (W .bench .queue) (W .store) (lineAt (W .bench .workers) 0) (limits-of W v .directory)
+
+  -- what every line needs
+  pub ground-of-valid : length (W .bench .queue .arrays) ≡ 11
+      → Ground (W .bench .width) (W .bench .queue) (length (W .store))
+  ground-of-valid e =
+      let b = W .bench in
+      let h = here (b .kind) (b .width) (b .queue) (length (W .store)) (lineAt (b .workers) 0) arrayed in
+      let r = in-range (b .kind) (size (b .queue)) (b .queue .anchor) (h .small) anchored in
+      record {
+        narrow = leb-true _ _ (and-right _ _ (limits-of W v .width));
+        some = arrayed .some;
+        listed = omega (arith, arrayed .behind, arrayed .listed);
+        eleven = e;
+        head = r .0;
+        count = r .1;
+        small = h .small;
+        near = omega (arith, h .near, h .small);
+        inside = omega (arith, h .ends, arrayed .fits);
+      }
+
+  -- the line of a worker of the crew is in the limits, and of the expansion's lines only the owner's
+  line-ok : (i : ℕ) → i < W .bench .crew
+      → (lineOk (W .bench .kind) (W .bench .width) (W .bench .queue) (lineAt (W .bench .workers) i) ≡ true)
+      × (isExpanding (lineAt (W .bench .workers) i) ≡ true → isExpanding (lineAt (W .bench .workers) 0) ≡ true)
+  line-ok zero c = (and-right _ _ (limits-of W v .owner), λ x. x)
+  line-ok (suc i) c =
+      let b = W .bench in
+      let n : W .bench .crew ≤ 8 = leb-true _ _ (and-right _ _ (limits-of W v .crew)) in
+      let s = limits-of W v .thieves in
+      let t = thief-of (b .kind) (b .width) (b .queue) (b .crew) (b .workers) 7 i s (omega (arith, n, c)) c in
+      (and-right _ _ t, λ x. absurd (thief-not (lineAt (b .workers) (suc i)) (and-left _ _ t) x))
+
+  -- what the line of worker i needs
+  pub ready-of-valid : (i : ℕ) → i < W .bench .crew
+      → Ready (W .bench .kind) (W .bench .queue) (length (W .store)) (lineAt (W .bench .workers) i)
+  ready-of-valid i c =
+      let b = W .bench in
+      ready (b .kind) (b .width) (b .queue) (length (W .store)) (lineAt (b .workers) 0) arrayed (lineAt (b .workers) i)
+      (ordered (b .kind) (size (b .queue)) (b .queue .anchor) anchored) (line-ok i c .1) (line-ok i c .0)

@@ -1,0 +1,4 @@
+pub mod Tests
+pub mod Room
+pub mod Directory
+pub mod FromLimits

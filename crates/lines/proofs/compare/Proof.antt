@@ -1,0 +1,25 @@
+use mathlib.Core.Path.{sym, _∙_}
+use borrow.Author.Needs.{needs}
+use Rattle.model.specs.Tests.{if_then_else_}
+use Rattle.lines.specs.Act.{enact, InStore}
+use Rattle.lines.proofs.compare.Statement.{statement}
+use Rattle.lines.proofs.compare.Tie as tie
+
+is-same-requires : tie.Need-is-same-requires
+is-same-requires c κs = search needs
+
+after-steal-requires : tie.Need-after-steal-requires
+after-steal-requires c κs = search needs
+
+returns : tie.Need-returns
+unfolding enact InStore if_then_else_
+returns c =
+    let same = sym (c .before .before .is-same .ensures) ∙ c .before .if1 .taken in
+    (λ m. simp (same, c .after-steal .ensures), λ n. tt)
+
+returns-2 : tie.Need-returns-2
+unfolding enact InStore if_then_else_
+returns-2 c = (λ m. simp (sym (c .before .is-same .ensures) ∙ c .if1 .left), λ n. tt)
+
+pub compare-spec : {M : Type 1} → statement M
+compare-spec = tie.close (tie.spec is-same-requires after-steal-requires returns returns-2)

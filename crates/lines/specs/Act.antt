@@ -1,0 +1,126 @@
+-- What an act does to queue and store, and what a line needs to be done.
+use mathlib.Core.Path.{_≡_}
+use mathlib.Core.List.{List}
+use Prim.Native.Nat.{ℕ, _+_, _-_, _*_, _≤_, _<_}
+use lib.ListN.{length, set}
+use Rattle.model.specs.declared.Kind.{Kind}
+use Rattle.model.specs.declared.Anchor.{Anchor}
+use Rattle.model.specs.declared.Line.{Line}
+use Rattle.model.specs.declared.Line.the-variants.{
+  Idle,
+  PutRead,
+  PutTail,
+  PutTest,
+  PutNumber,
+  PutPayload,
+  PutFinish,
+  Claim,
+  Note,
+  Copy,
+  Publish,
+  TakeRead,
+  TakeTail,
+  TakeTest,
+  TakeNumber,
+  TakePayload,
+  TakeFinish,
+  StealRead,
+  StealTail,
+  StealTest,
+  StealNote,
+  StealNumber,
+  StealPayload,
+  StealNext,
+  StealCompare,
+}
+use Rattle.model.specs.declared.Queue.{Queue}
+use Rattle.model.specs.declared.Answer.the-variants.{GoesOn}
+use Rattle.model.specs.Memory.{zeros}
+use Rattle.model.specs.Figures.{putIndex, takeIndex, stealIndex}
+use Rattle.model.specs.Lines.{Effect, eff, off, size, anchored, publishing}
+use Rattle.figures.specs.Bounds.{Some, Ordered, Slotted, Inside}
+use Rattle.lines.specs.declared.Act.{Act}
+use Rattle.lines.specs.declared.Act.the-variants.{Goes, Word, Copies, Claims, Publishes, Stops, Ends}
+
+-- the queue with a pair claimed behind the published ones
+abbrev pub withArray : Queue → ℕ → ℕ → Queue
+withArray q a z =
+    record {
+      anchor = q .anchor;
+      arrays = set (q .arrays) (q .published) (record { offset = a; length = z });
+      published = q .published;
+      claimed = q .published + 1;
+    }
+
+-- the act on the queue q and the store m
+unfoldable pub enact : Queue → List ℕ → Act → Effect
+enact q m (Goes l) = eff q m l GoesOn
+enact q m (Word a x l) = eff q (set m a x) l GoesOn
+enact q m (Copies a t l) = eff q (set (set m a (t .number)) (a + 1) (t .payload)) l GoesOn
+enact q m (Claims a z l) = eff (withArray q a z) (zeros m a z) l GoesOn
+enact q m (Publishes l) = eff (publishing q) m l GoesOn
+enact q m (Stops x) = eff q m Idle x
+enact q m (Ends a x) = eff (anchored q a) m Idle x
+
+-- what it writes lies in a store of n words, and a claimed pair in the directory
+unfoldable pub InStore : Queue → ℕ → Act → Type 0
+InStore q n (Goes l) = Unit {0}
+InStore q n (Word a x l) = a < n
+InStore q n (Copies a t l) = a + 1 < n
+InStore q n (Claims a z l) = (a + z ≤ n) × (q .published < 11)
+InStore q n (Publishes l) = Unit {0}
+InStore q n (Stops x) = Unit {0}
+InStore q n (Ends a x) = Unit {0}
+
+-- what every line needs: a tag width, a directory of eleven pairs, and a current array inside a store of n words
+pub record Ground (w : ℕ) (q : Queue) (n : ℕ) : Type 0 where
+  pub narrow : w ≤ 16
+  pub some : 0 < q .published
+  pub listed : q .published ≤ 11
+  pub eleven : length (q .arrays) ≡ 11
+  pub head : q .anchor .head ≤ 65535
+  pub count : q .anchor .count ≤ 65535
+  pub small : size q ≤ 1024
+  pub near : off q ≤ 4094
+  pub inside : off q + 2 * size q ≤ n
+
+-- an anchor read, in range
+abbrev pub Range : Anchor → Type 0
+Range r = (r .head ≤ 65535) × (r .count ≤ 65535)
+
+-- index i of the array at place k has a slot, and the array lies in a store of n words
+abbrev pub Lies : Kind → Queue → ℕ → ℕ → ℕ → Type 0
+Lies κ q n k i = (k < 11) × Slotted κ q k i × Inside q n k
+
+-- X1: an array that may be doubled leaves a pair of the directory free
+abbrev pub Free : Queue → Type 0
+Free q = 2 * size q ≤ 1024 → q .published < 11
+
+-- what the line needs
+unfoldable pub Ready : Kind → Queue → ℕ → Line → Type 0
+Ready κ q n Idle = Unit {0}
+Ready κ q n (PutRead t) = Unit {0}
+Ready κ q n (PutTail t h) = Unit {0}
+Ready κ q n (PutTest t r) = Range r
+Ready κ q n (PutNumber t r) = Range r × Lies κ q n (q .published - 1) (putIndex κ r)
+Ready κ q n (PutPayload t r) = Range r × Lies κ q n (q .published - 1) (putIndex κ r)
+Ready κ q n (PutFinish t r) = Range r
+Ready κ q n (Claim t) = Free q
+Ready κ q n (Note t) = Ordered κ (q .anchor)
+Ready κ q n (Copy t h j k) =
+    (h ≤ 65535) × (k ≤ 1024) × Lies κ q n (q .published - 1) (h + k) × Lies κ q n (q .published) (h + k)
+Ready κ q n (Publish t) = Unit {0}
+Ready κ q n TakeRead = Unit {0}
+Ready κ q n (TakeTail h) = Unit {0}
+Ready κ q n (TakeTest r) = Unit {0}
+Ready κ q n (TakeNumber r) = Range r × Some κ r × Lies κ q n (q .published - 1) (takeIndex κ r)
+Ready κ q n (TakePayload r x) = Range r × Some κ r × Lies κ q n (q .published - 1) (takeIndex κ r)
+Ready κ q n (TakeFinish r t) = Range r × Some κ r
+Ready κ q n StealRead = Unit {0}
+Ready κ q n (StealTail h) = Unit {0}
+Ready κ q n (StealTest r) = Unit {0}
+Ready κ q n (StealNote r) = Unit {0}
+Ready κ q n (StealNumber r k) = Range r × Some κ r × Lies κ q n k (stealIndex κ r)
+Ready κ q n (StealPayload r k x) = Range r × Some κ r × Lies κ q n k (stealIndex κ r)
+Ready κ q n (StealNext r t) = Range r
+Ready κ q n (StealCompare r e t) = Range r × Some κ r

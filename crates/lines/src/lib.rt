@@ -1,0 +1,292 @@
+// What one line of figures 1, 2 and 3 does: a pure function from the line to an act. Applying the act is another crate's.
+ghost use mathlib.Core.Path.{_≡_};
+ghost use mathlib.Core.List.{List};
+ghost use Prim.Native.Nat.{ℕ};
+ghost use lib.ListN.{length};
+ghost use Rattle.model.specs.declared.Queue.{Queue};
+ghost use Rattle.model.specs.Lines.{unlessEmpty, compares, claims, lineStep};
+ghost use Rattle.figures.specs.Bounds.{Some};
+ghost use Rattle.lines.specs.Act.{enact, InStore, Ground, Ready, Range, Free};
+use model::Anchor;
+use model::Answer;
+use model::Kind;
+use model::Line;
+use model::Queue;
+use model::Task;
+
+// What a line does: it goes on, with a write of nothing, of a word or of a task from word `place` on; it claims and zeroes a
+// range, or publishes it; it ends, the anchor as it is or another one.
+pub enum Act {
+    Goes {
+        line: Line,
+    },
+    Word {
+        place: usize,
+        value: u32,
+        line: Line,
+    },
+    Copies {
+        place: usize,
+        task: Task,
+        line: Line,
+    },
+    Claims {
+        offset: u32,
+        length: u32,
+        line: Line,
+    },
+    Publishes {
+        line: Line,
+    },
+    Stops {
+        answer: Answer,
+    },
+    Ends {
+        anchor: Anchor,
+        answer: Answer,
+    },
+}
+
+// The test for EMPTY; the line `next` follows it.
+fn unless_empty(kind: Kind, worker: u32, read: Anchor, next: Line) -> Act
+    ensures { λ r. ⌜ ((q : Queue) (m : List ℕ) → enact q m r ≡ unlessEmpty kind q m worker read next) ⌝ }
+    ensures { λ r. ⌜ ((q : Queue) (n : ℕ) → InStore q n r) ⌝ }
+{
+    let empty = figures::is_empty(kind, read);
+    if empty {
+        Act::Stops {
+            answer: Answer::Empty { worker },
+        }
+    } else {
+        Act::Goes { line: next }
+    }
+}
+
+// The compare: the task is handed out, or back to line 1.
+fn compare(kind: Kind, queue: Queue, worker: u32, read: Anchor, next: u32, task: Task) -> Act
+    requires { ⌜ Range read ⌝ }
+    requires { ⌜ Some kind read ⌝ }
+    ensures { λ r. ⌜ ((m : List ℕ) → enact queue m r ≡ compares kind queue m worker read next task) ⌝ }
+    ensures { λ r. ⌜ ((n : ℕ) → InStore queue n r) ⌝ }
+{
+    let anchor = queue.anchor;
+    let same = figures::is_same(kind, anchor, read);
+    if same {
+        let left = figures::after_steal(kind, anchor, read, next);
+        Act::Ends {
+            anchor: left,
+            answer: Answer::HandedOut { worker, task },
+        }
+    } else {
+        Act::Goes {
+            line: Line::StealRead,
+        }
+    }
+}
+
+// X1: an array of twice the size, behind the current one; where it does not fit, FULL.
+fn claim(width: u32, queue: Queue, store: &[u32], worker: u32, task: Task) -> Act
+    requires { ⌜ Ground width queue (length (now store)) ⌝ }
+    requires { ⌜ Free queue ⌝ }
+    ensures { λ r. ⌜ enact queue (now (store .entry)) r ≡ claims queue (now (store .entry)) worker task ⌝ }
+    ensures { λ r. ⌜ InStore queue (length (now (store .entry))) r ⌝ }
+{
+    let room = figures::has_room(queue, store);
+    if room {
+        let here = queue.published - 1;
+        let at = here as usize;
+        let size = figures::size_at(queue, at);
+        let from = figures::end_of(queue, at);
+        let words = 2 * (2 * size);
+        Act::Claims {
+            offset: from,
+            length: words,
+            line: Line::Note { task },
+        }
+    } else {
+        Act::Stops {
+            answer: Answer::Full { worker, task },
+        }
+    }
+}
+
+// Worker `worker` does the line. Beside each case: its number in figures 1 and 3, then in figure 2.
+pub fn decide(kind: Kind, width: u32, queue: Queue, store: &[u32], worker: u32, line: Line) -> Act
+    requires { ⌜ Ground width queue (length (now store)) ⌝ }
+    requires { ⌜ Ready kind queue (length (now store)) line ⌝ }
+    ensures { λ r. ⌜ enact queue (now (store .entry)) r ≡ lineStep kind width queue (now (store .entry)) worker line ⌝ }
+    ensures { λ r. ⌜ InStore queue (length (now (store .entry))) r ⌝ }
+{
+    let anchor = queue.anchor;
+    let here = queue.published - 1;
+    let at = here as usize;
+    match line {
+        Line::Idle => Act::Goes { line: Line::Idle },
+        // put 1; 1
+        Line::PutRead { task } => {
+            let next = figures::put_read(kind, anchor, task);
+            Act::Goes { line: next }
+        }
+        // FIFO's put 2
+        Line::PutTail { task, head } => {
+            let read = figures::with_tail(head, anchor);
+            Act::Goes {
+                line: Line::PutTest { task, read },
+            }
+        }
+        // put 2; 3
+        Line::PutTest { task, read } => {
+            let size = figures::size_at(queue, at);
+            let next = figures::put_test(kind, size, read, task);
+            Act::Goes { line: next }
+        }
+        // put 3a; 4a
+        Line::PutNumber { task, read } => {
+            let place = figures::put_place(kind, queue, at, read, 0);
+            Act::Word {
+                place,
+                value: task.number,
+                line: Line::PutPayload { task, read },
+            }
+        }
+        // put 3b; 4b
+        Line::PutPayload { task, read } => {
+            let place = figures::put_place(kind, queue, at, read, 1);
+            Act::Word {
+                place,
+                value: task.payload,
+                line: Line::PutFinish { task, read },
+            }
+        }
+        // put 4; 5
+        Line::PutFinish { task, read } => {
+            let left = figures::after_put(kind, width, anchor, read);
+            Act::Ends {
+                anchor: left,
+                answer: Answer::Finished { worker, task },
+            }
+        }
+        // X1
+        Line::Claim { task } => claim(width, queue, store, worker, task),
+        // X2
+        Line::Note { task } => {
+            let size = figures::size_at(queue, at);
+            let next = figures::note_for(kind, size, anchor, task);
+            Act::Goes { line: next }
+        }
+        // X3
+        Line::Copy {
+            task,
+            head,
+            noted,
+            copied,
+        } => {
+            let index = head + copied;
+            let number = figures::read_word(kind, queue, at, index, 0, store);
+            let payload = figures::read_word(kind, queue, at, index, 1, store);
+            let claimed = queue.published as usize;
+            let place = figures::place(kind, queue, claimed, index, 0);
+            let next = figures::copy_on(task, head, noted, copied);
+            Act::Copies {
+                place,
+                task: Task { number, payload },
+                line: next,
+            }
+        }
+        // X4
+        Line::Publish { task } => Act::Publishes {
+            line: Line::PutRead { task },
+        },
+        // take 1; 1
+        Line::TakeRead => {
+            let next = figures::take_read(kind, anchor);
+            Act::Goes { line: next }
+        }
+        // FIFO's take 2
+        Line::TakeTail { head } => {
+            let read = figures::with_tail(head, anchor);
+            Act::Goes {
+                line: Line::TakeTest { read },
+            }
+        }
+        // take 2; 3
+        Line::TakeTest { read } => unless_empty(kind, worker, read, Line::TakeNumber { read }),
+        // take 3a; 4a
+        Line::TakeNumber { read } => {
+            let number = figures::taken_word(kind, queue, at, read, 0, store);
+            Act::Goes {
+                line: Line::TakePayload { read, number },
+            }
+        }
+        // take 3b; 4b
+        Line::TakePayload { read, number } => {
+            let payload = figures::taken_word(kind, queue, at, read, 1, store);
+            Act::Goes {
+                line: Line::TakeFinish {
+                    read,
+                    task: Task { number, payload },
+                },
+            }
+        }
+        // take 4; 5
+        Line::TakeFinish { read, task } => {
+            let left = figures::after_take(kind, anchor, read);
+            Act::Ends {
+                anchor: left,
+                answer: Answer::HandedOut { worker, task },
+            }
+        }
+        // steal 1; 1
+        Line::StealRead => {
+            let next = figures::steal_read(kind, anchor);
+            Act::Goes { line: next }
+        }
+        // FIFO's steal 2
+        Line::StealTail { head } => {
+            let read = figures::with_tail(head, anchor);
+            Act::Goes {
+                line: Line::StealTest { read },
+            }
+        }
+        // steal 2; 3
+        Line::StealTest { read } => unless_empty(kind, worker, read, Line::StealNote { read }),
+        // steal 3; 4
+        Line::StealNote { read } => Act::Goes {
+            line: Line::StealNumber { read, place: here },
+        },
+        // steal 4a; 5a
+        Line::StealNumber { read, place } => {
+            let number = figures::stolen_word(kind, queue, place as usize, read, 0, store);
+            Act::Goes {
+                line: Line::StealPayload {
+                    read,
+                    place,
+                    number,
+                },
+            }
+        }
+        // steal 4b; 5b
+        Line::StealPayload {
+            read,
+            place,
+            number,
+        } => {
+            let payload = figures::stolen_word(kind, queue, place as usize, read, 1, store);
+            let next = figures::steal_last(kind, read, Task { number, payload });
+            Act::Goes { line: next }
+        }
+        // figure 3's steal 5
+        Line::StealNext { read, task } => {
+            let h2 = (read.head + 1) % 2048;
+            Act::Goes {
+                line: Line::StealCompare {
+                    read,
+                    next: h2,
+                    task,
+                },
+            }
+        }
+        // steal 5, in figure 3 steal 6; 6
+        Line::StealCompare { read, next, task } => compare(kind, queue, worker, read, next, task),
+    }
+}

@@ -1,0 +1,5 @@
+pub mod Zeros
+pub mod Bounds
+pub mod Replies
+pub mod Commits
+pub mod Acts

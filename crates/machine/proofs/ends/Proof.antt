@@ -1,0 +1,108 @@
+use mathlib.Core.Path.{refl, sym, ap, _∙_}
+use Prim.Native.Nat.{_<_, _≤_, _+_}
+use native.Mathlib.Omega.{arith}
+use lib.ListN.{length}
+use borrow.Author.Needs.{needs}
+use borrow.Author.Tests.{lt-ltb, le-ltb, leb-true}
+use Rattle.model.specs.declared.Bench.{Bench}
+use Rattle.model.specs.Answers.{Entry, entryOf, writeEntry}
+use Rattle.limits.proofs.Chains.{first, rest, passed, refused}
+use Rattle.machine.specs.declared.Reply.{Reply}
+use Rattle.machine.specs.Left.{left}
+use Rattle.machine.proofs.Replies.{same-left}
+use Rattle.machine.proofs.Commits.{no-room-left, no-entry, no-room, logs}
+use Rattle.machine.proofs.ends.Statement.{statement}
+use Rattle.machine.proofs.ends.Tie as tie
+
+entry-of-requires : tie.Need-entry-of-requires
+entry-of-requires c κs = search needs
+
+moves-requires : tie.Need-moves-requires
+moves-requires c κs = search needs
+
+returns : tie.Need-returns
+returns c =
+    let b = c .before .before .before .before .before .args .bench in
+    let l = c .before .before .before .before .before .args .log .now in
+    let x = c .before .before .before .before .before .args .answer in
+    let q = c .before .before .before .before .before .args .queue in
+    let i = c .before .before .before .before .before .args .worker in
+    let k = ap (λ (e : Entry). e .kind) (c .before .before .before .entry-of .ensures) in
+    let none : entryOf x .kind ≤ 0 = omega arith in
+    λ m h.
+    ap (λ (n : Bench). left (record { bench = n; answer = x }) m l) (c .moves .ensures)
+    ∙ sym (no-entry b i q m l x (le-ltb 0 (entryOf x .kind) none))
+
+has-room-requires : tie.Need-has-room-requires
+has-room-requires c κs = search needs
+
+refused-requires : tie.Need-refused-requires
+refused-requires c κs = search needs
+
+same-length : tie.Need-same-length
+same-length c = search needs
+
+returns-2 : tie.Need-returns-2
+returns-2 c =
+    let b = c .before .before .before .before .before .before .before .before .args .bench in
+    let l = c .before .before .before .before .before .before .before .before .args .log .now in
+    let x = c .before .before .before .before .before .before .before .before .args .answer in
+    let q = c .before .before .before .before .before .before .before .before .args .queue in
+    let i = c .before .before .before .before .before .before .before .before .args .worker in
+    let k = ap (λ (e : Entry). e .kind) (c .before .before .before .before .before .before .entry-of .ensures) in
+    let some : 0 < entryOf x .kind = omega arith in
+    λ m h.
+    ap (λ (r : Reply). left r m l) (c .refused .ensures)
+    ∙ sym
+    (no-room b i q m l x (lt-ltb 0 (entryOf x .kind) some)
+    (no-room-left (length l) (b .written) (refused (c .before .before .has-room .ensures) (c .before .if2 .taken)) h))
+
+cast-at : tie.Need-cast-at
+cast-at c = search needs
+
+write-entry-requires : tie.Need-write-entry-requires
+write-entry-requires c κs = leb-true _ _ (first _ _ (passed (c .before .before .has-room .ensures) (c .before .if2 .left)))
+
+add-moves : tie.Need-add-moves
+add-moves c =
+    let h : c .before .before .before .before .before .before .before .before .before .before .before .args .bench .written + 4 ≤ 4294967295 = leb-true _ _ (rest _ _ (passed (c .before .before .before .before .before .has-room .ensures) (c .before .before .before .before .if2 .left))) in
+    omega arith
+
+moves-requires-2 : tie.Need-moves-requires-2
+moves-requires-2 c κs = search needs
+
+same-length-2 : tie.Need-same-length-2
+same-length-2 c = search needs
+
+returns-3 : tie.Need-returns-3
+returns-3 c =
+    let b = c .before .before .before .before .before .before .before .before .before .before .before .before .args .bench in
+    let l = c .before .before .before .before .before .before .before .before .before .before .before .before .args .log .now in
+    let x = c .before .before .before .before .before .before .before .before .before .before .before .before .args .answer in
+    let q = c .before .before .before .before .before .before .before .before .before .before .before .before .args .queue in
+    let i = c .before .before .before .before .before .before .before .before .before .before .before .before .args .worker in
+    let k = ap (λ (e : Entry). e .kind) (c .before .before .before .before .before .before .before .before .before .before .entry-of .ensures) in
+    let some : 0 < entryOf x .kind = omega arith in
+    let room = leb-true _ _ (first _ _ (passed (c .before .before .before .before .before .before .has-room .ensures) (c .before .before .before .before .before .if2 .left))) in
+    λ m h.
+    same-left (ap (λ (n : Bench). record { bench = n; answer = x }) (c .moves2 .ensures)) refl
+    (c .before .before .before .write-entry .ensures ∙ ap (writeEntry l (b .written)) (c .before .before .before .before .before .before .before .before .before .before .entry-of .ensures))
+    ∙ sym (logs b i q m l x (lt-ltb 0 (entryOf x .kind) some) (le-ltb (length l) (b .written + 4) room))
+
+pub ends-spec : {M : Type 1} → statement M
+ends-spec =
+    tie.close
+    (tie.spec
+    entry-of-requires
+    moves-requires
+    returns
+    has-room-requires
+    refused-requires
+    same-length
+    returns-2
+    cast-at
+    write-entry-requires
+    add-moves
+    moves-requires-2
+    same-length-2
+    returns-3)

@@ -1,0 +1,72 @@
+// The bench for idempotent work-stealing queues: one owner and up to seven thieves, played one line at
+// a time in the order that the caller chooses. A bench is a value; each call takes it and hands the
+// next one back, beside the store and the log that the caller lends. A call may be handed any state,
+// any numbers and any memory: it is refused where document 01 says so, and then changes nothing.
+ghost use mathlib.Core.Path.{_≡_};
+ghost use mathlib.Core.List.{List};
+ghost use Prim.Native.Nat.{ℕ, _≤_};
+ghost use lib.ListN.{length};
+ghost use Rattle.model.specs.Calls.{lent, freshOf, beginOf, stepOf, frontOf};
+ghost use Rattle.queues.specs.Left.{left};
+
+use model::{Answer, Operation};
+
+pub struct Bench {
+    pub state: model::Bench,
+}
+
+// The next bench, and the answer.
+pub struct Reply {
+    pub bench: Bench,
+    pub answer: Answer,
+}
+
+impl Bench {
+    // A bench of a kind (1 LIFO, 2 FIFO, 3 double-ended), with tags of `width` bits, a first array of
+    // `size` tasks and `crew` workers, on a store whose first words it zeroes. A refused fresh makes no
+    // bench: what it hands back has no crew, and every call refuses it.
+    pub fn fresh(kind: u32, width: u32, size: u32, crew: u32, store: &mut [u32]) -> Reply
+        ensures { λ r. ⌜ ((l : List ℕ) → left r (now (store .exit)) l ≡ freshOf kind width size crew (now (store .entry)) l) ⌝ }
+    {
+        let made = machine::fresh(kind, width, size, crew, store);
+        let state = made.bench;
+        let answer = made.answer;
+        Reply {
+            bench: Bench { state: state },
+            answer: answer,
+        }
+    }
+
+    // Gives an idle worker an operation; it does no line.
+    pub fn begin(self, worker: u32, operation: Operation, store: &[u32], log: &[u32]) -> Reply
+        ensures { λ r. ⌜ left r (now (store .entry)) (now (log .entry)) ≡ beginOf (lent (self .state) (now (store .entry)) (now (log .entry))) worker operation ⌝ }
+    {
+        let begun = machine::begin(self.state, worker, operation, store, log);
+        let state = begun.bench;
+        let answer = begun.answer;
+        Reply {
+            bench: Bench { state: state },
+            answer: answer,
+        }
+    }
+
+    // One line of a worker's operation.
+    pub fn step(self, worker: u32, store: &mut [u32], log: &mut [u32]) -> Reply
+        ensures { λ r. ⌜ (length (now (log .entry)) ≤ 4294967295 → left r (now (store .exit)) (now (log .exit)) ≡ stepOf (lent (self .state) (now (store .entry)) (now (log .entry))) worker) ⌝ }
+    {
+        let stepped = machine::step(self.state, worker, store, log);
+        let state = stepped.bench;
+        let answer = stepped.answer;
+        Reply {
+            bench: Bench { state: state },
+            answer: answer,
+        }
+    }
+
+    // The written front of the log, a part of the caller's own slice.
+    pub fn front(self, log: &[u32]) -> &[u32]
+        ensures { λ r. ⌜ now r ≡ frontOf (self .state) (now (log .entry)) ⌝ }
+    {
+        machine::front(self.state, log)
+    }
+}
