@@ -4,9 +4,15 @@
 ghost use mathlib.Core.Path.{_≡_};
 ghost use Prim.Native.Nat.{_<_};
 ghost use Rattle.model.specs.Answers.{numberOf};
-
 use libc::STDOUT_FILENO;
-use model::{Anchor, Answer, Line, Operation, Refusal, Region, Task, Worker};
+use model::Anchor;
+use model::Answer;
+use model::Line;
+use model::Operation;
+use model::Refusal;
+use model::Region;
+use model::Task;
+use model::Worker;
 use queues::Bench;
 
 fn text(bytes: &[u8]) {
@@ -85,7 +91,14 @@ fn try_fresh(tried: &[u8], kind: u32, width: u32, size: u32, crew: u32, store: &
     told(tried, made.answer);
 }
 
-fn try_begin(tried: &[u8], bench: Bench, worker: u32, operation: Operation, store: &[u32], log: &[u32]) -> Bench {
+fn try_begin(
+    tried: &[u8],
+    bench: Bench,
+    worker: u32,
+    operation: Operation,
+    store: &[u32],
+    log: &[u32],
+) -> Bench {
     let begun = bench.begin(worker, operation, store, log);
     told(tried, begun.answer);
     begun.bench
@@ -151,16 +164,58 @@ fn refusals(store: &mut [u32], log: &mut [u32]) {
     let b = made.bench;
     try_step(b"a step of worker 2 of 2", b, 2, store, log);
     try_step(b"a step of an idle worker", b, 1, store, log);
-    try_begin(b"a take by worker 2 of 2", b, 2, Operation::Take, store, log);
+    try_begin(
+        b"a take by worker 2 of 2",
+        b,
+        2,
+        Operation::Take,
+        store,
+        log,
+    );
     try_begin(b"a thief takes", b, 1, Operation::Take, store, log);
-    try_begin(b"a thief puts", b, 1, Operation::Put { payload: 9 }, store, log);
+    try_begin(
+        b"a thief puts",
+        b,
+        1,
+        Operation::Put { payload: 9 },
+        store,
+        log,
+    );
     try_begin(b"the owner steals", b, 0, Operation::Steal, store, log);
-    let busy = try_begin(b"the owner puts", b, 0, Operation::Put { payload: 9 }, store, log);
-    try_begin(b"the busy owner puts", busy, 0, Operation::Put { payload: 9 }, store, log);
+    let busy = try_begin(
+        b"the owner puts",
+        b,
+        0,
+        Operation::Put { payload: 9 },
+        store,
+        log,
+    );
+    try_begin(
+        b"the busy owner puts",
+        busy,
+        0,
+        Operation::Put { payload: 9 },
+        store,
+        log,
+    );
     let mut spent = b.state;
     spent.used = 65535;
-    try_begin(b"a put after number 65535", Bench { state: spent }, 0, Operation::Put { payload: 9 }, store, log);
-    try_begin(b"a take after number 65535", Bench { state: spent }, 0, Operation::Take, store, log);
+    try_begin(
+        b"a put after number 65535",
+        Bench { state: spent },
+        0,
+        Operation::Put { payload: 9 },
+        store,
+        log,
+    );
+    try_begin(
+        b"a take after number 65535",
+        Bench { state: spent },
+        0,
+        Operation::Take,
+        store,
+        log,
+    );
 }
 
 // Calls that break several limits at once.
@@ -168,33 +223,87 @@ fn order(store: &mut [u32], log: &mut [u32]) {
     let made = Bench::fresh(1, 4, 2, 2, store);
     let mut spent = made.bench.state;
     spent.used = 65535;
-    spent.workers[0] = Worker { line: Line::TakeRead };
+    spent.workers[0] = Worker {
+        line: Line::TakeRead,
+    };
     let b = Bench { state: spent };
     let mut foreign = spent;
     foreign.crew = 9;
     let f = Bench { state: foreign };
     let none: [u32; 0] = [];
-    try_begin(b"a foreign state, worker 9 takes", f, 9, Operation::Take, store, log);
-    try_begin(b"worker 9 puts, put numbers spent", b, 9, Operation::Put { payload: 9 }, store, log);
+    try_begin(
+        b"a foreign state, worker 9 takes",
+        f,
+        9,
+        Operation::Take,
+        store,
+        log,
+    );
+    try_begin(
+        b"worker 9 puts, put numbers spent",
+        b,
+        9,
+        Operation::Put { payload: 9 },
+        store,
+        log,
+    );
     try_begin(b"the busy owner steals", b, 0, Operation::Steal, store, log);
-    try_begin(b"the busy owner puts, put numbers spent", b, 0, Operation::Put { payload: 9 }, store, log);
+    try_begin(
+        b"the busy owner puts, put numbers spent",
+        b,
+        0,
+        Operation::Put { payload: 9 },
+        store,
+        log,
+    );
     try_step(b"a step of worker 9 in a foreign state", f, 9, store, log);
     try_step(b"a step of worker 9", b, 9, store, log);
-    try_begin(b"a take with no store at all", b, 9, Operation::Take, &none, log);
+    try_begin(
+        b"a take with no store at all",
+        b,
+        9,
+        Operation::Take,
+        &none,
+        log,
+    );
 }
 
 // The log's last words: an operation that ends with 4 words left, and one with 3.
 fn log_room(store: &mut [u32], log: &mut [u32], longer: &mut [u32]) {
     let made = Bench::fresh(1, 4, 2, 1, store);
     let first = put_to_last_line(made.bench, 65, store, log);
-    let ended = try_step(b"the end of a put, 8 words left in the log", first, 0, store, log);
+    let ended = try_step(
+        b"the end of a put, 8 words left in the log",
+        first,
+        0,
+        store,
+        log,
+    );
     let second = put_to_last_line(ended, 66, store, log);
-    let full = try_step(b"the end of a put, 4 words left in the log", second, 0, store, log);
+    let full = try_step(
+        b"the end of a put, 4 words left in the log",
+        second,
+        0,
+        store,
+        log,
+    );
     front_text(full, log);
     let third = full.begin(0, Operation::Take, store, longer);
     let take = steps(third.bench, 0, 4, store, longer);
-    let stuck = try_step(b"the end of a take, 3 words left in the log", take, 0, store, longer);
+    let stuck = try_step(
+        b"the end of a take, 3 words left in the log",
+        take,
+        0,
+        store,
+        longer,
+    );
     front_text(stuck, longer);
     try_step(b"the same again", stuck, 0, store, longer);
-    try_step(b"a step of the worker with the log too short for its length", stuck, 0, store, &mut longer[..7]);
+    try_step(
+        b"a step of the worker with the log too short for its length",
+        stuck,
+        0,
+        store,
+        &mut longer[..7],
+    );
 }

@@ -1,12 +1,12 @@
 -- What committing a line's effect comes to, by how the line goes.
-use mathlib.Core.Bool.{Bool, true, false}
+use mathlib.Core.Bool.{Bool, true, false, not}
 use mathlib.Core.List.{List}
-use mathlib.Core.Path.{_≡_, refl, sym, _∙_}
+use mathlib.Core.Path.{_≡_, refl, sym}
 use Prim.Native.Nat.{ℕ, _+_, _≤_}
 use native.Mathlib.Omega.{arith}
-use lib.Dec.{ltb, leb}
+use lib.Dec.{leb}
 use lib.ListN.{length}
-use borrow.Author.Tests.{leb-true, leb-false, lt-ltb, le-leb}
+use borrow.Author.Tests.{leb-true, leb-false, lt-ltb, le-ltb}
 use Rattle.model.specs.declared.Line.{Line}
 use Rattle.model.specs.declared.Line.the-variants.{Idle}
 use Rattle.model.specs.declared.Queue.{Queue}
@@ -14,25 +14,22 @@ use Rattle.model.specs.declared.Bench.{Bench}
 use Rattle.model.specs.declared.Refusal.the-variants.{LogFull}
 use Rattle.model.specs.declared.Answer.{Answer}
 use Rattle.model.specs.declared.Answer.the-variants.{GoesOn}
-use Rattle.model.specs.Tests.{if_then_else_, _and_}
+use Rattle.model.specs.Tests.{if_then_else_, _and_, _or_}
 use Rattle.model.specs.Answers.{ends, entryOf, writeEntry}
 use Rattle.model.specs.Lines.{eff}
 use Rattle.model.specs.World.{Outcome, refuse}
-use Rattle.model.specs.Calls.{lent, commit}
-use Rattle.limits.proofs.Chains.{holds}
+use Rattle.model.specs.Calls.{lent, logFull, commit}
 use Rattle.machine.specs.Left.{moved}
 
--- a log of fewer than 2^32 words whose room is refused has none
-pub no-room-left : (n w : ℕ) → (leb (w + 4) n and leb (w + 4) 4294967295) ≡ false → n ≤ 4294967295
-    → ltb n (w + 4) ≡ true
-no-room-left n w e h = by (leb (w + 4) n) refl
+-- the code asks whether an entry fits, the definition whether it does not
+pub full-is : (l : List ℕ) (n : ℕ) {x : Bool} → (leb (n + 4) (length l) and leb (n + 4) 4294967295) ≡ x → logFull l n ≡ not x
+unfolding _and_ _or_
+full-is l n e = by (leb (n + 4) (length l)) (leb (n + 4) 4294967295) refl refl e
   where
-    by : (x : Bool) → leb (w + 4) n ≡ x → ltb n (w + 4) ≡ true
-    by true f =
-        let g : w + 4 ≤ n = leb-true (w + 4) n f in
-        let z : true ≡ false = sym (holds f ∙ le-leb (w + 4) 4294967295 (omega arith)) ∙ e in
-        cc
-    by false f = lt-ltb n (w + 4) (leb-false (w + 4) n f)
+    by : (y z : Bool) {x : Bool} → leb (n + 4) (length l) ≡ y → leb (n + 4) 4294967295 ≡ z → (y and z) ≡ x → logFull l n ≡ not x
+    by true true f g e = rw (le-ltb (length l) (n + 4) (leb-true _ _ f), le-ltb 4294967295 (n + 4) (leb-true _ _ g), sym e)
+    by true false f g e = rw (le-ltb (length l) (n + 4) (leb-true _ _ f), lt-ltb 4294967295 (n + 4) (leb-false _ _ g), sym e)
+    by false z f g e = rw (lt-ltb (length l) (n + 4) (leb-false _ _ f), sym e)
 
 module _ (b : Bench) (i : ℕ) (q : Queue) (m l : List ℕ) where
   abbrev after : List ℕ → List ℕ → Line → ℕ → Answer → Outcome
@@ -50,13 +47,13 @@ module _ (b : Bench) (i : ℕ) (q : Queue) (m l : List ℕ) where
     no-entry e = rw e
 
     -- the log has no room for the entry
-    pub no-room : ends a ≡ true → ltb (length l) (b .written + 4) ≡ true
+    pub no-room : ends a ≡ true → logFull l (b .written) ≡ true
         → commit (lent b m l) i (eff q m Idle a) ≡ refuse (lent b m l) LogFull
     unfolding if_then_else_ _and_
     no-room e f = rw (e, f)
 
     -- the entry is logged
-    pub logs : ends a ≡ true → ltb (length l) (b .written + 4) ≡ false
+    pub logs : ends a ≡ true → logFull l (b .written) ≡ false
         → commit (lent b m l) i (eff q m Idle a)
         ≡ after m (writeEntry l (b .written) (entryOf a)) Idle (b .written + 4) a
     unfolding if_then_else_ _and_

@@ -398,7 +398,7 @@ fn has_room(written: u32, log: &[u32]) -> bool
 // The operation ends: an answer that has an entry logs it.
 fn ends(bench: Bench, worker: u32, queue: Queue, answer: Answer, log: &mut [u32]) -> Reply
     requires { ⌜ worker < 8 ⌝ }
-    ensures { λ r. ⌜ ((m : List ℕ) → length (now (log .entry)) ≤ 4294967295 → left r m (now (log .exit)) ≡ commit (lent bench m (now (log .entry))) worker (eff queue m Idle answer)) ⌝ }
+    ensures { λ r. ⌜ ((m : List ℕ) → left r m (now (log .exit)) ≡ commit (lent bench m (now (log .entry))) worker (eff queue m Idle answer)) ⌝ }
 {
     let i = worker as usize;
     let written = bench.written;
@@ -425,7 +425,7 @@ fn apply(bench: Bench, worker: u32, act: Act, store: &mut [u32], log: &mut [u32]
     requires { ⌜ worker < 8 ⌝ }
     requires { ⌜ bench .queue .published ≤ 11 ⌝ }
     requires { ⌜ InStore (bench .queue) (length (now store)) act ⌝ }
-    ensures { λ r. ⌜ (length (now (log .entry)) ≤ 4294967295 → left r (now (store .exit)) (now (log .exit)) ≡ commit (lent bench (now (store .entry)) (now (log .entry))) worker (enact (bench .queue) (now (store .entry)) act)) ⌝ }
+    ensures { λ r. ⌜ left r (now (store .exit)) (now (log .exit)) ≡ commit (lent bench (now (store .entry)) (now (log .entry))) worker (enact (bench .queue) (now (store .entry)) act) ⌝ }
 {
     let queue = bench.queue;
     match act {
@@ -461,7 +461,7 @@ fn apply(bench: Bench, worker: u32, act: Act, store: &mut [u32], log: &mut [u32]
 }
 
 pub fn step(bench: Bench, worker: u32, store: &mut [u32], log: &mut [u32]) -> Reply
-    ensures { λ r. ⌜ (length (now (log .entry)) ≤ 4294967295 → left r (now (store .exit)) (now (log .exit)) ≡ stepOf (lent bench (now (store .entry)) (now (log .entry))) worker) ⌝ }
+    ensures { λ r. ⌜ left r (now (store .exit)) (now (log .exit)) ≡ stepOf (lent bench (now (store .entry)) (now (log .entry))) worker ⌝ }
 {
     if !limits::valid(bench, store, log) {
         return refused(bench, Refusal::ForeignState);

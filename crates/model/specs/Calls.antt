@@ -27,7 +27,7 @@ use Rattle.model.specs.declared.Refusal.the-variants.{
 }
 use Rattle.model.specs.declared.Answer.{Answer}
 use Rattle.model.specs.declared.Answer.the-variants.{Accepted, Numbered}
-use Rattle.model.specs.Tests.{if_then_else_, unless_then_else_, _and_}
+use Rattle.model.specs.Tests.{if_then_else_, unless_then_else_, _and_, _or_}
 use Rattle.model.specs.Memory.{zeros, nowhere}
 use Rattle.model.specs.Answers.{task, ends, logged}
 use Rattle.model.specs.Figures.{anchor}
@@ -163,9 +163,13 @@ stepped W i E =
       answer = E .answer;
     }
 
--- the step would end an operation, and under 4 words are left
+-- the step would end an operation, and under 4 words are left; the log's length is a 32-bit number, so words past
+-- what it can count are not there
+abbrev pub logFull : List ℕ → ℕ → Bool
+logFull l n = ltb (length l) (n + 4) or ltb 4294967295 (n + 4)
+
 abbrev pub noRoom : World → Effect → Bool
-noRoom W E = ends (E .answer) and ltb (length (W .log)) (W .bench .written + 4)
+noRoom W E = ends (E .answer) and logFull (W .log) (W .bench .written)
 
 abbrev pub commit : World → ℕ → Effect → Outcome
 commit W i E = if noRoom W E then refuse W LogFull else stepped W i E

@@ -8,8 +8,8 @@ ghost use Prim.Native.Nat.{ℕ, _≤_};
 ghost use lib.ListN.{length};
 ghost use Rattle.model.specs.Calls.{lent, freshOf, beginOf, stepOf, frontOf};
 ghost use Rattle.queues.specs.Left.{left};
-
-use model::{Answer, Operation};
+use model::Answer;
+use model::Operation;
 
 pub struct Bench {
     pub state: model::Bench,
@@ -52,7 +52,7 @@ impl Bench {
 
     // One line of a worker's operation.
     pub fn step(self, worker: u32, store: &mut [u32], log: &mut [u32]) -> Reply
-        ensures { λ r. ⌜ (length (now (log .entry)) ≤ 4294967295 → left r (now (store .exit)) (now (log .exit)) ≡ stepOf (lent (self .state) (now (store .entry)) (now (log .entry))) worker) ⌝ }
+        ensures { λ r. ⌜ left r (now (store .exit)) (now (log .exit)) ≡ stepOf (lent (self .state) (now (store .entry)) (now (log .entry))) worker ⌝ }
     {
         let stepped = machine::step(self.state, worker, store, log);
         let state = stepped.bench;

@@ -17,7 +17,7 @@ use Rattle.model.specs.declared.Refusal.the-variants.{NoSuchWorker, BusyWorker,
 use Rattle.model.specs.Tests.{if_then_else_, unless_then_else_, _and_, _or_}
 use Rattle.model.specs.Lines.{eff, anchored, lineStep}
 use Rattle.model.specs.World.{World, Outcome, refuse, resting, lineAt, isIdle}
-use Rattle.model.specs.Calls.{rightHand, numbersLeft, begun, beginOf, stepped, commit, nextEffect, stepOf, Call, begin, step, callOf}
+use Rattle.model.specs.Calls.{logFull, rightHand, numbersLeft, begun, beginOf, stepped, commit, nextEffect, stepOf, Call, begin, step, callOf}
 use Rattle.model.specs.Answers.{entry, writeEntry, task}
 use Rattle.model.specs.Memory.{wordAt, setWord, nowhere, offsetAt, sizeAt}
 use Rattle.model.specs.Run.{Played, played, after}
@@ -122,7 +122,7 @@ ending S i l b = if b then refuse S LogFull else stepped S i (lineStep (S .bench
 abbrev begun-or : World → ℕ → Bool → Outcome
 begun-or U p b = if b then begun U 0 (Put p) else refuse U NumbersSpent
 
-module _ (w n g wr : ℕ) (θ : Line) (x y : ℕ) (rest lg : List ℕ) (roomy : ltb (length lg) (wr + 4) ≡ false) where
+module _ (w n g wr : ℕ) (θ : Line) (x y : ℕ) (rest lg : List ℕ) (roomy : logFull lg wr ≡ false) where
   abbrev putEnd : World
   putEnd = here w 0 (n + 1) g wr (PutFinish (task (n + 1) 7) (anchor 0 0 g)) θ ((n + 1) ∷ 7 ∷ rest) lg
 

@@ -21,7 +21,7 @@ use Rattle.model.specs.declared.Refusal.{Refusal}
 use Rattle.model.specs.Tests.{if_then_else_, _and_, _or_}
 use Rattle.model.specs.Lines.{lineStep}
 use Rattle.model.specs.World.{World, Outcome, lineAt}
-use Rattle.model.specs.Calls.{freshOf, Call, begin, step, callOf}
+use Rattle.model.specs.Calls.{logFull, freshOf, Call, begin, step, callOf}
 use Rattle.model.specs.Answers.{entry, writeEntry, task}
 use Rattle.model.specs.Memory.{zeros, wordAt, offsetAt, sizeAt}
 use Rattle.model.specs.Run.{Played, played, after}
@@ -34,6 +34,11 @@ use Rattle.theorems.proofs.Fresh.{start, fresh-whole}
 use Rattle.theorems.proofs.Translate.{at-map}
 use Rattle.theorems.proofs.Rounds.{rawOf, raw-is, rawAfter, rawAnswers, answers, after-raw, answers-raw, after-append, answers-append, here, putting, taking, stealing, fiveSteps, putAnswers, takeAnswers, put-run, put-says, take-run, take-says, steal-run, steal-says, win-run}
 use Rattle.theorems.proofs.TightList.{played1, at-split, at-unsplit, at-answer, no-thief, total, total-is, answers-drop, answers-take, AllUnder, under-append, under-not, script, firstAnswers, rounds-own, rounds-length, script-length, script-total, script-under, rounds, first, tightList}
+
+-- there is room for an entry
+has-room : (l : List ℕ) (n : ℕ) → n + 4 ≤ length l → n + 4 ≤ 4294967295 → logFull l n ≡ false
+unfolding _or_
+has-room l n h k = rw (le-ltb (length l) (n + 4) h, le-ltb 4294967295 (n + 4) k)
 
 module _ (w x y : ℕ) (rest l : List ℕ) (low : 0 < w) (high : w ≤ 15) (long : 8 * 2 ^ w + 8 ≤ length l) where
   abbrev B : World
@@ -81,8 +86,8 @@ module _ (w x y : ℕ) (rest l : List ℕ) (low : 0 < w) (high : w ≤ 15) (long
   unfolding played
   nil-says = refl
 
-  room0 : ltb (length l) (0 + 4) ≡ false
-  room0 = le-ltb (length l) 4 (omega arith)
+  room0 : logFull l 0 ≡ false
+  room0 = has-room l 0 (omega arith) (omega arith)
 
   put-after : after B putting ≡ here w 1 1 g0 4 Idle Idle (1 ∷ 7 ∷ rest) log0
   put-after = on [] putting _ _ nil-after (put-run w 0 0 0 Idle 0 0 rest l room0 refl)
@@ -90,8 +95,8 @@ module _ (w x y : ℕ) (rest l : List ℕ) (low : 0 < w) (high : w ≤ 15) (long
   log0-length : length log0 ≡ length l
   log0-length = entry-length l 0 (entry 1 0 (task 1 7))
 
-  room1 : ltb (length log0) (4 + 4) ≡ false
-  room1 = le-ltb (length log0) 8 (omega (arith, log0-length))
+  room1 : logFull log0 4 ≡ false
+  room1 = has-room log0 4 (omega (arith, log0-length)) (omega arith)
 
   first-after : after B first ≡ here w 1 1 g0 4 Idle θ (1 ∷ 7 ∷ rest) log0
   first-after = on putting stealing _ _ put-after (steal-run w 1 g0 4 Idle 1 7 rest log0 room1)
@@ -122,11 +127,13 @@ module _ (w x y : ℕ) (rest l : List ℕ) (low : 0 < w) (high : w ≤ 15) (long
     lg1 : List ℕ
     lg1 = writeEntry (S .lg) (S .wr) (entry 2 0 (task (suc r) 7))
 
-    roomT : ltb (length (S .lg)) (S .wr + 4) ≡ false
-    roomT = le-ltb (length (S .lg)) (S .wr + 4) (omega (arith, S .kept, S .written))
+    roomT : logFull (S .lg) (S .wr) ≡ false
+    roomT = has-room (S .lg) (S .wr) (omega (arith, S .kept, S .written)) (omega (arith, S .written, few))
 
-    roomP : ltb (length (writeEntry (S .lg) (S .wr) (entry 2 0 (task (suc r) 7)))) (S .wr + 4 + 4) ≡ false
-    roomP = le-ltb _ (S .wr + 4 + 4) (omega (arith, S .kept, S .written, entry-length (S .lg) (S .wr) (entry 2 0 (task (suc r) 7))))
+    roomP : logFull (writeEntry (S .lg) (S .wr) (entry 2 0 (task (suc r) 7))) (S .wr + 4) ≡ false
+    roomP =
+        has-room (writeEntry (S .lg) (S .wr) (entry 2 0 (task (suc r) 7))) (S .wr + 4) (omega (arith, S .kept, S .written, entry-length (S .lg) (S .wr) (entry 2 0 (task (suc r) 7))))
+        (omega (arith, S .written, few))
 
     small : ltb (suc r) 65535 ≡ true
     small = lt-ltb (suc r) 65535 (omega (arith, few))
@@ -175,8 +182,8 @@ module _ (w x y : ℕ) (rest l : List ℕ) (low : 0 < w) (high : w ≤ 15) (long
   S : Stage (2 ^ w)
   S = stage (2 ^ w) (omega arith)
 
-  roomC : ltb (length (S .lg)) (S .wr + 4) ≡ false
-  roomC = le-ltb (length (S .lg)) (S .wr + 4) (omega (arith, S .kept, S .written))
+  roomC : logFull (S .lg) (S .wr) ≡ false
+  roomC = has-room (S .lg) (S .wr) (omega (arith, S .kept, S .written)) (omega (arith, S .written, few))
 
   again : eqb (S .g) g0 ≡ true
   again = eq-eqb (S .g) g0 (S .tag ∙ add-mod-right 1 (2 ^ w))

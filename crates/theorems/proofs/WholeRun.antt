@@ -17,11 +17,11 @@ use Rattle.model.specs.declared.Queue.{Queue}
 use Rattle.model.specs.declared.Worker.{Worker}
 use Rattle.model.specs.declared.Operation.{Operation}
 use Rattle.model.specs.declared.Operation.the-variants.{Put, Take, Steal}
-use Rattle.model.specs.Tests.{if_then_else_, _and_}
+use Rattle.model.specs.Tests.{if_then_else_, _and_, _or_}
 use Rattle.model.specs.Answers.{Entry, entryOf, ends, writeEntry, logged, task}
 use Rattle.model.specs.Lines.{Effect}
 use Rattle.model.specs.World.{World, Outcome, resting, lineAt, isIdle}
-use Rattle.model.specs.Calls.{usedBy, firstLine, begun, stepped, nextEffect, Call, callOf}
+use Rattle.model.specs.Calls.{logFull, usedBy, firstLine, begun, stepped, nextEffect, Call, callOf}
 use Rattle.model.specs.Run.{after}
 use Rattle.theorems.proofs.Cases.{MayBegin, MayStep, call-cases}
 use Rattle.theorems.proofs.Shape.{Spent, Shape}
@@ -81,6 +81,11 @@ entry-length l at e =
     length-set (set (set (set l at (e .kind)) (at + 1) (e .worker)) (at + 2) (e .number)) (at + 3) (e .payload)
     ∙ length-set (set (set l at (e .kind)) (at + 1) (e .worker)) (at + 2) (e .number) ∙ length-set (set l at (e .kind)) (at + 1) (e .worker)
     ∙ length-set l at (e .kind)
+
+neither : (a b : Bool) → (a or b) ≡ false → a ≡ false
+unfolding _or_
+neither true b e = e
+neither false b e = refl
 
 -- the owner's operations and the thieves'
 pub not-thief : (k : ℕ) {A : Type 0} → eqb (suc k) 0 ≡ true → A
@@ -162,12 +167,17 @@ module _ {W : World} (H : Whole W) where
       (thief-shaped _ _ _ _ _ _ _ k (lineAt (W .bench .workers) (suc k)) (H .shape) (H .shape .th k))
 
   -- the log's length stays within the slice
-  written-in : (i : ℕ) (E : Effect) (x y : Bool) → ends (E .answer) ≡ x → ltb (length (W .log)) (W .bench .written + 4) ≡ y → x and y ≡ false
+  written-in : (i : ℕ) (E : Effect) (x y : Bool) → ends (E .answer) ≡ x → logFull (W .log) (W .bench .written) ≡ y → x and y ≡ false
       → stepped W i E .world .bench .written ≤ length (logged (W .log) (W .bench .written) (E .answer))
   unfolding _and_ if_then_else_
   written-in i E true true ex ey nb = absurd (let z : _≡_ {A = ℕ} 0 1 = cc in omega arith)
   written-in i E true false ex ey nb =
-      rw ex (omega (arith, ltb-false (length (W .log)) (W .bench .written + 4) ey, entry-length (W .log) (W .bench .written) (entryOf (E .answer))))
+      rw ex
+      (omega (
+        arith,
+        ltb-false (length (W .log)) (W .bench .written + 4) (neither (ltb (length (W .log)) (W .bench .written + 4)) _ ey),
+        entry-length (W .log) (W .bench .written) (entryOf (E .answer)),
+      ))
   written-in i E false y ex ey nb = rw ex (H .logged)
 
   stepped-whole : (i : ℕ) → MayStep W i → Whole (stepped W i (nextEffect W i) .world)

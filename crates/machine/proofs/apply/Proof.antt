@@ -156,7 +156,7 @@ returns c =
     let l = c .before .before .before .before .before .before .before .args .log .now in
     let i = c .before .before .before .before .before .before .before .args .worker in
     let act = c .before .before .before .before .before .before .before .args .act in
-    λ h. went-on b i m l act (ap (enact (b .queue) m) (c .before .before .act .given .1)) (c .goes-on .ensures)
+    went-on b i m l act (ap (enact (b .queue) m) (c .before .before .act .given .1)) (c .goes-on .ensures)
 
 same-length : tie.Need-same-length
 same-length c = search needs
@@ -169,7 +169,7 @@ returns-2 c =
     let l = c .before .before .before .before .before .before .before .args .log .now in
     let i = c .before .before .before .before .before .before .before .args .worker in
     let act = c .before .before .before .before .before .before .before .args .act in
-    λ h. went-on b i m l act (ap (enact (b .queue) m) (c .before .before .act2 .given .1)) (c .goes-on2 .ensures)
+    went-on b i m l act (ap (enact (b .queue) m) (c .before .before .act2 .given .1)) (c .goes-on2 .ensures)
 
 same-length-2 : tie.Need-same-length-2
 same-length-2 c = search needs
@@ -182,7 +182,7 @@ returns-3 c =
     let l = c .before .before .before .before .before .before .before .args .log .now in
     let i = c .before .before .before .before .before .before .before .args .worker in
     let act = c .before .before .before .before .before .before .before .args .act in
-    λ h. went-on b i m l act (ap (enact (b .queue) m) (c .before .before .act3 .given .1)) (c .goes-on3 .ensures)
+    went-on b i m l act (ap (enact (b .queue) m) (c .before .before .act3 .given .1)) (c .goes-on3 .ensures)
 
 same-length-3 : tie.Need-same-length-3
 same-length-3 c = search needs
@@ -195,7 +195,6 @@ returns-4 c =
     let l = c .before .before .before .before .before .before .before .before .before .before .before .before .args .log .now in
     let i = c .before .before .before .before .before .before .before .before .before .before .before .before .args .worker in
     let act = c .before .before .before .before .before .before .before .before .before .before .before .before .args .act in
-    λ h.
     went-on b i m l act
     (ap (enact (b .queue) m) (c .before .before .before .before .before .before .before .act4 .given .1) ∙ same-effect (sym (c .before .with-array .ensures)) (sym (c .before .before .before .before .zero .ensures)))
     (c .goes-on4 .ensures)
@@ -208,7 +207,6 @@ returns-5 c =
     let l = c .before .before .before .before .before .before .before .before .args .log .now in
     let i = c .before .before .before .before .before .before .before .before .args .worker in
     let act = c .before .before .before .before .before .before .before .before .args .act in
-    λ h.
     went-on b i m l act (ap (enact (b .queue) m) (c .before .before .before .act5 .given .1) ∙ same-effect (sym (c .before .publish .ensures)) refl)
     (c .goes-on5 .ensures)
 
@@ -223,7 +221,7 @@ returns-6 c =
     let l = c .before .before .before .before .before .before .before .before .before .before .args .log .now in
     let i = c .before .before .before .before .before .before .before .before .before .before .args .worker in
     let act = c .before .before .before .before .before .before .before .before .before .before .args .act in
-    λ h. ended b i m l act (ap (enact (b .queue) m) (c .before .before .before .before .before .act6 .given .1)) (c .before .before .ends .ensures m h)
+    ended b i m l act (ap (enact (b .queue) m) (c .before .before .before .before .before .act6 .given .1)) (c .before .before .ends .ensures m)
 
 same-length-5 : tie.Need-same-length-5
 same-length-5 c = search needs
@@ -236,8 +234,7 @@ returns-7 c =
     let l = c .before .before .before .before .before .before .before .before .before .before .before .args .log .now in
     let i = c .before .before .before .before .before .before .before .before .before .before .before .args .worker in
     let act = c .before .before .before .before .before .before .before .before .before .before .before .args .act in
-    λ h.
-    ended b i m l act (ap (enact (b .queue) m) (c .before .before .before .before .before .before .act7 .given .1) ∙ same-effect (sym (c .before .before .before .before .with-anchor .ensures)) refl) (c .before .before .ends2 .ensures m h)
+    ended b i m l act (ap (enact (b .queue) m) (c .before .before .before .before .before .before .act7 .given .1) ∙ same-effect (sym (c .before .before .before .before .with-anchor .ensures)) refl) (c .before .before .ends2 .ensures m)
 
 pub apply-spec : {M : Type 1} → statement M
 apply-spec =

@@ -10,7 +10,7 @@ use Rattle.limits.proofs.Chains.{first, rest, passed, refused}
 use Rattle.machine.specs.declared.Reply.{Reply}
 use Rattle.machine.specs.Left.{left}
 use Rattle.machine.proofs.Replies.{same-left}
-use Rattle.machine.proofs.Commits.{no-room-left, no-entry, no-room, logs}
+use Rattle.machine.proofs.Commits.{full-is, no-entry, no-room, logs}
 use Rattle.machine.proofs.ends.Statement.{statement}
 use Rattle.machine.proofs.ends.Tie as tie
 
@@ -29,7 +29,7 @@ returns c =
     let i = c .before .before .before .before .before .args .worker in
     let k = ap (λ (e : Entry). e .kind) (c .before .before .before .entry-of .ensures) in
     let none : entryOf x .kind ≤ 0 = omega arith in
-    λ m h.
+    λ m.
     ap (λ (n : Bench). left (record { bench = n; answer = x }) m l) (c .moves .ensures)
     ∙ sym (no-entry b i q m l x (le-ltb 0 (entryOf x .kind) none))
 
@@ -51,11 +51,11 @@ returns-2 c =
     let i = c .before .before .before .before .before .before .before .before .args .worker in
     let k = ap (λ (e : Entry). e .kind) (c .before .before .before .before .before .before .entry-of .ensures) in
     let some : 0 < entryOf x .kind = omega arith in
-    λ m h.
+    λ m.
     ap (λ (r : Reply). left r m l) (c .refused .ensures)
     ∙ sym
     (no-room b i q m l x (lt-ltb 0 (entryOf x .kind) some)
-    (no-room-left (length l) (b .written) (refused (c .before .before .has-room .ensures) (c .before .if2 .taken)) h))
+    (full-is l (b .written) (refused (c .before .before .has-room .ensures) (c .before .if2 .taken))))
 
 cast-at : tie.Need-cast-at
 cast-at c = search needs
@@ -83,11 +83,11 @@ returns-3 c =
     let i = c .before .before .before .before .before .before .before .before .before .before .before .before .args .worker in
     let k = ap (λ (e : Entry). e .kind) (c .before .before .before .before .before .before .before .before .before .before .entry-of .ensures) in
     let some : 0 < entryOf x .kind = omega arith in
-    let room = leb-true _ _ (first _ _ (passed (c .before .before .before .before .before .before .has-room .ensures) (c .before .before .before .before .before .if2 .left))) in
-    λ m h.
+    let room = full-is l (b .written) (passed (c .before .before .before .before .before .before .has-room .ensures) (c .before .before .before .before .before .if2 .left)) in
+    λ m.
     same-left (ap (λ (n : Bench). record { bench = n; answer = x }) (c .moves2 .ensures)) refl
     (c .before .before .before .write-entry .ensures ∙ ap (writeEntry l (b .written)) (c .before .before .before .before .before .before .before .before .before .before .entry-of .ensures))
-    ∙ sym (logs b i q m l x (lt-ltb 0 (entryOf x .kind) some) (le-ltb (length l) (b .written + 4) room))
+    ∙ sym (logs b i q m l x (lt-ltb 0 (entryOf x .kind) some) room)
 
 pub ends-spec : {M : Type 1} → statement M
 ends-spec =

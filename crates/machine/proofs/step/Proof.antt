@@ -29,7 +29,7 @@ same-length-2 c = search needs
 returns : tie.Need-returns
 unfolding stepOf
 returns c =
-    λ h. same-left (c .refused .ensures) refl refl ∙ sym (if-false _ (refused (c .before .before .valid .ensures) (c .before .if1 .taken)))
+    same-left (c .refused .ensures) refl refl ∙ sym (if-false _ (refused (c .before .before .valid .ensures) (c .before .if1 .taken)))
 
 refused-requires-2 : tie.Need-refused-requires-2
 refused-requires-2 c κs = search needs
@@ -43,7 +43,6 @@ same-length-4 c = search needs
 returns-2 : tie.Need-returns-2
 unfolding stepOf
 returns-2 c =
-    λ h.
     same-left (c .refused2 .ensures) refl refl
     ∙ sym (if-true _ (passed (c .before .before .before .valid .ensures) (c .before .before .if1 .left)) ∙ if-false _ (le-ltb _ _ (c .before .if2 .taken)))
 
@@ -68,7 +67,6 @@ same-length-6 c = search needs
 returns-3 : tie.Need-returns-3
 unfolding stepOf
 returns-3 c =
-    λ h.
     same-left (c .refused3 .ensures) refl refl
     ∙ sym
     (if-true _ (passed (c .before .before .before .before .before .before .valid .ensures) (c .before .before .before .before .before .if1 .left))
@@ -97,8 +95,7 @@ same-length-8 c = search needs
 returns-4 : tie.Need-returns-4
 unfolding stepOf
 returns-4 c =
-    λ h.
-    c .before .before .before .before .apply .ensures h
+    c .before .before .before .before .apply .ensures
     ∙ ap (commit (lent (c .before .before .before .before .before .before .before .before .before .before .before .before .before .before .before .before .before .before .before .before .args .t1) (c .before .before .before .before .before .before .before .before .before .before .before .before .before .before .before .before .before .before .before .before .args .store .now) (c .before .before .before .before .before .before .before .before .before .before .before .before .before .before .before .before .before .before .before .before .args .log .now)) (c .before .before .before .before .before .before .before .before .before .before .before .before .before .before .before .before .before .before .before .before .args .worker)) (c .before .before .before .before .before .before .before .decide .ensures .0)
     ∙ sym
     (if-true _ (passed (c .before .before .before .before .before .before .before .before .before .before .before .before .before .before .before .valid .ensures) (c .before .before .before .before .before .before .before .before .before .before .before .before .before .before .if1 .left))
