@@ -34,6 +34,7 @@ use model::Line;
 use model::Queue;
 use model::Task;
 
+// An anchor of its three parts.
 fn anchor_of(head: u32, count: u32, tag: u32) -> Anchor
     ensures { λ r. ⌜ r ≡ record { head = head; count = count; tag = tag } ⌝ }
 {

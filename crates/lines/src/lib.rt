@@ -1,12 +1,12 @@
 // What one line of figures 1, 2 and 3 does: a pure function from the line to an act. Applying the act is another crate's.
 ghost use mathlib.Core.Path.{_≡_};
 ghost use mathlib.Core.List.{List};
-ghost use Prim.Native.Nat.{ℕ, _-_};
+ghost use Prim.Native.Nat.{ℕ, _-_, _≤_, _<_};
 ghost use lib.ListN.{length};
 ghost use Rattle.model.specs.declared.Queue.{Queue};
 ghost use Rattle.model.specs.Memory.{sizeAt};
 ghost use Rattle.model.specs.Lines.{unlessEmpty, compares, claims, lineStep};
-ghost use Rattle.figures.specs.Bounds.{Some};
+ghost use Rattle.figures.specs.Bounds.{Some, Small};
 ghost use Rattle.lines.specs.Act.{enact, InStore, Ground, Ready, Range, Free};
 use model::Anchor;
 use model::Answer;
@@ -86,8 +86,9 @@ fn compare(kind: Kind, queue: Queue, worker: u32, read: Anchor, next: u32, task:
 }
 
 // X1, where `size` is the current array's: an array of twice the size behind it; where that does not fit, FULL.
-fn claim(width: u32, queue: Queue, size: u32, store: &[u32], worker: u32, task: Task) -> Act
-    requires { ⌜ Ground width queue (length (now store)) ⌝ }
+fn claim(queue: Queue, size: u32, store: &[u32], worker: u32, task: Task) -> Act
+    requires { ⌜ (0 < queue .published) × (queue .published ≤ 11) × (length (queue .arrays) ≡ 11) ⌝ }
+    requires { ⌜ Small queue (queue .published - 1) ⌝ }
     requires { ⌜ Free queue ⌝ }
     requires { ⌜ size ≡ sizeAt (queue .arrays) (queue .published - 1) ⌝ }
     ensures { λ r. ⌜ enact queue (now (store .entry)) r ≡ claims queue (now (store .entry)) worker task ⌝ }
@@ -169,7 +170,7 @@ pub fn decide(kind: Kind, width: u32, queue: Queue, store: &[u32], worker: u32, 
         // X1
         Line::Claim { task } => {
             let size = figures::size_at(queue, at);
-            claim(width, queue, size, store, worker, task)
+            claim(queue, size, store, worker, task)
         }
         // X2
         Line::Note { task } => {

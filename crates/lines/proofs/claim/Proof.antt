@@ -29,9 +29,9 @@ unfolding enact InStore if_then_else_
 returns c =
     let start = c .before .before .before .before .before in
     let room = sym (c .before .before .before .has-room .ensures) ∙ c .before .before .if1 .taken in
-    let size = start .pre .1 .1 in (
+    let size = start .pre .1 .1 .1 in (
       simp (room, size, c .end-of .ensures),
-      in-room (start .args .queue) (start .args .store .now) (start .pre .1 .0) room size (c .end-of .ensures),
+      in-room (start .args .queue) (start .args .store .now) (start .pre .1 .1 .0) room size (c .end-of .ensures),
     )
 
 returns-2 : tie.Need-returns-2

@@ -83,7 +83,7 @@ unfolding Ready
 claim-requires c κs =
     let arm = c .before .before in
     let h = rw (arm .line7 .given .1) at (arm .before .before .before .before .before .pre .1) in
-    (arm .before .before .before .before .before .pre .0, (h, omega arith))
+    (omega arith, (omega arith, (h, omega arith)))
 
 enum-known-line-8 : tie.Need-enum-known-line-8
 enum-known-line-8 c = search needs
