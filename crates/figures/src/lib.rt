@@ -2,7 +2,7 @@
 // is it empty, which anchor is left. `anchor` is the anchor now, `read` the anchor as a worker read it at line 1. Below them
 // stands the one place where an index becomes a word of the store.
 ghost use mathlib.Core.Path.{_≡_};
-ghost use Prim.Native.Nat.{_+_, _-_, _*_, _≤_, _<_, _^_};
+ghost use Prim.Native.Nat.{_+_, _-_, _*_, _≤_, _<_, _^_, _%_};
 ghost use lib.ListN.{length};
 ghost use Rattle.model.specs.declared.Line.the-variants.{Claim, PutNumber};
 ghost use Rattle.model.specs.Tests.{if_then_else_};
@@ -34,6 +34,7 @@ use model::Line;
 use model::Queue;
 use model::Task;
 
+// An anchor of its three parts.
 fn anchor_of(head: u32, count: u32, tag: u32) -> Anchor
     ensures { λ r. ⌜ r ≡ record { head = head; count = count; tag = tag } ⌝ }
 {
@@ -256,6 +257,14 @@ pub fn steal_last(kind: Kind, read: Anchor, task: Task) -> Line
         },
         Kind::Deque => Line::StealNext { read, task },
     }
+}
+
+// Figure 3's steal 5: h2 = (h+1) modulo 2,048.
+pub fn next_head(read: Anchor) -> u32
+    requires { ⌜ read .head ≤ 65535 ⌝ }
+    ensures { λ r. ⌜ r ≡ (read .head + 1) % 2048 ⌝ }
+{
+    (read.head + 1) % 2048
 }
 
 // X2: `noted` indices from `head` on are to be copied; with none, X4 is next.

@@ -1,11 +1,12 @@
 // What one line of figures 1, 2 and 3 does: a pure function from the line to an act. Applying the act is another crate's.
 ghost use mathlib.Core.Path.{_≡_};
 ghost use mathlib.Core.List.{List};
-ghost use Prim.Native.Nat.{ℕ};
+ghost use Prim.Native.Nat.{ℕ, _-_, _≤_, _<_};
 ghost use lib.ListN.{length};
 ghost use Rattle.model.specs.declared.Queue.{Queue};
+ghost use Rattle.model.specs.Memory.{sizeAt};
 ghost use Rattle.model.specs.Lines.{unlessEmpty, compares, claims, lineStep};
-ghost use Rattle.figures.specs.Bounds.{Some};
+ghost use Rattle.figures.specs.Bounds.{Some, Small};
 ghost use Rattle.lines.specs.Act.{enact, InStore, Ground, Ready, Range, Free};
 use model::Anchor;
 use model::Answer;
@@ -84,19 +85,19 @@ fn compare(kind: Kind, queue: Queue, worker: u32, read: Anchor, next: u32, task:
     }
 }
 
-// X1: an array of twice the size, behind the current one; where it does not fit, FULL.
-fn claim(width: u32, queue: Queue, store: &[u32], worker: u32, task: Task) -> Act
-    requires { ⌜ Ground width queue (length (now store)) ⌝ }
+// X1, where `size` is the current array's: an array of twice the size behind it; where that does not fit, FULL.
+fn claim(queue: Queue, size: u32, store: &[u32], worker: u32, task: Task) -> Act
+    requires { ⌜ (0 < queue .published) × (queue .published ≤ 11) × (length (queue .arrays) ≡ 11) ⌝ }
+    requires { ⌜ Small queue (queue .published - 1) ⌝ }
     requires { ⌜ Free queue ⌝ }
+    requires { ⌜ size ≡ sizeAt (queue .arrays) (queue .published - 1) ⌝ }
     ensures { λ r. ⌜ enact queue (now (store .entry)) r ≡ claims queue (now (store .entry)) worker task ⌝ }
     ensures { λ r. ⌜ InStore queue (length (now (store .entry))) r ⌝ }
 {
     let room = figures::has_room(queue, store);
     if room {
         let here = queue.published - 1;
-        let at = here as usize;
-        let size = figures::size_at(queue, at);
-        let from = figures::end_of(queue, at);
+        let from = figures::end_of(queue, here as usize);
         let words = 2 * (2 * size);
         Act::Claims {
             offset: from,
@@ -167,7 +168,10 @@ pub fn decide(kind: Kind, width: u32, queue: Queue, store: &[u32], worker: u32, 
             }
         }
         // X1
-        Line::Claim { task } => claim(width, queue, store, worker, task),
+        Line::Claim { task } => {
+            let size = figures::size_at(queue, at);
+            claim(queue, size, store, worker, task)
+        }
         // X2
         Line::Note { task } => {
             let size = figures::size_at(queue, at);
@@ -277,7 +281,7 @@ pub fn decide(kind: Kind, width: u32, queue: Queue, store: &[u32], worker: u32, 
         }
         // figure 3's steal 5
         Line::StealNext { read, task } => {
-            let h2 = (read.head + 1) % 2048;
+            let h2 = figures::next_head(read);
             Act::Goes {
                 line: Line::StealCompare {
                     read,

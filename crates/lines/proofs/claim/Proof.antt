@@ -12,11 +12,8 @@ has-room-requires c κs = search needs
 sub-here : tie.Need-sub-here
 sub-here c = search needs
 
-cast-at : tie.Need-cast-at
-cast-at c = search needs
-
-size-at-requires : tie.Need-size-at-requires
-size-at-requires c κs = search needs
+cast-end-of : tie.Need-cast-end-of
+cast-end-of c = search needs
 
 end-of-requires : tie.Need-end-of-requires
 end-of-requires c κs = search needs
@@ -30,11 +27,11 @@ mul-words-2 c = search needs
 returns : tie.Need-returns
 unfolding enact InStore if_then_else_
 returns c =
-    let start = c .before .before .before .before .before .before in
-    let room = sym (c .before .before .before .before .has-room .ensures) ∙ c .before .before .before .if1 .taken in (
-      simp (room, c .before .size-at .ensures, c .end-of .ensures),
-      in-room (start .args .queue) (start .args .store .now) (start .pre .1) room (c .before .size-at .ensures)
-          (c .end-of .ensures),
+    let start = c .before .before .before .before .before in
+    let room = sym (c .before .before .before .has-room .ensures) ∙ c .before .before .if1 .taken in
+    let size = start .pre .1 .1 .1 in (
+      simp (room, size, c .end-of .ensures),
+      in-room (start .args .queue) (start .args .store .now) (start .pre .1 .1 .0) room size (c .end-of .ensures),
     )
 
 returns-2 : tie.Need-returns-2
@@ -47,8 +44,7 @@ claim-spec =
     (tie.spec
     has-room-requires
     sub-here
-    cast-at
-    size-at-requires
+    cast-end-of
     end-of-requires
     mul-words
     mul-words-2

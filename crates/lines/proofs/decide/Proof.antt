@@ -75,24 +75,28 @@ after-put-requires c κs =
 enum-known-line-7 : tie.Need-enum-known-line-7
 enum-known-line-7 c = search needs
 
+size-at-requires-2 : tie.Need-size-at-requires-2
+size-at-requires-2 c κs = search needs
+
 claim-requires : tie.Need-claim-requires
 unfolding Ready
 claim-requires c κs =
-    let arm = c .before in
+    let arm = c .before .before in
     let h = rw (arm .line7 .given .1) at (arm .before .before .before .before .before .pre .1) in
-    (c .before .before .before .before .before .before .pre .0, h)
+    (omega arith, (omega arith, (h, omega arith)))
 
 enum-known-line-8 : tie.Need-enum-known-line-8
 enum-known-line-8 c = search needs
 
-size-at-requires-2 : tie.Need-size-at-requires-2
-size-at-requires-2 c κs = search needs
+size-at-requires-3 : tie.Need-size-at-requires-3
+size-at-requires-3 c κs = search needs
 
 note-for-requires : tie.Need-note-for-requires
 unfolding Ready
 note-for-requires c κs =
     let arm = c .before .before in
-    rw (arm .line8 .given .1) at (arm .before .before .before .before .before .pre .1)
+    let h = rw (arm .line8 .given .1) at (arm .before .before .before .before .before .pre .1) in
+    h
 
 enum-known-line-9 : tie.Need-enum-known-line-9
 enum-known-line-9 c = search needs
@@ -239,10 +243,10 @@ steal-last-requires c κs = search needs
 enum-known-line-21 : tie.Need-enum-known-line-21
 enum-known-line-21 c = search needs
 
-add-h2 : tie.Need-add-h2
+next-head-requires : tie.Need-next-head-requires
 unfolding Ready
-add-h2 c =
-    let arm = c .before .before in
+next-head-requires c κs =
+    let arm = c .before in
     let h = rw (arm .line21 .given .1) at (arm .before .before .before .before .before .pre .1) in
     omega (arith, h)
 
@@ -253,7 +257,8 @@ compare-requires : tie.Need-compare-requires
 unfolding Ready
 compare-requires c κs =
     let arm = c .before in
-    rw (arm .line22 .given .1) at (arm .before .before .before .before .before .pre .1)
+    let h = rw (arm .line22 .given .1) at (arm .before .before .before .before .before .pre .1) in
+    h
 
 returns : tie.Need-returns
 unfolding lineStep enact InStore
@@ -291,11 +296,11 @@ returns-7 c = (simp (c .before .before .line6 .given .1, c .after-put .ensures),
 
 returns-8 : tie.Need-returns-8
 unfolding lineStep enact InStore
-returns-8 c = (simp (c .before .before .line7 .given .1, c .claim .ensures .0), c .claim .ensures .1)
+returns-8 c = (simp (c .before .before .before .line7 .given .1, c .claim .ensures .0), c .claim .ensures .1)
 
 returns-9 : tie.Need-returns-9
 unfolding lineStep enact InStore
-returns-9 c = (simp (c .before .before .before .line8 .given .1, c .before .size-at2 .ensures, c .note-for .ensures), tt)
+returns-9 c = (simp (c .before .before .before .line8 .given .1, c .before .size-at3 .ensures, c .note-for .ensures), tt)
 
 returns-10 : tie.Need-returns-10
 unfolding lineStep enact InStore setWord Ready
@@ -367,7 +372,7 @@ returns-23 c = (simp (c .before .before .before .line20 .given .1, c .before .st
 
 returns-24 : tie.Need-returns-24
 unfolding lineStep enact InStore
-returns-24 c = (simp (c .before .before .line21 .given .1), tt)
+returns-24 c = (simp (c .before .before .line21 .given .1, c .next-head .ensures), tt)
 
 returns-25 : tie.Need-returns-25
 unfolding lineStep enact InStore
@@ -394,9 +399,10 @@ decide-spec =
     enum-known-line-6
     after-put-requires
     enum-known-line-7
+    size-at-requires-2
     claim-requires
     enum-known-line-8
-    size-at-requires-2
+    size-at-requires-3
     note-for-requires
     enum-known-line-9
     add-index
@@ -433,7 +439,7 @@ decide-spec =
     stolen-word-requires-2
     steal-last-requires
     enum-known-line-21
-    add-h2
+    next-head-requires
     enum-known-line-22
     compare-requires
     returns
