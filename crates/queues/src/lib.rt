@@ -8,8 +8,8 @@ ghost use Prim.Native.Nat.{ℕ, _≤_};
 ghost use lib.ListN.{length};
 ghost use Rattle.model.specs.Calls.{lent, freshOf, beginOf, stepOf, frontOf};
 ghost use Rattle.queues.specs.Left.{left};
-
-use model::{Answer, Operation};
+use model::Answer;
+use model::Operation;
 
 pub struct Bench {
     pub state: model::Bench,
