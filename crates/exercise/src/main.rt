@@ -4,9 +4,15 @@
 ghost use mathlib.Core.Path.{_≡_};
 ghost use Prim.Native.Nat.{_<_};
 ghost use Rattle.model.specs.Answers.{numberOf};
-
 use libc::STDOUT_FILENO;
-use model::{Anchor, Answer, Line, Operation, Refusal, Region, Task, Worker};
+use model::Anchor;
+use model::Answer;
+use model::Line;
+use model::Operation;
+use model::Refusal;
+use model::Region;
+use model::Task;
+use model::Worker;
 use queues::Bench;
 
 fn text(bytes: &[u8]) {
@@ -182,9 +188,19 @@ fn refusals(made: model::Bench) {
     try_begin(b"the owner steals", made, 0, Operation::Steal);
     try_begin(b"the owner puts", made, 0, Operation::Put { payload: 9 });
     let busy = with_line(made, 0, Line::TakeRead);
-    try_begin(b"the busy owner puts", busy, 0, Operation::Put { payload: 9 });
+    try_begin(
+        b"the busy owner puts",
+        busy,
+        0,
+        Operation::Put { payload: 9 },
+    );
     let spent = with_used(made, 65535);
-    try_begin(b"a put after number 65535", spent, 0, Operation::Put { payload: 9 });
+    try_begin(
+        b"a put after number 65535",
+        spent,
+        0,
+        Operation::Put { payload: 9 },
+    );
     try_begin(b"a take after number 65535", spent, 0, Operation::Take);
 }
 
@@ -192,10 +208,25 @@ fn refusals(made: model::Bench) {
 fn order(made: model::Bench) {
     let busy = with_used(with_line(made, 0, Line::TakeRead), 65535);
     let foreign = with_used(busy, 65536);
-    try_begin(b"a foreign state, worker 9 takes", foreign, 9, Operation::Take);
-    try_begin(b"worker 9 puts, put numbers spent", busy, 9, Operation::Put { payload: 9 });
+    try_begin(
+        b"a foreign state, worker 9 takes",
+        foreign,
+        9,
+        Operation::Take,
+    );
+    try_begin(
+        b"worker 9 puts, put numbers spent",
+        busy,
+        9,
+        Operation::Put { payload: 9 },
+    );
     try_begin(b"the busy owner steals", busy, 0, Operation::Steal);
-    try_begin(b"the busy owner puts, put numbers spent", busy, 0, Operation::Put { payload: 9 });
+    try_begin(
+        b"the busy owner puts, put numbers spent",
+        busy,
+        0,
+        Operation::Put { payload: 9 },
+    );
     try_step(b"a step of worker 9 in a foreign state", foreign, 9);
     try_step(b"a step of worker 9", busy, 9);
 }
@@ -208,14 +239,34 @@ fn log_room() {
     let mut shorter = [0u32; 7];
     let made = Bench::fresh(1, 4, 2, 1, &mut store);
     let first = put_to_last_line(made.bench, 65, &mut store, &mut log);
-    let ended = told_step(b"the end of a put, 8 words left in the log", first, &mut store, &mut log);
+    let ended = told_step(
+        b"the end of a put, 8 words left in the log",
+        first,
+        &mut store,
+        &mut log,
+    );
     let second = put_to_last_line(ended, 66, &mut store, &mut log);
-    let full = told_step(b"the end of a put, 4 words left in the log", second, &mut store, &mut log);
+    let full = told_step(
+        b"the end of a put, 4 words left in the log",
+        second,
+        &mut store,
+        &mut log,
+    );
     front_text(full, &log);
     let take = take_to_last_line(full, &mut store, &mut longer);
-    let stuck = told_step(b"the end of a take, 3 words left in the log", take, &mut store, &mut longer);
+    let stuck = told_step(
+        b"the end of a take, 3 words left in the log",
+        take,
+        &mut store,
+        &mut longer,
+    );
     front_text(stuck, &longer);
-    told_step(b"the same with a log shorter than its length", stuck, &mut store, &mut shorter);
+    told_step(
+        b"the same with a log shorter than its length",
+        stuck,
+        &mut store,
+        &mut shorter,
+    );
     front_text(stuck, &shorter);
 }
 
@@ -247,7 +298,10 @@ fn with_pair(state: model::Bench, place: usize, offset: u32, length: u32) -> mod
     requires { ⌜ place < 11 ⌝ }
 {
     let mut queue = state.queue;
-    queue.arrays[place] = Region { offset: offset, length: length };
+    queue.arrays[place] = Region {
+        offset: offset,
+        length: length,
+    };
     let mut next = state;
     next.queue = queue;
     next
@@ -271,11 +325,18 @@ fn with_line(state: model::Bench, worker: usize, line: Line) -> model::Bench
 }
 
 fn anchor(head: u32, count: u32, tag: u32) -> Anchor {
-    Anchor { head: head, count: count, tag: tag }
+    Anchor {
+        head: head,
+        count: count,
+        tag: tag,
+    }
 }
 
 fn task(number: u32) -> Task {
-    Task { number: number, payload: 7 }
+    Task {
+        number: number,
+        payload: 7,
+    }
 }
 
 fn foreign_numbers() {
@@ -297,13 +358,25 @@ fn foreign_directories() {
     let b = base(1);
     try_state(b"no array published", with_counts(b, 0, 0));
     try_state(b"twelve arrays claimed", with_counts(b, 12, 12));
-    try_state(b"an array claimed and the owner idle", with_counts(with_pair(b, 1, 4, 8), 1, 2));
-    try_state(b"the owner at X2 and no array claimed", with_line(b, 0, Line::Note { task: task(1) }));
+    try_state(
+        b"an array claimed and the owner idle",
+        with_counts(with_pair(b, 1, 4, 8), 1, 2),
+    );
+    try_state(
+        b"the owner at X2 and no array claimed",
+        with_line(b, 0, Line::Note { task: task(1) }),
+    );
     try_state(b"a first array at word 1", with_pair(b, 0, 1, 4));
     try_state(b"a first array of 3 words", with_pair(b, 0, 0, 3));
     try_state(b"a first array of 3 slots", with_pair(b, 0, 0, 6));
-    try_state(b"a gap between two arrays", with_counts(with_pair(b, 1, 5, 8), 2, 2));
-    try_state(b"an array as long as the one before", with_counts(with_pair(b, 1, 4, 4), 2, 2));
+    try_state(
+        b"a gap between two arrays",
+        with_counts(with_pair(b, 1, 5, 8), 2, 2),
+    );
+    try_state(
+        b"an array as long as the one before",
+        with_counts(with_pair(b, 1, 4, 4), 2, 2),
+    );
     try_state(b"a directory longer than the store", with_pair(b, 0, 0, 32));
 }
 
@@ -319,49 +392,109 @@ fn foreign_anchors() {
     try_state(b"FIFO, a tag", with_anchor(fifo, 1, 2, 1));
     let deque = base(3);
     try_state(b"double-ended, head 2048", with_anchor(deque, 2048, 1, 0));
-    try_state(b"double-ended, s above the size", with_anchor(deque, 0, 3, 0));
+    try_state(
+        b"double-ended, s above the size",
+        with_anchor(deque, 0, 3, 0),
+    );
 }
 
 fn foreign_owners() {
     let lifo = base(1);
     let fifo = base(2);
     let read = anchor(0, 2, 0);
-    try_state(b"the owner at a line of steal", with_line(lifo, 0, Line::StealRead));
-    try_state(b"a put numbered 65536", with_line(lifo, 0, Line::PutRead { task: task(65536) }));
-    let ahead = Line::PutTest { task: task(1), read: anchor(0, 3, 0) };
+    try_state(
+        b"the owner at a line of steal",
+        with_line(lifo, 0, Line::StealRead),
+    );
+    try_state(
+        b"a put numbered 65536",
+        with_line(lifo, 0, Line::PutRead { task: task(65536) }),
+    );
+    let ahead = Line::PutTest {
+        task: task(1),
+        read: anchor(0, 3, 0),
+    };
     try_state(b"a t read above the size", with_line(lifo, 0, ahead));
-    let full = Line::PutNumber { task: task(1), read: read };
+    let full = Line::PutNumber {
+        task: task(1),
+        read: read,
+    };
     try_state(b"a full array past a put's test", with_line(lifo, 0, full));
-    let last = Line::PutNumber { task: task(1), read: anchor(65535, 65535, 0) };
-    try_state(b"FIFO, tail 65535 past a put's test", with_line(fifo, 0, last));
+    let last = Line::PutNumber {
+        task: task(1),
+        read: anchor(65535, 65535, 0),
+    };
+    try_state(
+        b"FIFO, tail 65535 past a put's test",
+        with_line(fifo, 0, last),
+    );
     let tail = Line::TakeTail { head: 0 };
     try_state(b"LIFO at FIFO's take 2", with_line(lifo, 0, tail));
-    let none = Line::TakeNumber { read: anchor(0, 0, 0) };
+    let none = Line::TakeNumber {
+        read: anchor(0, 0, 0),
+    };
     try_state(b"t read 0 past a test for EMPTY", with_line(lifo, 0, none));
 }
 
 fn foreign_copies() {
     let lifo = base(1);
     let claimed = with_counts(with_pair(lifo, 1, 4, 8), 1, 2);
-    let going = Line::Copy { task: task(1), head: 0, noted: 2, copied: 1 };
+    let going = Line::Copy {
+        task: task(1),
+        head: 0,
+        noted: 2,
+        copied: 1,
+    };
     try_state(b"the owner at X3", with_line(claimed, 0, going));
-    let past = Line::Copy { task: task(1), head: 0, noted: 2, copied: 2 };
+    let past = Line::Copy {
+        task: task(1),
+        head: 0,
+        noted: 2,
+        copied: 2,
+    };
     try_state(b"X3 past the last index", with_line(claimed, 0, past));
-    let more = Line::Copy { task: task(1), head: 0, noted: 3, copied: 1 };
-    try_state(b"X3 with more indices than slots", with_line(claimed, 0, more));
+    let more = Line::Copy {
+        task: task(1),
+        head: 0,
+        noted: 3,
+        copied: 1,
+    };
+    try_state(
+        b"X3 with more indices than slots",
+        with_line(claimed, 0, more),
+    );
 }
 
 fn foreign_thieves() {
     let lifo = base(1);
     let deque = base(3);
     let read = anchor(0, 1, 0);
-    try_state(b"a thief at a line of take", with_line(lifo, 1, Line::TakeRead));
-    try_state(b"a busy worker outside the crew", with_line(lifo, 3, Line::StealRead));
-    let place = Line::StealNumber { read: read, place: 1 };
-    try_state(b"a noted array that is not published", with_line(lifo, 2, place));
-    let beyond = Line::StealCompare { read: read, next: 2048, task: task(1) };
+    try_state(
+        b"a thief at a line of take",
+        with_line(lifo, 1, Line::TakeRead),
+    );
+    try_state(
+        b"a busy worker outside the crew",
+        with_line(lifo, 3, Line::StealRead),
+    );
+    let place = Line::StealNumber {
+        read: read,
+        place: 1,
+    };
+    try_state(
+        b"a noted array that is not published",
+        with_line(lifo, 2, place),
+    );
+    let beyond = Line::StealCompare {
+        read: read,
+        next: 2048,
+        task: task(1),
+    };
     try_state(b"double-ended, h2 2048", with_line(deque, 2, beyond));
-    let next = Line::StealNext { read: read, task: task(1) };
+    let next = Line::StealNext {
+        read: read,
+        task: task(1),
+    };
     try_state(b"LIFO at figure 3's steal 5", with_line(lifo, 2, next));
 }
 

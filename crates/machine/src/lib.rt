@@ -60,9 +60,10 @@ pub struct Entry {
 fn refused(bench: Bench, why: Refusal) -> Reply
     ensures { λ r. ⌜ r ≡ record { bench = bench; answer = Refused why } ⌝ }
 {
+    let answer = Answer::Refused { why: why };
     Reply {
         bench: bench,
-        answer: Answer::Refused { why: why },
+        answer: answer,
     }
 }
 
@@ -90,11 +91,8 @@ pub fn front(bench: Bench, log: &[u32]) -> &[u32]
     ensures { λ r. ⌜ now r ≡ frontOf bench (now (log .entry)) ⌝ }
 {
     let written = bench.written as usize;
-    if written < log.len() {
-        &log[..written]
-    } else {
-        log
-    }
+    let all = log.len();
+    if written < all { &log[..written] } else { log }
 }
 
 fn kind_ok(kind: u32) -> bool
@@ -254,16 +252,19 @@ pub fn begin(bench: Bench, worker: u32, operation: Operation, store: &[u32], log
     if bench.crew <= worker {
         return refused(bench, Refusal::NoSuchWorker);
     }
-    if !right_hand(worker, operation) {
-        return refused(bench, Refusal::WrongHand);
-    }
     let i = worker as usize;
     let own = bench.workers[i];
     let line = own.line;
-    if !limits::is_idle(line) {
+    let right = right_hand(worker, operation);
+    let idle = limits::is_idle(line);
+    let numbered = numbers_left(operation, bench.used);
+    if !right {
+        return refused(bench, Refusal::WrongHand);
+    }
+    if !idle {
         return refused(bench, Refusal::BusyWorker);
     }
-    if !numbers_left(operation, bench.used) {
+    if !numbered {
         return refused(bench, Refusal::NumbersSpent);
     }
     accept(bench, worker, operation)

@@ -1,12 +1,9 @@
 use mathlib.Core.Path.{_≡_}
 use Prim.Native.Nat.{_-_}
-use borrow.Author.Needs.{needs}
 use lib.ListN.{length}
+use borrow.Author.Needs.{needs}
 use Rattle.exercise.proofs.steps.Statement.{statement}
 use Rattle.exercise.proofs.steps.Tie as tie
-use Rattle.exercise.proofs.steps.Reads as reads
-use Rattle.exercise.proofs.steps.Lts as lts
-use Rattle.queues.proofs.Bench.step.Reads as step-reads
 
 abbrev Inv-loop : tie.InvT-loop
 Inv-loop worker times store₀ log₀ at₀ done₀ store log at done =
@@ -15,35 +12,27 @@ Inv-loop worker times store₀ log₀ at₀ done₀ store log at done =
 abbrev μ-loop : tie.MeasureT-loop
 μ-loop worker times store₀ log₀ at₀ done₀ store log at done = times - done
 
--- src/main.rt:104:5
 loop-holds : tie.Need-loop-holds Inv-loop μ-loop
 loop-holds c = search needs
 
--- src/main.rt:105:13
 step-requires : tie.Need-step-requires Inv-loop μ-loop
 step-requires c κs = search needs
 
--- src/main.rt:107:9
 add-done : tie.Need-add-done Inv-loop μ-loop
 add-done c = search needs
 
--- src/main.rt:104:5
 loop-less : tie.Need-loop-less Inv-loop μ-loop
 loop-less c = search needs
 
--- src/main.rt:104:5
 loop-again : tie.Need-loop-again Inv-loop μ-loop
 loop-again c = search needs
 
--- src/main.rt:101:1
 same-length : tie.Need-same-length Inv-loop μ-loop
 same-length c = search needs
 
--- src/main.rt:101:1
 same-length-2 : tie.Need-same-length-2 Inv-loop μ-loop
 same-length-2 c = search needs
 
--- src/main.rt:101:1
 returns : tie.Need-returns Inv-loop μ-loop
 returns c = search needs
 
