@@ -14,7 +14,8 @@ use Rattle.lines.specs.declared.Act.{Act}
 use Rattle.lines.specs.declared.Act.the-variants.{Word, Copies, Claims}
 use Rattle.lines.specs.Act.{enact, InStore}
 use Rattle.machine.specs.declared.Reply.{Reply}
-use Rattle.machine.specs.Left.{left, moved}
+use Rattle.machine.specs.Left.{left}
+use Rattle.state.specs.Pieces.{moved}
 use Rattle.machine.proofs.Replies.{same-left}
 use Rattle.machine.proofs.Commits.{goes-on}
 

@@ -19,7 +19,7 @@ use Rattle.model.specs.Answers.{ends, entryOf, writeEntry}
 use Rattle.model.specs.Lines.{eff}
 use Rattle.model.specs.World.{Outcome, refuse}
 use Rattle.model.specs.Calls.{lent, logFull, commit}
-use Rattle.machine.specs.Left.{moved}
+use Rattle.state.specs.Pieces.{moved}
 
 -- the code asks whether an entry fits, the definition whether it does not
 pub full-is : (l : List ℕ) (n : ℕ) {x : Bool} → (leb (n + 4) (length l) and leb (n + 4) 4294967295) ≡ x → logFull l n ≡ not x

@@ -1,4 +1,3 @@
-pub mod Zeros
 pub mod Bounds
 pub mod Replies
 pub mod Commits

@@ -67,6 +67,6 @@ impl Bench {
     pub fn front(self, log: &[u32]) -> &[u32]
         ensures { λ r. ⌜ now r ≡ frontOf (self .state) (now (log .entry)) ⌝ }
     {
-        machine::front(self.state, log)
+        state::front(self.state, log)
     }
 }

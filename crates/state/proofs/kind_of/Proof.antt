@@ -1,7 +1,7 @@
 use borrow.Author.Tests.{eq-eqb, ne-eqb}
 use Rattle.model.specs.Tests.{if_then_else_}
-use Rattle.machine.proofs.kind_of.Statement.{statement}
-use Rattle.machine.proofs.kind_of.Tie as tie
+use Rattle.state.proofs.kind_of.Statement.{statement}
+use Rattle.state.proofs.kind_of.Tie as tie
 
 returns : tie.Need-returns
 unfolding if_then_else_

@@ -1,6 +1,6 @@
 use borrow.Author.Needs.{needs}
-use Rattle.machine.proofs.right_hand.Statement.{statement}
-use Rattle.machine.proofs.right_hand.Tie as tie
+use Rattle.state.proofs.right_hand.Statement.{statement}
+use Rattle.state.proofs.right_hand.Tie as tie
 
 enum-told : tie.Need-enum-told
 enum-told c = search needs

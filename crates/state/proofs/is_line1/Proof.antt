@@ -2,8 +2,8 @@ use mathlib.Core.Path.{sym, _∙_}
 use borrow.Author.Tests.{eq-eqb, ne-eqb}
 use borrow.Author.Needs.{needs}
 use Rattle.model.specs.Tests.{_or_}
-use Rattle.machine.proofs.is_line1.Statement.{statement}
-use Rattle.machine.proofs.is_line1.Tie as tie
+use Rattle.state.proofs.is_line1.Statement.{statement}
+use Rattle.state.proofs.is_line1.Tie as tie
 
 stage-requires : tie.Need-stage-requires
 stage-requires c κs = search needs

@@ -1,7 +1,7 @@
 use borrow.Author.Tests.{le-ltb, lt-ltb}
 use Rattle.model.specs.Tests.{_and_}
-use Rattle.machine.proofs.kind_ok.Statement.{statement}
-use Rattle.machine.proofs.kind_ok.Tie as tie
+use Rattle.state.proofs.kind_ok.Statement.{statement}
+use Rattle.state.proofs.kind_ok.Tie as tie
 
 returns : tie.Need-returns
 unfolding _and_

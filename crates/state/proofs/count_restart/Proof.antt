@@ -2,8 +2,8 @@ use mathlib.Core.Path.{sym, _∙_}
 use borrow.Author.Tests.{eq-eqb, ne-eqb}
 use borrow.Author.Needs.{needs}
 use Rattle.limits.proofs.Chains.{if-true, if-false, passed, refused}
-use Rattle.machine.proofs.count_restart.Statement.{statement}
-use Rattle.machine.proofs.count_restart.Tie as tie
+use Rattle.state.proofs.count_restart.Statement.{statement}
+use Rattle.state.proofs.count_restart.Tie as tie
 
 is-line1-requires : tie.Need-is-line1-requires
 is-line1-requires c κs = search needs

@@ -1,6 +1,6 @@
 use borrow.Author.Needs.{needs}
-use Rattle.machine.proofs.moves.Statement.{statement}
-use Rattle.machine.proofs.moves.Tie as tie
+use Rattle.state.proofs.moves.Statement.{statement}
+use Rattle.state.proofs.moves.Tie as tie
 
 count-restart-requires : tie.Need-count-restart-requires
 count-restart-requires c κs = search needs

@@ -1,0 +1,240 @@
+// The pieces of a bench that the calls put together: a state made anew or with one worker's record replaced, a log entry,
+// a zeroed range, the log's front, and the tests of fresh and begin. Each is a definition's short name, as code.
+ghost use mathlib.Core.Path.{_≡_};
+ghost use Prim.Native.Nat.{_+_, _≤_, _<_};
+ghost use lib.Dec.{ltb, leb};
+ghost use lib.ListN.{length, replicate};
+ghost use Rattle.model.specs.Tests.{_and_};
+ghost use Rattle.model.specs.Memory.{zeros};
+ghost use Rattle.model.specs.Answers.{entryOf, writeEntry};
+ghost use Rattle.model.specs.Lines.{anchored, publishing};
+ghost use Rattle.model.specs.World.{isLine1};
+ghost use Rattle.model.specs.Calls.{blank, kindOf, rightHand, numbersLeft, restarted, frontOf};
+ghost use Rattle.state.specs.Pieces.{words, opened, moved};
+use model::Anchor;
+use model::Answer;
+use model::Bench;
+use model::Kind;
+use model::Line;
+use model::Operation;
+use model::Queue;
+use model::Region;
+use model::Worker;
+
+// An entry of the log.
+pub struct Entry {
+    pub kind: u32,
+    pub worker: u32,
+    pub number: u32,
+    pub payload: u32,
+}
+
+fn clear(words: &mut [u32])
+    ensures { λ _. ⌜ now (words .exit) ≡ replicate (length (now (words .entry))) 0 ⌝ }
+{
+    let mut i: usize = 0;
+    while i < words.len() {
+        words[i] = 0;
+        i += 1;
+    }
+}
+
+// The `count` words from `from` on become 0.
+pub fn zero(store: &mut [u32], from: usize, count: usize)
+    requires { ⌜ from + count ≤ length (now store) ⌝ }
+    ensures { λ _. ⌜ now (store .exit) ≡ zeros (now (store .entry)) from count ⌝ }
+{
+    let end = from + count;
+    clear(&mut store[from..end]);
+}
+
+// The written front of the log, a part of the caller's slice.
+pub fn front(bench: Bench, log: &[u32]) -> &[u32]
+    ensures { λ r. ⌜ now r ≡ frontOf bench (now (log .entry)) ⌝ }
+{
+    let written = bench.written as usize;
+    let all = log.len();
+    if written < all { &log[..written] } else { log }
+}
+
+pub fn kind_ok(kind: u32) -> bool
+    ensures { λ r. ⌜ r ≡ (ltb 0 kind and leb kind 3) ⌝ }
+{
+    0 < kind && kind <= 3
+}
+
+pub fn kind_of(kind: u32) -> Kind
+    ensures { λ r. ⌜ r ≡ kindOf kind ⌝ }
+{
+    if kind == 1 {
+        return Kind::Lifo;
+    }
+    if kind == 2 {
+        return Kind::Fifo;
+    }
+    Kind::Deque
+}
+
+// A state with no operation open, over one array of `size` tasks.
+pub fn made(kind: Kind, width: u32, size: u32, crew: u32) -> Bench
+    requires { ⌜ size ≤ 1024 ⌝ }
+    ensures { λ r. ⌜ r ≡ blank kind width size crew ⌝ }
+{
+    let mut arrays = [Region {
+        offset: 0,
+        length: 0,
+    }; 11];
+    arrays[0] = Region {
+        offset: 0,
+        length: 2 * size,
+    };
+    Bench {
+        kind: kind,
+        width: width,
+        crew: crew,
+        queue: Queue {
+            anchor: Anchor {
+                head: 0,
+                count: 0,
+                tag: 0,
+            },
+            arrays: arrays,
+            published: 1,
+            claimed: 1,
+        },
+        used: 0,
+        restarts: 0,
+        written: 0,
+        workers: [Worker { line: Line::Idle }; 8],
+    }
+}
+
+// The owner puts and takes, a thief steals.
+pub fn right_hand(worker: u32, operation: Operation) -> bool
+    ensures { λ r. ⌜ r ≡ rightHand worker operation ⌝ }
+{
+    match operation {
+        Operation::Put { payload: _ } => worker == 0,
+        Operation::Take => worker == 0,
+        Operation::Steal => 0 < worker,
+    }
+}
+
+pub fn numbers_left(operation: Operation, used: u32) -> bool
+    ensures { λ r. ⌜ r ≡ numbersLeft operation used ⌝ }
+{
+    match operation {
+        Operation::Put { payload: _ } => used < 65535,
+        Operation::Take => true,
+        Operation::Steal => true,
+    }
+}
+
+// A worker gets its first line.
+pub fn opens(bench: Bench, worker: usize, used: u32, line: Line) -> Bench
+    requires { ⌜ worker < 8 ⌝ }
+    ensures { λ r. ⌜ r ≡ opened bench worker used line ⌝ }
+{
+    let mut next = bench;
+    next.used = used;
+    next.workers[worker] = Worker { line: line };
+    next
+}
+
+// The entry of an answer; kind 0 where the answer ends no operation.
+pub fn entry_of(answer: Answer) -> Entry
+    ensures { λ r. ⌜ words r ≡ entryOf answer ⌝ }
+{
+    match answer {
+        Answer::Accepted => entry_with(0, 0, 0, 0),
+        Answer::Numbered { number: _ } => entry_with(0, 0, 0, 0),
+        Answer::GoesOn => entry_with(0, 0, 0, 0),
+        Answer::Finished { worker, task } => entry_with(1, worker, task.number, task.payload),
+        Answer::HandedOut { worker, task } => entry_with(2, worker, task.number, task.payload),
+        Answer::Empty { worker } => entry_with(3, worker, 0, 0),
+        Answer::Full { worker, task } => entry_with(4, worker, task.number, task.payload),
+        Answer::Refused { why: _ } => entry_with(0, 0, 0, 0),
+    }
+}
+
+fn entry_with(kind: u32, worker: u32, number: u32, payload: u32) -> Entry
+    ensures { λ r. ⌜ r ≡ record { kind = kind; worker = worker; number = number; payload = payload } ⌝ }
+{
+    Entry {
+        kind: kind,
+        worker: worker,
+        number: number,
+        payload: payload,
+    }
+}
+
+// The entry's four words, from word `at` of the log on.
+pub fn write_entry(log: &mut [u32], at: usize, entry: Entry)
+    requires { ⌜ at + 4 ≤ length (now log) ⌝ }
+    ensures { λ _. ⌜ now (log .exit) ≡ writeEntry (now (log .entry)) at (words entry) ⌝ }
+{
+    log[at] = entry.kind;
+    log[at + 1] = entry.worker;
+    log[at + 2] = entry.number;
+    log[at + 3] = entry.payload;
+}
+
+fn is_line1(line: Line) -> bool
+    ensures { λ r. ⌜ r ≡ isLine1 line ⌝ }
+{
+    let at = limits::stage(line);
+    at == 1 || at == 4
+}
+
+// A return to line 1 counts as a restart; the counter stays at its ceiling.
+fn count_restart(restarts: u32, line: Line) -> u32
+    ensures { λ r. ⌜ r ≡ restarted restarts line ⌝ }
+{
+    if !is_line1(line) {
+        return restarts;
+    }
+    if restarts == 4294967295 {
+        return restarts;
+    }
+    restarts + 1
+}
+
+// The state after a worker's line: its record is replaced, with what the line left.
+pub fn moves(bench: Bench, worker: usize, queue: Queue, line: Line, written: u32) -> Bench
+    requires { ⌜ worker < 8 ⌝ }
+    ensures { λ r. ⌜ r ≡ moved bench worker queue line written ⌝ }
+{
+    let restarts = count_restart(bench.restarts, line);
+    let mut next = bench;
+    next.queue = queue;
+    next.restarts = restarts;
+    next.written = written;
+    next.workers[worker] = Worker { line: line };
+    next
+}
+
+// X4: the claimed array becomes current.
+pub fn publish(queue: Queue) -> Queue
+    requires { ⌜ queue .published ≤ 11 ⌝ }
+    ensures { λ r. ⌜ r ≡ publishing queue ⌝ }
+{
+    let mut next = queue;
+    next.published = queue.published + 1;
+    next
+}
+
+pub fn with_anchor(queue: Queue, anchor: Anchor) -> Queue
+    ensures { λ r. ⌜ r ≡ anchored queue anchor ⌝ }
+{
+    let mut next = queue;
+    next.anchor = anchor;
+    next
+}
+
+// The log has room for an entry, and its length can count it.
+pub fn has_room(written: u32, log: &[u32]) -> bool
+    ensures { λ r. ⌜ r ≡ (leb (written + 4) (length (now (log .entry))) and leb (written + 4) 4294967295) ⌝ }
+{
+    let end = written as usize + 4;
+    end <= log.len() && end <= 4294967295
+}
