@@ -1,0 +1,169 @@
+use native.Mathlib.Omega.{arith}
+use borrow.Author.Needs.{needs}
+use Prim.Native.Nat.{_≤_}
+use mathlib.Core.Path.{_≡_, refl, sym, _∙_}
+use lib.ListN.{length, length-take, length-drop}
+use lib.Seq.{length-take-le}
+use Rattle.bench.proofs.play_some.Statement.{statement}
+use Rattle.bench.proofs.play_some.Tie as tie
+
+abbrev Inv-loop : tie.InvT-loop
+Inv-loop buf₀ n store₀ log₀ out₀ current₀ from₀ turns₀ t14 buf store log out current from turns = (from ≤ n) × (n ≤ length buf) × (length buf ≡ length buf₀) × (length store ≡ length store₀) × (length log ≡ length log₀) × (length out ≡ length out₀) × (length t14 ≡ 5)
+
+abbrev μ-loop : tie.MeasureT-loop
+μ-loop buf₀ n store₀ log₀ out₀ current₀ from₀ turns₀ t14 buf store log out current from turns = turns
+
+loop-holds : tie.Need-loop-holds Inv-loop μ-loop
+loop-holds c = (omega arith, omega arith, refl, refl, refl, refl, refl)
+
+sub-turns : tie.Need-sub-turns Inv-loop μ-loop
+sub-turns c = omega arith
+
+sub-feed : tie.Need-sub-feed Inv-loop μ-loop
+sub-feed c = omega arith
+
+part-feed-start : tie.Need-part-feed-start Inv-loop μ-loop
+part-feed-start c = omega arith
+
+part-feed-end : tie.Need-part-feed-end Inv-loop μ-loop
+part-feed-end c = omega arith
+
+feed-requires : tie.Need-feed-requires Inv-loop μ-loop
+feed-requires c κs = search needs
+
+add-from : tie.Need-add-from Inv-loop μ-loop
+add-from c = omega (arith, c .before .before .before .before .before .before .before .before .before .before .before .before .before .before .loop .inv .0, simp (length-take, length-drop) at ((c .before .before .before .before .before .before .before .feed .ensures) .within))
+
+slice-reshare-prefix-write-all : tie.Need-slice-reshare-prefix-write-all Inv-loop μ-loop
+slice-reshare-prefix-write-all c = omega (arith, (c .before .before .before .before .before .before .before .feed .ensures) .room)
+
+slice-aggregate-write-all : tie.Need-slice-aggregate-write-all Inv-loop μ-loop
+slice-aggregate-write-all c = sym (length-take-le _ _ ((c .before .before .before .before .before .before .before .before .feed .ensures) .room))
+
+write-all-requires : tie.Need-write-all-requires Inv-loop μ-loop
+write-all-requires c κs = search needs
+
+slice-aggregate-fail : tie.Need-slice-aggregate-fail Inv-loop μ-loop
+slice-aggregate-fail c = search needs
+
+fail-requires : tie.Need-fail-requires Inv-loop μ-loop
+fail-requires c κs = search needs
+
+same-length : tie.Need-same-length Inv-loop μ-loop
+same-length c = c .before .before .before .before .before .before .before .before .before .before .before .before .before .before .before .before .before .before .before .loop .inv .2
+
+same-length-2 : tie.Need-same-length-2 Inv-loop μ-loop
+same-length-2 c = c .before .before .before .before .before .before .before .before .before .before .before .before .feed .kept .1 .1 .0 ∙ c .before .before .before .before .before .before .before .before .before .before .before .before .before .before .before .before .before .before .before .loop .inv .3
+
+same-length-3 : tie.Need-same-length-3 Inv-loop μ-loop
+same-length-3 c = c .before .before .before .before .before .before .before .before .before .before .before .before .feed .kept .1 .1 .1 .0 ∙ c .before .before .before .before .before .before .before .before .before .before .before .before .before .before .before .before .before .before .before .loop .inv .4
+
+same-length-4 : tie.Need-same-length-4 Inv-loop μ-loop
+same-length-4 c = c .before .before .before .before .before .before .before .before .before .before .before .before .feed .kept .1 .1 .1 .1 .0 ∙ c .before .before .before .before .before .before .before .before .before .before .before .before .before .before .before .before .before .before .before .loop .inv .5
+
+returns : tie.Need-returns Inv-loop μ-loop
+returns c = (omega arith, omega arith)
+
+same-length-5 : tie.Need-same-length-5 Inv-loop μ-loop
+same-length-5 c = c .before .before .before .before .before .before .before .before .before .before .before .before .before .before .before .before .before .before .loop .inv .2
+
+same-length-6 : tie.Need-same-length-6 Inv-loop μ-loop
+same-length-6 c = c .before .before .before .before .before .before .before .before .before .before .before .feed .kept .1 .1 .0 ∙ c .before .before .before .before .before .before .before .before .before .before .before .before .before .before .before .before .before .before .loop .inv .3
+
+same-length-7 : tie.Need-same-length-7 Inv-loop μ-loop
+same-length-7 c = c .before .before .before .before .before .before .before .before .before .before .before .feed .kept .1 .1 .1 .0 ∙ c .before .before .before .before .before .before .before .before .before .before .before .before .before .before .before .before .before .before .loop .inv .4
+
+same-length-8 : tie.Need-same-length-8 Inv-loop μ-loop
+same-length-8 c = c .before .before .before .before .before .before .before .before .before .before .before .feed .kept .1 .1 .1 .1 .0 ∙ c .before .before .before .before .before .before .before .before .before .before .before .before .before .before .before .before .before .before .loop .inv .5
+
+returns-2 : tie.Need-returns-2 Inv-loop μ-loop
+returns-2 c = (omega arith, omega arith)
+
+carry-requires : tie.Need-carry-requires Inv-loop μ-loop
+carry-requires c κs = search needs
+
+same-length-9 : tie.Need-same-length-9 Inv-loop μ-loop
+same-length-9 c = c .before .before .carry .kept .0 ∙ c .before .before .before .before .before .before .before .before .before .before .before .before .before .before .before .before .before .before .before .before .before .before .before .before .loop .inv .2
+
+same-length-10 : tie.Need-same-length-10 Inv-loop μ-loop
+same-length-10 c = c .before .before .before .before .before .before .before .before .before .before .before .before .before .before .before .before .before .feed .kept .1 .1 .0 ∙ c .before .before .before .before .before .before .before .before .before .before .before .before .before .before .before .before .before .before .before .before .before .before .before .before .loop .inv .3
+
+same-length-11 : tie.Need-same-length-11 Inv-loop μ-loop
+same-length-11 c = c .before .before .before .before .before .before .before .before .before .before .before .before .before .before .before .before .before .feed .kept .1 .1 .1 .0 ∙ c .before .before .before .before .before .before .before .before .before .before .before .before .before .before .before .before .before .before .before .before .before .before .before .before .loop .inv .4
+
+same-length-12 : tie.Need-same-length-12 Inv-loop μ-loop
+same-length-12 c = c .before .before .before .before .before .before .before .before .before .before .before .before .before .before .before .before .before .feed .kept .1 .1 .1 .1 .0 ∙ c .before .before .before .before .before .before .before .before .before .before .before .before .before .before .before .before .before .before .before .before .before .before .before .before .loop .inv .5
+
+returns-3 : tie.Need-returns-3 Inv-loop μ-loop
+returns-3 c = let k = simp (length-take, length-drop) at (c .before .before .carry .ensures .count) in (omega (arith, k), omega (arith, k, c .before .before .carry .kept .0))
+
+loop-less : tie.Need-loop-less Inv-loop μ-loop
+loop-less c = omega arith
+
+loop-again : tie.Need-loop-again Inv-loop μ-loop
+loop-again c = let l = c .before .before .before .before .before .before .before .before .before .before .before .before .before .before .before .before .before .before .before .before .loop in (
+  omega (arith, l .inv .0, simp (length-take, length-drop) at ((c .before .before .before .before .before .before .before .before .before .before .before .before .before .feed .ensures) .within)),
+  l .inv .1,
+  l .inv .2,
+  c .before .before .before .before .before .before .before .before .before .before .before .before .before .feed .kept .1 .1 .0 ∙ l .inv .3,
+  c .before .before .before .before .before .before .before .before .before .before .before .before .before .feed .kept .1 .1 .1 .0 ∙ l .inv .4,
+  c .before .before .before .before .before .before .before .before .before .before .before .before .before .feed .kept .1 .1 .1 .1 .0 ∙ l .inv .5,
+  l .inv .6,
+)
+
+same-length-13 : tie.Need-same-length-13 Inv-loop μ-loop
+same-length-13 c = c .before .loop .inv .2
+
+same-length-14 : tie.Need-same-length-14 Inv-loop μ-loop
+same-length-14 c = c .before .loop .inv .3
+
+same-length-15 : tie.Need-same-length-15 Inv-loop μ-loop
+same-length-15 c = c .before .loop .inv .4
+
+same-length-16 : tie.Need-same-length-16 Inv-loop μ-loop
+same-length-16 c = c .before .loop .inv .5
+
+returns-4 : tie.Need-returns-4 Inv-loop μ-loop
+returns-4 c = (omega arith, omega arith)
+
+pub play-some-spec : {M : Type 1} → statement M
+play-some-spec =
+    tie.close
+    (tie.spec
+    Inv-loop
+    μ-loop
+    loop-holds
+    sub-turns
+    sub-feed
+    part-feed-start
+    part-feed-end
+    feed-requires
+    add-from
+    slice-reshare-prefix-write-all
+    slice-aggregate-write-all
+    write-all-requires
+    slice-aggregate-fail
+    fail-requires
+    same-length
+    same-length-2
+    same-length-3
+    same-length-4
+    returns
+    same-length-5
+    same-length-6
+    same-length-7
+    same-length-8
+    returns-2
+    carry-requires
+    same-length-9
+    same-length-10
+    same-length-11
+    same-length-12
+    returns-3
+    loop-less
+    loop-again
+    same-length-13
+    same-length-14
+    same-length-15
+    same-length-16
+    returns-4)

@@ -1,0 +1,44 @@
+use mathlib.Core.Path.{_≡_}
+use Prim.Native.Nat.{ℕ}
+use Rattle.model.specs.declared.Counts.{Counts}
+use Rattle.model.specs.World.{World}
+use Rattle.model.specs.Window.{windowSize}
+use Rattle.model.specs.Counts.{isKind, outFirst, isLost, entriesIn, countBelow, countsOf}
+use borrow.Author.Needs.{needs}
+use Rattle.counts.proofs.counts.Statement.{statement}
+use Rattle.counts.proofs.counts.Tie as tie
+
+-- the counts, one by one
+counted : (W : World) (f h d w l : ℕ) → f ≡ countBelow (isKind (W .log) 1) (entriesIn W) → h ≡ countBelow (isKind (W .log) 2) (entriesIn W) → d ≡ countBelow (outFirst (W .log)) (entriesIn W) → w ≡ windowSize W → l ≡ countBelow (isLost W (entriesIn W)) (entriesIn W) →
+    _≡_ {A = Counts} (record { finished = f; handouts = h; different = d; restarts = W .bench .restarts; window = w; lost = l }) (countsOf W)
+unfolding countsOf
+counted W f h d w l ef eh ed ew el = rw (ef, eh, ed, ew, el)
+
+entries-of-requires : tie.Need-entries-of-requires
+entries-of-requires c κs = search needs
+
+entries-of-requires-2 : tie.Need-entries-of-requires-2
+entries-of-requires-2 c κs = search needs
+
+different-out-requires : tie.Need-different-out-requires
+different-out-requires c κs = search needs
+
+window-size-requires : tie.Need-window-size-requires
+window-size-requires c κs = search needs
+
+lost-of-requires : tie.Need-lost-of-requires
+lost-of-requires c κs = search needs
+
+returns : tie.Need-returns
+returns c = counted _ _ _ _ _ _ (c .before .before .before .before .before .entries-of .ensures) (c .before .before .before .before .entries-of2 .ensures) (c .before .before .before .different-out .ensures) (c .before .window-size .ensures) (c .lost-of .ensures)
+
+pub counts-spec : {M : Type 1} → statement M
+counts-spec =
+    tie.close
+    (tie.spec
+    entries-of-requires
+    entries-of-requires-2
+    different-out-requires
+    window-size-requires
+    lost-of-requires
+    returns)

@@ -1,0 +1,10 @@
+pub mod Lines
+pub mod Ways
+pub mod Shows
+pub mod TwoLines
+pub mod Fronts
+pub mod Replies
+pub mod Stepping
+pub mod Feeding
+pub mod Cuts
+pub mod Runs

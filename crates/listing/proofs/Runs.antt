@@ -1,0 +1,24 @@
+-- Document 01's run P1 as text: from the bytes of its lines, computed to the bytes of its listing. Lines out of place, a damaged one
+-- and one after `end` are added.
+use mathlib.Core.Path.{_≡_, refl}
+use Rattle.model.specs.Tests.{if_then_else_, _and_, _or_}
+use Rattle.model.specs.Memory.{zeros, wordAt, setWord, offsetAt, sizeAt}
+use Rattle.model.specs.Lines.{lineStep}
+use Rattle.model.specs.Limits.{validOf}
+use Rattle.model.specs.Calls.{freshOf, beginOf, stepOf}
+use Rattle.model.specs.Counts.{someBelow, countBelow, countsOf}
+use Rattle.model.specs.Listing.{stepsOf, respond, listingFrom}
+use Rattle.text.specs.Quoted.{bytes}
+use Rattle.text.specs.Same.{same}
+use Rattle.text.specs.Numbers.{allDigits, plain, onward, valueOf, spelled, decimalOf, spacedOf, lineOf}
+use Rattle.text.specs.Words.{onto, words, lines, head, tail}
+use Rattle.text.specs.Commands.{keyOf, joined, values, formed, formedOf, commandOf}
+use Rattle.listing.specs.Shown.{shown, shownAll}
+use Rattle.listing.specs.Listing.{listingOf, wholeListing}
+
+run : wholeListing (bytes "put 65\nqueue 1 1 2 2 12\nput 65\nstep 0 5\nsteal 1\nstep 1 5\ntake\nqueue 1 1 2 2 12\nstep 0 7\nput 66\nstep 00 5\nstep 0 5\ntake\nstep 0 5\nput 67\nstep 0 5\nstep 1 1\nend\ntake") ≡ bytes "R 13\nD 1\nR 13\nH 0 1 65\nR 8\nR 13\nD 2\nH 0 2 66\nD 3\nH 1 1 65\nT 3 3 2 0 0 1\n"
+unfolding
+    if_then_else_ _and_ _or_ zeros wordAt setWord offsetAt sizeAt lineStep validOf freshOf beginOf stepOf someBelow countBelow countsOf stepsOf respond
+    listingFrom same allDigits plain onward valueOf spelled decimalOf spacedOf lineOf onto words lines head tail keyOf joined values formed formedOf
+    commandOf shown shownAll listingOf
+run = refl

@@ -1,0 +1,122 @@
+-- `step I M`, step by step.
+use Prim.Native.Nat.{ℕ, suc, _+_, _-_, _≤_, _<_}
+use native.Mathlib.Omega.{arith}
+use mathlib.Core.Path.{_≡_, refl, ap, sym, subst, _∙_}
+use mathlib.Core.Bool.{Bool, true, false}
+use mathlib.Core.List.{List, [], _++_, append-assoc, append-nil}
+use lib.ListN.{length, length-append}
+use Rattle.model.specs.declared.Answer.{Answer}
+use Rattle.model.specs.World.{World, Outcome}
+use Rattle.model.specs.Calls.{stepOf}
+use Rattle.model.specs.Listing.{playing, Reply, printed, isRefused, stepsOf}
+use Rattle.text.specs.Numbers.{Placed}
+use Rattle.text.proofs.Spell.{placed-more, placed-length}
+use Rattle.listing.specs.declared.Session.{Session}
+use Rattle.listing.specs.declared.Stepped.{Stepped}
+use Rattle.listing.specs.Shown.{shownAll}
+use Rattle.listing.specs.Sessions.{worldOf, PlayedBy, SteppedBy}
+use Rattle.listing.proofs.Shows.{show-none, show-append}
+use Rattle.listing.proofs.TwoLines.{steps-refused, steps-made, steps-most}
+use Rattle.listing.proofs.Replies.{played, program-live, left-on}
+
+-- what is left to do after some of the steps, from where the session stands
+abbrev toDo : Session → List ℕ → List ℕ → ℕ → ℕ → Reply
+toDo s m l i left = stepsOf (worldOf s m l) i left
+
+-- R is the line's whole reply: `text` of it stands in the output, and the steps left do the rest
+pub record Stepping (R : Reply) (s : Session) (m l : List ℕ) (i left : ℕ) (before : List ℕ) (at end : ℕ) (out : List ℕ) : Type 0 where
+  pub text : List ℕ
+  pub placed : Placed before at text end out
+  pub rest : shownAll (R .output) ≡ text ++ shownAll (toDo s m l i left .output)
+  pub program : R .program ≡ toDo s m l i left .program
+  pub live : s .live ≡ true
+
+pub stepping-start : (s : Session) (m l : List ℕ) (i times : ℕ) (before : List ℕ) (at : ℕ) → s .live ≡ true → Stepping (toDo s m l i times) s m l i times before at at before
+stepping-start s m l i times before at e = record {
+  text = [];
+  placed = record { ends = omega arith; put = refl };
+  rest = refl;
+  program = refl;
+  live = e;
+}
+
+steps-none : (W : World) (i left : ℕ) → left ≡ 0 → stepsOf W i left ≡ record { program = playing W; output = [] }
+unfolding stepsOf
+steps-none W i left e = rw e
+
+before-one : (left : ℕ) → 0 < left → left ≡ suc (left - 1)
+before-one left h = omega arith
+
+refused-now : (W : World) (i left : ℕ) → 0 < left → isRefused (stepOf W i .answer) ≡ true → stepsOf W i left ≡ record { program = playing (stepOf W i .world); output = printed (stepOf W i .answer) }
+refused-now W i left h e = ap (stepsOf W i) (before-one left h) ∙ steps-refused W i (left - 1) e
+
+made-now : (W : World) (i left : ℕ) → 0 < left → isRefused (stepOf W i .answer) ≡ false →
+    stepsOf W i left ≡ record { program = stepsOf (stepOf W i .world) i (left - 1) .program; output = printed (stepOf W i .answer) ++ stepsOf (stepOf W i .world) i (left - 1) .output }
+made-now W i left h e = ap (stepsOf W i) (before-one left h) ∙ steps-made W i (left - 1) e
+
+-- the next step's text is a part of what is left
+next-fits : (W : World) (i left : ℕ) → 0 < left → length (shownAll (printed (stepOf W i .answer))) ≤ length (shownAll (stepsOf W i left .output))
+next-fits W i left h = go (isRefused (stepOf W i .answer)) refl
+  where
+    go : (b : Bool) → isRefused (stepOf W i .answer) ≡ b → length (shownAll (printed (stepOf W i .answer))) ≤ length (shownAll (stepsOf W i left .output))
+    go true e = rw (refused-now W i left h e) (omega arith)
+    go false e = rw (made-now W i left h e, show-append, length-append) (omega arith)
+
+module _ (W : World) (times : ℕ) (s : Session) (m l : List ℕ) (i left : ℕ) (before : List ℕ) (at end : ℕ) (out : List ℕ) (σ : Stepping (stepsOf W i times) s m l i left before at end out) where
+  -- there is room for the next step's text, as a line's whole text fits
+  pub stepping-room : (a : Answer) → at + 72 ≤ length before → 0 < left → a ≡ stepOf (worldOf s m l) i .answer → end + length (shownAll (printed a)) ≤ length out
+  stepping-room a room h e =
+      let fits : length (shownAll (printed a)) ≤ length (shownAll (toDo s m l i left .output)) = rw e (next-fits (worldOf s m l) i left h) in
+      let whole : length (shownAll (stepsOf W i times .output)) ≡ length (σ .text) + length (shownAll (toDo s m l i left .output)) = ap length (σ .rest) ∙ length-append (σ .text) _ in
+      omega (arith, steps-most times W i, σ .placed .ends, placed-length before at (σ .text) end out (σ .placed), fits, whole)
+
+  -- no step is left
+  pub stepping-over : left ≡ 0 → PlayedBy (stepsOf W i times) (played s end) m l before at out
+  stepping-over e =
+      let none : toDo s m l i left ≡ record { program = playing (worldOf s m l); output = [] } = steps-none (worldOf s m l) i left e in record {
+        program = left-on false s m l refl ∙ program-live s m l (σ .live) ∙ sym (σ .program ∙ ap (λ (r : Reply). r .program) none);
+        text =
+            subst (λ (t : List ℕ). Placed before at t end out)
+            (sym (σ .rest ∙ ap (λ (r : Reply). σ .text ++ shownAll (r .output)) none ∙ ap (λ (t : List ℕ). σ .text ++ t) show-none ∙ append-nil (σ .text)))
+            (σ .placed);
+      }
+
+  module _ (h : 0 < left) (r : Stepped) (m′ l′ : List ℕ) (by : SteppedBy (stepOf (worldOf s m l) i) (s .words) r m′ l′) (end′ : ℕ) (out′ : List ℕ) (shows : Placed out end (shownAll (printed (r .answer))) end′ out′) where
+    answered : stepOf (worldOf s m l) i .answer ≡ r .answer
+    answered = ap (λ (d : Outcome). d .answer) (sym (by .outcome))
+
+    left-at : stepOf (worldOf s m l) i .world ≡ worldOf (r .session) m′ l′
+    left-at = ap (λ (d : Outcome). d .world) (sym (by .outcome))
+
+    behind : Placed before at (σ .text ++ shownAll (printed (r .answer))) end′ out′
+    behind = placed-more before at (σ .text) end out (shownAll (printed (r .answer))) end′ out′ (σ .placed) shows
+
+    -- the step was refused: the line ends here
+    pub stepping-stops : isRefused (r .answer) ≡ true → PlayedBy (stepsOf W i times) (played (r .session) end′) m′ l′ before at out′
+    stepping-stops e =
+        let now : toDo s m l i left ≡ record { program = playing (stepOf (worldOf s m l) i .world); output = printed (stepOf (worldOf s m l) i .answer) } =
+        refused-now (worldOf s m l) i left h (ap isRefused answered ∙ e) in record {
+          program =
+              left-on false (r .session) m′ l′ refl ∙ program-live (r .session) m′ l′ (by .live)
+              ∙ sym (σ .program ∙ ap (λ (x : Reply). x .program) now ∙ ap playing left-at);
+          text =
+              subst (λ (t : List ℕ). Placed before at t end′ out′)
+              (sym (σ .rest ∙ ap (λ (x : Reply). σ .text ++ shownAll (x .output)) now ∙ ap (λ (a : Answer). σ .text ++ shownAll (printed a)) answered)) behind;
+        }
+
+    -- the step was made: one fewer is left
+    pub stepping-on : isRefused (r .answer) ≡ false → Stepping (stepsOf W i times) (r .session) m′ l′ i (left - 1) before at end′ out′
+    stepping-on e =
+        let now : toDo s m l i left ≡ record { program = stepsOf (stepOf (worldOf s m l) i .world) i (left - 1) .program; output = printed (stepOf (worldOf s m l) i .answer) ++ stepsOf (stepOf (worldOf s m l) i .world) i (left - 1) .output } =
+        made-now (worldOf s m l) i left h (ap isRefused answered ∙ e) in record {
+          text = σ .text ++ shownAll (printed (r .answer));
+          placed = behind;
+          rest =
+              σ .rest ∙ ap (λ (x : Reply). σ .text ++ shownAll (x .output)) now
+              ∙ ap (λ (t : List ℕ). σ .text ++ t) (show-append (printed (stepOf (worldOf s m l) i .answer)) (stepsOf (stepOf (worldOf s m l) i .world) i (left - 1) .output))
+              ∙ sym (append-assoc (σ .text) _ _)
+              ∙ ap (λ (a : Answer). (σ .text ++ shownAll (printed a)) ++ shownAll (stepsOf (stepOf (worldOf s m l) i .world) i (left - 1) .output)) answered
+              ∙ ap (λ (X : World). (σ .text ++ shownAll (printed (r .answer))) ++ shownAll (stepsOf X i (left - 1) .output)) left-at;
+          program = σ .program ∙ ap (λ (x : Reply). x .program) now ∙ ap (λ (X : World). stepsOf X i (left - 1) .program) left-at;
+          live = by .live;
+        }

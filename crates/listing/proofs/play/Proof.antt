@@ -1,0 +1,45 @@
+use borrow.Author.Needs.{needs}
+use Rattle.listing.proofs.Replies.{program-live, program-waits}
+use Rattle.listing.proofs.play.Statement.{statement}
+use Rattle.listing.proofs.play.Tie as tie
+
+play-live-requires : tie.Need-play-live-requires
+play-live-requires c κs = (c .before .before .before .before .before .before .before .pre, c .before .before .before .if1 .taken)
+
+same-length : tie.Need-same-length
+same-length c = search needs
+
+same-length-2 : tie.Need-same-length-2
+same-length-2 c = search needs
+
+same-length-3 : tie.Need-same-length-3
+same-length-3 c = search needs
+
+returns : tie.Need-returns
+returns c = let a = c .before .before .before .before .before .before .before .before .before .before .before .before .before .before .args in rw (program-live (a .session) (a .store .now) (a .log .now) (c .before .before .before .before .before .before .before .before .before .before .if1 .taken)) (c .before .before .before .before .before .before .play-live .ensures)
+
+play-waiting-requires : tie.Need-play-waiting-requires
+play-waiting-requires c κs = (c .before .before .before .before .before .before .pre, c .before .before .if1 .left)
+
+same-length-4 : tie.Need-same-length-4
+same-length-4 c = search needs
+
+same-length-5 : tie.Need-same-length-5
+same-length-5 c = search needs
+
+returns-2 : tie.Need-returns-2
+returns-2 c = let a = c .before .before .before .before .before .before .before .before .before .before .before .args in rw (program-waits (a .session) (a .store .now) (a .log .now) (c .before .before .before .before .before .before .before .if1 .left)) (c .before .before .before .before .play-waiting .ensures (a .log .now))
+
+pub play-spec : {M : Type 1} → statement M
+play-spec =
+    tie.close
+    (tie.spec
+    play-live-requires
+    same-length
+    same-length-2
+    same-length-3
+    returns
+    play-waiting-requires
+    same-length-4
+    same-length-5
+    returns-2)

@@ -1,0 +1,76 @@
+-- What a session stands for, and what the calls on it leave. In each, m and l are the store and the log as the call left them.
+use mathlib.Core.Path.{_≡_}
+use mathlib.Core.Bool.{Bool, true, false}
+use mathlib.Core.List.{List, _++_}
+use Prim.Native.Nat.{ℕ, _+_, _≤_, _<_}
+use lib.ListN.{length, take, drop}
+use Rattle.model.specs.declared.Answer.{Answer}
+use Rattle.model.specs.declared.Answer.the-variants.{Accepted, Numbered, GoesOn, Finished, HandedOut, Empty, Full, Refused}
+use Rattle.model.specs.Tests.{if_then_else_}
+use Rattle.model.specs.World.{World, Outcome}
+use Rattle.model.specs.Calls.{lent}
+use Rattle.model.specs.Listing.{Program, waiting, playing, ended, Reply}
+use Rattle.text.specs.Numbers.{Placed}
+use Rattle.listing.specs.declared.Session.{Session}
+use Rattle.listing.specs.declared.Stepped.{Stepped}
+use Rattle.listing.specs.declared.Judged.{Judged}
+use Rattle.listing.specs.declared.Judged.the-variants.{Made, Stopped}
+use Rattle.listing.specs.declared.Played.{Played}
+use Rattle.listing.specs.declared.Fed.{Fed}
+use Rattle.listing.specs.declared.Ended.{Ended}
+use Rattle.listing.specs.Shown.{shownAll}
+use Rattle.listing.specs.Listing.{listingOf, Open}
+
+-- the bench that is played has the store's first words, and the whole log
+abbrev pub worldOf : Session → List ℕ → List ℕ → World
+worldOf s m l = lent (s .bench .state) (take (s .words) m) l
+
+abbrev pub programOf : Session → List ℕ → List ℕ → Program
+programOf s m l = if s .live then playing (worldOf s m l) else waiting m l
+
+-- after a line: `end` stops the program
+abbrev pub leftBy : Bool → Session → List ℕ → List ℕ → Program
+leftBy stops s m l = if stops then ended else programOf s m l
+
+-- a step's answer is a refusal, at which `step I M` stops, or not
+abbrev pub judgedOf : Answer → Judged
+judgedOf Accepted = Made
+judgedOf (Numbered n) = Made
+judgedOf GoesOn = Made
+judgedOf (Finished i t) = Made
+judgedOf (HandedOut i t) = Made
+judgedOf (Empty i) = Made
+judgedOf (Full i t) = Made
+judgedOf (Refused r) = Stopped
+
+-- one step was made: its outcome, in a session of as many words that is still live
+pub record SteppedBy (d : Outcome) (n : ℕ) (r : Stepped) (m l : List ℕ) : Type 0 where
+  pub outcome : record { world = worldOf (r .session) m l; answer = r .answer } ≡ d
+  pub words : r .session .words ≡ n
+  pub live : r .session .live ≡ true
+
+-- a line was played: the program stands where the model's reply leaves it, and the reply's text stands in the output from `at` on
+pub record PlayedBy (R : Reply) (p : Played) (m l before : List ℕ) (at : ℕ) (after : List ℕ) : Type 0 where
+  pub program : leftBy (p .stops) (p .session) m l ≡ R .program
+  pub text : Placed before at (shownAll (R .output)) (p .end) after
+
+-- A buffer was fed to a program at P: whatever bytes z come after it, the listing of all is what was written and then the listing of what is
+-- left of the buffer and z. So it does not matter how an input is cut into buffers. Feeding stops before a line's end only for want of room
+-- for one line's text.
+pub record FedBy (P : Program) (buf : List ℕ) (f : Fed) (m l out : List ℕ) : Type 0 where
+  pub within : f .used ≤ length buf
+  pub room : f .wrote ≤ length out
+  pub heard : (z : List ℕ) → listingOf P (buf ++ z) ≡ take (f .wrote) out ++ listingOf (leftBy (f .stops) (f .session) m l) (drop (f .used) buf ++ z)
+  pub rest : f .stops ≡ false → f .full ≡ false → Open (drop (f .used) buf)
+  pub goes : f .full ≡ true → length out < f .wrote + 72
+
+-- the bytes from `from` to n stand in front now, of more than 61 the first 61
+pub record CarriedBy (buf : List ℕ) (from n r : ℕ) (after : List ℕ) : Type 0 where
+  pub count : r ≡ length (take 61 (drop from (take n buf)))
+  pub moved : take r after ≡ take 61 (drop from (take n buf))
+
+-- The input ended in buf, a line without a newline or nothing; it was played unless there was no room for a line's text.
+pub record EndedBy (P : Program) (buf : List ℕ) (f : Ended) (out : List ℕ) : Type 0 where
+  pub room : f .wrote ≤ length out
+  pub heard : f .full ≡ false → Open buf → listingOf P buf ≡ take (f .wrote) out
+  pub goes : f .full ≡ true → length out < 72

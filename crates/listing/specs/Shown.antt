@@ -1,0 +1,19 @@
+-- What the program prints, as bytes.
+use mathlib.Core.List.{List, [], _∷_, _++_}
+use Prim.Native.Nat.{ℕ}
+use Prim.Native.Char.{code}
+use Rattle.model.specs.Listing.{Print, D, H, E, F, R, T}
+use Rattle.text.specs.Numbers.{lineOf}
+
+-- a line of output
+unfoldable pub shown : Print → List ℕ
+shown (D n) = lineOf (code "D") (n ∷ [])
+shown (H i n p) = lineOf (code "H") (i ∷ n ∷ p ∷ [])
+shown (E i) = lineOf (code "E") (i ∷ [])
+shown (F n) = lineOf (code "F") (n ∷ [])
+shown (R r) = lineOf (code "R") (r ∷ [])
+shown (T f h d r w l) = lineOf (code "T") (f ∷ h ∷ d ∷ r ∷ w ∷ l ∷ [])
+
+unfoldable pub shownAll : List Print → List ℕ
+shownAll [] = []
+shownAll (p ∷ ps) = shown p ++ shownAll ps
