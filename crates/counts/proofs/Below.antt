@@ -1,11 +1,14 @@
 -- Laws of the model's two recursions over 0 to n-1: what a loop up and a loop down keep.
 use mathlib.Core.Path.{_≡_, refl, sym, ap, _∙_}
 use mathlib.Core.Bool.{Bool, true, false}
-use Prim.Native.Nat.{ℕ, zero, suc, _+_, _≤_}
+use mathlib.Core.Logic.{⊎-elim}
+use Prim.Native.Nat.{ℕ, zero, suc, _+_, _≤_, _<_}
 use native.Mathlib.Omega.{arith}
+use native.Mathlib.Nat.{eq-or-lt-of-le}
 use native.Mathlib.Numerals.{add-one}
 use Rattle.model.specs.Tests.{if_then_else_, _or_}
 use Rattle.model.specs.Counts.{someBelow, countBelow}
+use Rattle.counts.proofs.Bools.{or-true, or-false}
 
 module _ (p : ℕ → Bool) where
   -- a loop down that keeps `someBelow p n ≡ someBelow p j`, at its test of k = j - 1 and at its end
@@ -20,6 +23,22 @@ module _ (p : ℕ → Bool) where
   pub some-none : (n j : ℕ) → someBelow p n ≡ someBelow p j → j ≡ 0 → false ≡ someBelow p n
   unfolding someBelow
   some-none n j i e = sym (i ∙ rw e)
+
+  -- one that passes is enough, wherever it stands
+  pub some-at : {x : Bool} (n k : ℕ) → k < n → x ≡ p k → x ≡ true → true ≡ someBelow p n
+  unfolding someBelow _or_
+  some-at zero k h e t = absurd (let z : ⊥ = omega arith in z)
+  some-at (suc n) k h e t =
+      ⊎-elim (λ q. let w : p n ≡ true = ap p (sym q) ∙ sym e ∙ t in rw w) (λ q. rw (sym (some-at n k q e t)) (sym (or-true (p n))))
+      (eq-or-lt-of-le (let le : k ≤ n = omega arith in le))
+
+  -- a loop up from h that keeps `someBelow p j ≡ someBelow p h`, after its test of j and at its end, where what lies below h is asked
+  pub up-miss : {x : Bool} (h j : ℕ) → someBelow p j ≡ someBelow p h → x ≡ p j → x ≡ false → someBelow p (j + 1) ≡ someBelow p h
+  unfolding someBelow _or_
+  up-miss h j i e f = rw (add-one j, sym e ∙ f) i
+
+  pub up-all : {r : Bool} (h n j : ℕ) → someBelow p j ≡ someBelow p h → j ≤ n → n ≤ j → r ≡ someBelow p h → r ≡ someBelow p n
+  up-all h n j i a b e = e ∙ sym i ∙ ap (someBelow p) (let z : j ≡ n = omega arith in z)
 
   -- a loop up that keeps `count ≡ countBelow p j`, at its start, after its test of j and at its end
   pub count-none : 0 ≡ countBelow p 0
@@ -42,3 +61,9 @@ module _ (p : ℕ → Bool) where
   unfolding countBelow
   count-le zero = omega arith
   count-le (suc n) = pick (p n) (countBelow p n) n (count-le n)
+
+-- where no place passes a test, none passes a stricter one
+pub none-stricter : (p q : ℕ → Bool) (n : ℕ) → ((k : ℕ) → p k ≡ false → q k ≡ false) → someBelow p n ≡ false → someBelow q n ≡ false
+unfolding someBelow _or_
+none-stricter p q zero f e = refl
+none-stricter p q (suc n) f e = let o = or-false (p n) (someBelow p n) e in rw (f n (o .0)) (none-stricter p q n f (o .1))

@@ -1,3 +1,4 @@
 pub mod Below
 pub mod Bools
 pub mod Places
+pub mod Seen

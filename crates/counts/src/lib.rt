@@ -2,7 +2,7 @@
 ghost use mathlib.Core.Path.{_≡_};
 ghost use mathlib.Core.List.{[]};
 ghost use Prim.Native.Nat.{_+_, _-_, _/_, _%_, _≤_, _<_};
-ghost use lib.ListN.{getD};
+ghost use lib.ListN.{length, getD};
 ghost use Rattle.model.specs.Tests.{if_then_else_, _and_};
 ghost use Rattle.model.specs.Memory.{nowhere};
 ghost use Rattle.model.specs.Figures.{slot};
@@ -21,7 +21,8 @@ ghost use Rattle.model.specs.Counts.{
   isLost,
   countsOf,
 };
-ghost use Rattle.counts.specs.Places.{Slot, windowTask};
+ghost use Rattle.counts.specs.Places.{Slot, windowTask, stands};
+ghost use Rattle.counts.specs.Seen.{Seen};
 use model::Anchor;
 use model::Bench;
 use model::Counts;
@@ -113,8 +114,32 @@ fn out_as(log: &[u32], number: u32, entry: u32) -> bool
     both(handed, same)
 }
 
+// The table `seen` spares scans of the log. At the remainder of a put number it has 1 more than the last entry that
+// hands out a number of this remainder, and 0 where none does. A 0 is sure; an entry is looked at again, since
+// numbers can share a remainder.
+fn seen_at(seen: &[u32; 4096], number: u32) -> u32
+    ensures { λ r. ⌜ r ≡ getD (now (seen .entry)) (number % 4096) 0 ⌝ }
+{
+    let at = (number % 4096) as usize;
+    seen[at]
+}
+
+// Where entry `entry` is a hand-out, the table now has it.
+fn note(log: &[u32], seen: &mut [u32; 4096], entry: u32)
+    requires { ⌜ entry < 4294967295 ⌝ }
+    requires { ⌜ Seen (now log) (now seen) entry ⌝ }
+    ensures { λ _. ⌜ Seen (now (log .entry)) (now (seen .exit)) (entry + 1) ⌝ }
+{
+    let handed = is_kind(log, 2, entry);
+    if handed {
+        let t = task_at(log, entry);
+        let at = (t.number % 4096) as usize;
+        seen[at] = entry + 1;
+    }
+}
+
 // One of the first `n` entries hands out this put number.
-fn number_out(log: &[u32], number: u32, n: u32) -> bool
+fn number_below(log: &[u32], number: u32, n: u32) -> bool
     ensures { λ r. ⌜ r ≡ someBelow (outAs (now (log .entry)) number) n ⌝ }
 {
     let mut j = n;
@@ -129,27 +154,50 @@ fn number_out(log: &[u32], number: u32, n: u32) -> bool
     false
 }
 
+// The same by the table. It scans only where the entry there hands out another number.
+fn number_out(log: &[u32], seen: &[u32; 4096], number: u32, n: u32) -> bool
+    requires { ⌜ Seen (now log) (now seen) n ⌝ }
+    ensures { λ r. ⌜ r ≡ someBelow (outAs (now (log .entry)) number) n ⌝ }
+{
+    let last = seen_at(seen, number);
+    if last == 0 {
+        return false;
+    }
+    let k = last - 1;
+    if k < n {
+        let hit = out_as(log, number, k);
+        if hit {
+            return true;
+        }
+    }
+    number_below(log, number, n)
+}
+
 // Entry `entry` hands out a put number that no entry before it does.
-fn out_first(log: &[u32], entry: u32) -> bool
+fn out_first(log: &[u32], seen: &[u32; 4096], entry: u32) -> bool
+    requires { ⌜ Seen (now log) (now seen) entry ⌝ }
     ensures { λ r. ⌜ r ≡ outFirst (now (log .entry)) entry ⌝ }
 {
     let handed = is_kind(log, 2, entry);
     if handed {
         let t = task_at(log, entry);
-        let before = number_out(log, t.number, entry);
+        let before = number_out(log, seen, t.number, entry);
         return !before;
     }
     false
 }
 
-// How many different put numbers the first `n` entries hand out.
-fn different_out(log: &[u32], n: u32) -> u32
+// How many different put numbers the first `n` entries hand out. The table, whatever it had, then has these entries.
+fn different_out(log: &[u32], seen: &mut [u32; 4096], n: u32) -> u32
+    requires { ⌜ length (now seen) ≡ 4096 ⌝ }
     ensures { λ r. ⌜ r ≡ countBelow (outFirst (now (log .entry))) n ⌝ }
+    ensures { λ _. ⌜ Seen (now (log .entry)) (now (seen .exit)) n ⌝ }
 {
     let mut count: u32 = 0;
     let mut j: u32 = 0;
     while j < n {
-        let hit = out_first(log, j);
+        let hit = out_first(log, seen, j);
+        note(log, seen, j);
         count = one_more(count, hit);
         j += 1;
     }
@@ -167,7 +215,7 @@ fn out_whole(log: &[u32], task: Task, entry: u32) -> bool
 }
 
 // One of the first `n` entries hands out the task.
-fn task_out(log: &[u32], task: Task, n: u32) -> bool
+fn task_below(log: &[u32], task: Task, n: u32) -> bool
     ensures { λ r. ⌜ r ≡ someBelow (outWhole (now (log .entry)) task) n ⌝ }
 {
     let mut j = n;
@@ -180,6 +228,25 @@ fn task_out(log: &[u32], task: Task, n: u32) -> bool
         j = k;
     }
     false
+}
+
+// The same by the table. It scans only where the entry there hands out another task.
+fn task_out(log: &[u32], seen: &[u32; 4096], task: Task, n: u32) -> bool
+    requires { ⌜ Seen (now log) (now seen) n ⌝ }
+    ensures { λ r. ⌜ r ≡ someBelow (outWhole (now (log .entry)) task) n ⌝ }
+{
+    let last = seen_at(seen, task.number);
+    if last == 0 {
+        return false;
+    }
+    let k = last - 1;
+    if k < n {
+        let hit = out_whole(log, task, k);
+        if hit {
+            return true;
+        }
+    }
+    task_below(log, task, n)
 }
 
 // a - b, and 0 where b is larger.
@@ -266,16 +333,17 @@ fn window_task(kind: Kind, anchor: Anchor, array: Region, store: &[u32], i: u32)
     Task { number, payload }
 }
 
-// A slot of the window holds the task.
-fn in_window(bench: Bench, store: &[u32], task: Task) -> bool
-    ensures { λ r.
-        ⌜ r ≡ someBelow (standsAt (lent bench (now (store .entry)) []) task) (windowSize (lent bench (now (store .entry)) [])) ⌝ }
+// One of the window's first `n` tasks is this one.
+fn stands_below(
+    kind: Kind,
+    anchor: Anchor,
+    array: Region,
+    store: &[u32],
+    task: Task,
+    n: u32,
+) -> bool
+    ensures { λ r. ⌜ r ≡ someBelow (stands kind anchor array (now (store .entry)) task) n ⌝ }
 {
-    let kind = bench.kind;
-    let queue = bench.queue;
-    let anchor = queue.anchor;
-    let array = current(queue);
-    let n = window_size(kind, anchor);
     let mut j = n;
     while 0 < j {
         let k = j - 1;
@@ -289,31 +357,78 @@ fn in_window(bench: Bench, store: &[u32], task: Task) -> bool
     false
 }
 
+// Where a scan up to `b` starts: at `a`, but not past its end.
+fn least(a: u32, b: u32) -> u32
+    ensures { λ r. ⌜ r ≤ b ⌝ }
+{
+    if a < b {
+        return a;
+    }
+    b
+}
+
+// A slot of the window holds the task. The window has its tasks in the order of their puts, in which they are asked
+// for: so the scan starts at `from`, just past the task found last, and what lies below comes after.
+fn in_window(bench: Bench, store: &[u32], task: Task, from: &mut u32) -> bool
+    ensures { λ r.
+        ⌜ r ≡ someBelow (standsAt (lent bench (now (store .entry)) []) task) (windowSize (lent bench (now (store .entry)) [])) ⌝ }
+{
+    let kind = bench.kind;
+    let queue = bench.queue;
+    let anchor = queue.anchor;
+    let array = current(queue);
+    let n = window_size(kind, anchor);
+    let start = least(*from, n);
+    let mut j = start;
+    while j < n {
+        let t = window_task(kind, anchor, array, store, j);
+        let hit = same_task(t, task);
+        let next = j + 1;
+        if hit {
+            *from = next;
+            return true;
+        }
+        j = next;
+    }
+    stands_below(kind, anchor, array, store, task, start)
+}
+
 // Of `n` entries, entry `entry` is a finished put that none hands out and no slot of the window holds.
-fn is_lost(bench: Bench, store: &[u32], log: &[u32], n: u32, entry: u32) -> bool
+fn is_lost(
+    bench: Bench,
+    store: &[u32],
+    log: &[u32],
+    seen: &[u32; 4096],
+    from: &mut u32,
+    n: u32,
+    entry: u32,
+) -> bool
+    requires { ⌜ Seen (now log) (now seen) n ⌝ }
     ensures { λ r. ⌜ r ≡ isLost (lent bench (now (store .entry)) (now (log .entry))) n entry ⌝ }
 {
     let finished = is_kind(log, 1, entry);
     if finished {
         let t = task_at(log, entry);
-        let out = task_out(log, t, n);
+        let out = task_out(log, seen, t, n);
         if out {
             return false;
         }
-        let stands = in_window(bench, store, t);
+        let stands = in_window(bench, store, t, from);
         return !stands;
     }
     false
 }
 
 // How many finished puts of the first `n` entries are lost.
-fn lost_of(bench: Bench, store: &[u32], log: &[u32], n: u32) -> u32
+fn lost_of(bench: Bench, store: &[u32], log: &[u32], seen: &[u32; 4096], n: u32) -> u32
+    requires { ⌜ Seen (now log) (now seen) n ⌝ }
     ensures { λ r. ⌜ r ≡ countBelow (isLost (lent bench (now (store .entry)) (now (log .entry))) n) n ⌝ }
 {
+    let mut from: u32 = 0;
     let mut count: u32 = 0;
     let mut j: u32 = 0;
     while j < n {
-        let hit = is_lost(bench, store, log, n, j);
+        let hit = is_lost(bench, store, log, seen, &mut from, n, j);
         count = one_more(count, hit);
         j += 1;
     }
@@ -326,11 +441,12 @@ pub fn counts(bench: Bench, store: &[u32], log: &[u32]) -> Counts
     let n = bench.written / 4;
     let finished = entries_of(log, 1, n);
     let handouts = entries_of(log, 2, n);
-    let different = different_out(log, n);
+    let mut seen = [0u32; 4096];
+    let different = different_out(log, &mut seen, n);
     let queue = bench.queue;
     let kind = bench.kind;
     let window = window_size(kind, queue.anchor);
-    let lost = lost_of(bench, store, log, n);
+    let lost = lost_of(bench, store, log, &seen, n);
     Counts {
         finished,
         handouts,

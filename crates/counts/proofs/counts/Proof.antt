@@ -30,7 +30,7 @@ lost-of-requires : tie.Need-lost-of-requires
 lost-of-requires c κs = search needs
 
 returns : tie.Need-returns
-returns c = counted _ _ _ _ _ _ (c .before .before .before .before .before .entries-of .ensures) (c .before .before .before .before .entries-of2 .ensures) (c .before .before .before .different-out .ensures) (c .before .window-size .ensures) (c .lost-of .ensures)
+returns c = counted _ _ _ _ _ _ (c .before .before .before .before .before .before .before .entries-of .ensures) (c .before .before .before .before .before .before .entries-of2 .ensures) (c .before .before .before .before .different-out .ensures .0) (c .before .before .window-size .ensures) (c .lost-of .ensures)
 
 pub counts-spec : {M : Type 1} → statement M
 counts-spec =

@@ -27,10 +27,10 @@ in-window-requires : tie.Need-in-window-requires
 in-window-requires c κs = search needs
 
 returns-2 : tie.Need-returns-2
-returns-2 c = let a = c .before .before .before .before .before .before .before .before .args in
-    false-or (c .before .before .task-out .ensures ∙ ap (λ (t : Task). someBelow (outWhole (a .log .now) t) (a .n)) (c .before .before .before .task-at .ensures)) (c .before .if2 .left)
-    (c .in-window .ensures ∙ ap (λ (t : Task). someBelow (standsAt (lent (a .bench) (a .store .now) []) t) (windowSize (lent (a .bench) (a .store .now) []))) (c .before .before .before .task-at .ensures))
-    ∙ true-and (c .before .before .before .before .before .is-kind .ensures) (c .before .before .before .before .if1 .taken)
+returns-2 c = let a = c .before .before .before .before .before .before .before .before .before .args in
+    false-or (c .before .before .before .task-out .ensures ∙ ap (λ (t : Task). someBelow (outWhole (a .log .now) t) (a .n)) (c .before .before .before .before .task-at .ensures)) (c .before .before .if2 .left)
+    (c .in-window .ensures ∙ ap (λ (t : Task). someBelow (standsAt (lent (a .bench) (a .store .now) []) t) (windowSize (lent (a .bench) (a .store .now) []))) (c .before .before .before .before .task-at .ensures))
+    ∙ true-and (c .before .before .before .before .before .before .is-kind .ensures) (c .before .before .before .before .before .if1 .taken)
 
 returns-3 : tie.Need-returns-3
 returns-3 c = false-and _ (c .before .is-kind .ensures) (c .if1 .left)

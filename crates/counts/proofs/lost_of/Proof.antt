@@ -9,10 +9,10 @@ use Rattle.counts.proofs.lost_of.Statement.{statement}
 use Rattle.counts.proofs.lost_of.Tie as tie
 
 abbrev Inv-loop : tie.InvT-loop
-Inv-loop bench store log n count₀ j₀ count j = (j ≤ n) × (count ≡ countBelow (isLost (lent bench store log) n) j)
+Inv-loop bench store log seen n from₀ count₀ j₀ from count j = (j ≤ n) × (count ≡ countBelow (isLost (lent bench store log) n) j)
 
 abbrev μ-loop : tie.MeasureT-loop
-μ-loop bench store log n count₀ j₀ count j = n - j
+μ-loop bench store log seen n from₀ count₀ j₀ from count j = n - j
 
 loop-holds : tie.Need-loop-holds Inv-loop μ-loop
 loop-holds c = (omega arith, count-none _)
@@ -21,7 +21,7 @@ is-lost-requires : tie.Need-is-lost-requires Inv-loop μ-loop
 is-lost-requires c κs = search needs
 
 one-more-requires : tie.Need-one-more-requires Inv-loop μ-loop
-one-more-requires c κs = let l = c .before .before .loop in omega (arith, l .inv .1, count-le (isLost (lent (c .before .before .before .before .before .args .bench) (c .before .before .before .before .before .args .store .now) (c .before .before .before .before .before .args .log .now)) (c .before .before .before .before .before .args .n)) (l .j))
+one-more-requires c κs = let l = c .before .before .before .loop in let a = c .before .before .before .before .before .before .args in omega (arith, l .inv .1, count-le (isLost (lent (a .bench) (a .store .now) (a .log .now)) (a .n)) (l .j))
 
 add-j : tie.Need-add-j Inv-loop μ-loop
 add-j c = omega arith
@@ -30,7 +30,7 @@ loop-less : tie.Need-loop-less Inv-loop μ-loop
 loop-less c = omega arith
 
 loop-again : tie.Need-loop-again Inv-loop μ-loop
-loop-again c = let l = c .before .before .before .loop in (omega arith, count-next _ (l .j) (l .inv .1) (c .before .is-lost .ensures) (c .one-more .ensures))
+loop-again c = let l = c .before .before .before .before .loop in (omega arith, count-next _ (l .j) (l .inv .1) (c .before .is-lost .ensures) (c .one-more .ensures))
 
 returns : tie.Need-returns Inv-loop μ-loop
 returns c = let l = c .before .loop in count-all _ _ (l .j) (l .inv .0) (c .loop-test .left) (l .inv .1)

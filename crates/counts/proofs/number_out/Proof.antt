@@ -1,49 +1,38 @@
-use Rattle.model.specs.Counts.{someBelow, outAs}
-use Prim.Native.Nat.{_-_}
-use mathlib.Core.Path.{_≡_, refl}
-use native.Mathlib.Omega.{arith}
+use mathlib.Core.Path.{sym, _∙_}
+use Rattle.counts.proofs.Below.{some-at}
 use borrow.Author.Needs.{needs}
-use Rattle.counts.proofs.Below.{some-hit, some-miss, some-none}
 use Rattle.counts.proofs.number_out.Statement.{statement}
 use Rattle.counts.proofs.number_out.Tie as tie
 
-abbrev Inv-loop : tie.InvT-loop
-Inv-loop log number n j₀ j = someBelow (outAs log number) n ≡ someBelow (outAs log number) j
+seen-at-requires : tie.Need-seen-at-requires
+seen-at-requires c κs = search needs
 
-abbrev μ-loop : tie.MeasureT-loop
-μ-loop log number n j₀ j = j
+returns : tie.Need-returns
+returns c = sym (c .before .before .before .pre .none _ (sym (c .before .seen-at .ensures) ∙ c .if1 .taken))
 
-loop-holds : tie.Need-loop-holds Inv-loop μ-loop
-loop-holds c = refl
+sub-k : tie.Need-sub-k
+sub-k c = search needs
 
-sub-k : tie.Need-sub-k Inv-loop μ-loop
-sub-k c = omega arith
-
-out-as-requires : tie.Need-out-as-requires Inv-loop μ-loop
+out-as-requires : tie.Need-out-as-requires
 out-as-requires c κs = search needs
 
-returns : tie.Need-returns Inv-loop μ-loop
-returns c = let l = c .before .before .before .loop in some-hit _ _ (l .j) (l .j - 1) (l .inv) (omega arith) (c .before .out-as .ensures) (c .if1 .taken)
+returns-2 : tie.Need-returns-2
+returns-2 c = some-at _ _ _ (c .before .before .if2 .taken) (c .before .out-as .ensures) (c .if3 .taken)
 
-loop-less : tie.Need-loop-less Inv-loop μ-loop
-loop-less c = omega arith
+number-below-requires : tie.Need-number-below-requires
+number-below-requires c κs = search needs
 
-loop-again : tie.Need-loop-again Inv-loop μ-loop
-loop-again c = let l = c .before .before .before .loop in some-miss _ _ (l .j) (l .j - 1) (l .inv) (omega arith) (c .before .out-as .ensures) (c .if1 .left)
-
-returns-2 : tie.Need-returns-2 Inv-loop μ-loop
-returns-2 c = let l = c .before .loop in some-none _ _ (l .j) (l .inv) (omega arith)
+returns-3 : tie.Need-returns-3
+returns-3 c = search needs
 
 pub number-out-spec : {M : Type 1} → statement M
 number-out-spec =
     tie.close
     (tie.spec
-    Inv-loop
-    μ-loop
-    loop-holds
+    seen-at-requires
+    returns
     sub-k
     out-as-requires
-    returns
-    loop-less
-    loop-again
-    returns-2)
+    returns-2
+    number-below-requires
+    returns-3)

@@ -1,49 +1,42 @@
-use Rattle.model.specs.Counts.{someBelow, outWhole}
-use Prim.Native.Nat.{_-_}
-use mathlib.Core.Path.{_≡_, refl}
-use native.Mathlib.Omega.{arith}
+use mathlib.Core.Path.{sym, _∙_}
+use Rattle.model.specs.Counts.{outAs, outWhole}
+use Rattle.counts.proofs.Below.{some-at, none-stricter}
+use Rattle.counts.proofs.Bools.{and-more}
 use borrow.Author.Needs.{needs}
-use Rattle.counts.proofs.Below.{some-hit, some-miss, some-none}
 use Rattle.counts.proofs.task_out.Statement.{statement}
 use Rattle.counts.proofs.task_out.Tie as tie
 
-abbrev Inv-loop : tie.InvT-loop
-Inv-loop log task n j₀ j = someBelow (outWhole log task) n ≡ someBelow (outWhole log task) j
+seen-at-requires : tie.Need-seen-at-requires
+seen-at-requires c κs = search needs
 
-abbrev μ-loop : tie.MeasureT-loop
-μ-loop log task n j₀ j = j
+returns : tie.Need-returns
+returns c = let a = c .before .before .before .args in
+    sym (none-stricter (outAs (a .log .now) (a .task .number)) (outWhole (a .log .now) (a .task)) (a .n) (λ k e. and-more _ _ _ e)
+    (c .before .before .before .pre .none _ (sym (c .before .seen-at .ensures) ∙ c .if1 .taken)))
 
-loop-holds : tie.Need-loop-holds Inv-loop μ-loop
-loop-holds c = refl
+sub-k : tie.Need-sub-k
+sub-k c = search needs
 
-sub-k : tie.Need-sub-k Inv-loop μ-loop
-sub-k c = omega arith
-
-out-whole-requires : tie.Need-out-whole-requires Inv-loop μ-loop
+out-whole-requires : tie.Need-out-whole-requires
 out-whole-requires c κs = search needs
 
-returns : tie.Need-returns Inv-loop μ-loop
-returns c = let l = c .before .before .before .loop in some-hit _ _ (l .j) (l .j - 1) (l .inv) (omega arith) (c .before .out-whole .ensures) (c .if1 .taken)
+returns-2 : tie.Need-returns-2
+returns-2 c = some-at _ _ _ (c .before .before .if2 .taken) (c .before .out-whole .ensures) (c .if3 .taken)
 
-loop-less : tie.Need-loop-less Inv-loop μ-loop
-loop-less c = omega arith
+task-below-requires : tie.Need-task-below-requires
+task-below-requires c κs = search needs
 
-loop-again : tie.Need-loop-again Inv-loop μ-loop
-loop-again c = let l = c .before .before .before .loop in some-miss _ _ (l .j) (l .j - 1) (l .inv) (omega arith) (c .before .out-whole .ensures) (c .if1 .left)
-
-returns-2 : tie.Need-returns-2 Inv-loop μ-loop
-returns-2 c = let l = c .before .loop in some-none _ _ (l .j) (l .inv) (omega arith)
+returns-3 : tie.Need-returns-3
+returns-3 c = search needs
 
 pub task-out-spec : {M : Type 1} → statement M
 task-out-spec =
     tie.close
     (tie.spec
-    Inv-loop
-    μ-loop
-    loop-holds
+    seen-at-requires
+    returns
     sub-k
     out-whole-requires
-    returns
-    loop-less
-    loop-again
-    returns-2)
+    returns-2
+    task-below-requires
+    returns-3)
