@@ -1,7 +1,10 @@
 // The bench program: reads lines from standard input and writes their listing to standard output. What it shows is proved in the
 // crate `listing`, on slices; here it is read in chunks and written before the next read.
+ghost use mathlib.Core.Path.{_≡_};
+ghost use mathlib.Core.Bool.{true};
 ghost use Prim.Native.Nat.{_≤_, _<_};
 ghost use lib.ListN.{length};
+ghost use Rattle.listing.specs.Sessions.{programOf, Reachable};
 ghost use Rattle.bench.specs.Input.{Within};
 use libc::STDIN_FILENO;
 use libc::STDOUT_FILENO;
@@ -48,7 +51,9 @@ fn play_some(
     out: &mut [u8],
 ) -> Turn
     requires { ⌜ n ≤ length (now buf) ⌝ }
+    requires { ⌜ Reachable (programOf session (now store) (now log)) ⌝ }
     ensures { λ r. ⌜ (r .have ≤ 61) × (r .have ≤ length (now (buf .exit))) ⌝ }
+    ensures { λ r. ⌜ (r .goes ≡ true → Reachable (programOf (r .session) (now (store .exit)) (now (log .exit)))) ⌝ }
 {
     let mut current = session;
     let mut from: usize = 0;
@@ -91,15 +96,6 @@ fn play_some(
     }
 }
 
-// Plays what is left when the input is over.
-fn play_last(session: Session, buf: &[u8], store: &mut [u32], log: &mut [u32], out: &mut [u8]) {
-    let f = listing::finish(session, buf, store, log, out);
-    let n = f.wrote;
-    if !io::write_all(STDOUT_FILENO, &out[..n]) {
-        os::fail(b"write");
-    }
-}
-
 fn run(buf: &mut [u8], store: &mut [u32], log: &mut [u32], out: &mut [u8])
     requires { ⌜ 61 < length (now buf) ⌝ }
 {
@@ -114,7 +110,13 @@ fn run(buf: &mut [u8], store: &mut [u32], log: &mut [u32], out: &mut [u8])
                 return;
             }
             Input::End => {
-                play_last(session, &buf[..have], store, log, out);
+                // a last line that no newline ends is played as if one did
+                if have == 0 {
+                    return;
+                }
+                buf[have] = b'\n';
+                let n = have + 1;
+                let _t = play_some(session, buf, n, store, log, out);
                 return;
             }
             Input::More(n) => {

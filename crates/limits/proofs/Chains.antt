@@ -42,6 +42,17 @@ rest true b e = e
 rest false true e = refl
 rest false false e = e
 
+-- a last test that holds falls away; a chain may be cut anywhere
+pub and-true : (a : Bool) → (a and true) ≡ (true and a)
+unfolding _and_
+and-true true = refl
+and-true false = refl
+
+pub and-assoc : (a b c : Bool) → (a and b and c) ≡ ((a and b) and c)
+unfolding _and_
+and-assoc true b c = refl
+and-assoc false b c = refl
+
 -- what owning an array of structs tells of its length
 pub mapped-length : {A B : Type 0} (f : A → B) (l : List A) (n : ℕ) → length (map f l) ≡ n → length l ≡ n
 mapped-length f l n e = sym (length-map l f) ∙ e

@@ -2,4 +2,4 @@ pub mod Chains
 pub mod Sizes
 pub mod Scan
 pub mod Directory
-pub mod Thieves
+pub mod Crew

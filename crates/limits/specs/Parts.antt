@@ -1,13 +1,18 @@
 -- Parts of the limits that a function of its own tests.
-use mathlib.Core.Bool.{Bool}
-use Prim.Native.Nat.{ℕ, _+_, _*_, _/_}
-use lib.Dec.{eqb, leb}
+use mathlib.Core.Bool.{Bool, true}
+use mathlib.Core.List.{List}
+use Prim.Native.Nat.{ℕ, zero, suc, _+_, _*_, _/_}
+use lib.Dec.{eqb, ltb, leb}
+use Rattle.model.specs.declared.Kind.{Kind}
+use Rattle.model.specs.declared.Line.{Line}
+use Rattle.model.specs.declared.Queue.{Queue}
 use Rattle.model.specs.declared.Region.{Region}
+use Rattle.model.specs.declared.Worker.{Worker}
 use Rattle.model.specs.declared.Bench.{Bench}
-use Rattle.model.specs.Tests.{_and_}
+use Rattle.model.specs.Tests.{if_then_else_, _and_}
 use Rattle.model.specs.Lines.{size}
-use Rattle.model.specs.World.{lineAt}
-use Rattle.model.specs.Limits.{isSize, anchorOk, numberOk, ownerOk, thievesOk}
+use Rattle.model.specs.World.{lineAt, isIdle}
+use Rattle.model.specs.Limits.{isSize, anchorOk, numberOk, ownerOk, thiefOk, thievesOk}
 
 -- an array's size in tasks
 abbrev pub tasksIn : Region → ℕ
@@ -23,10 +28,18 @@ followsOk p n =
     eqb (n .offset) (p .offset + 2 * tasksIn p)
     and eqb (n .length) (2 * (2 * tasksIn p)) and leb (2 * tasksIn p) 1024
 
+-- worker i at line l, in a crew of n
+abbrev pub memberOk : Kind → ℕ → Queue → ℕ → ℕ → Line → Bool
+memberOk κ w q n i l =
+    if eqb i 0 then ownerOk κ w q l else if ltb i n then thiefOk κ w q l else isIdle l
+
+-- the first k workers: the owner, and the thieves below k
+abbrev pub workersOk : Kind → ℕ → Queue → ℕ → List Worker → ℕ → Bool
+workersOk κ w q n l zero = true
+workersOk κ w q n l (suc k) = ownerOk κ w q (lineAt l 0) and thievesOk κ w q n l k
+
 -- the limits that follow those on the directory and the lent memory
 abbrev pub contentsOk : Bench → Bool
 contentsOk b =
     anchorOk (b .kind) (b .width) (size (b .queue)) (b .queue .anchor)
-    and numberOk (b .used)
-    and ownerOk (b .kind) (b .width) (b .queue) (lineAt (b .workers) 0)
-    and thievesOk (b .kind) (b .width) (b .queue) (b .crew) (b .workers) 7
+    and numberOk (b .used) and workersOk (b .kind) (b .width) (b .queue) (b .crew) (b .workers) 8

@@ -4,11 +4,11 @@
 ghost use mathlib.Core.Path.{_≡_};
 ghost use Prim.Native.Nat.{_+_, _-_, _*_, _/_, _^_, _≤_, _<_};
 ghost use lib.Dec.{eqb, ltb, leb};
-ghost use lib.ListN.{length};
+ghost use lib.ListN.{length, getD};
 ghost use Rattle.model.specs.Tests.{if_then_else_, _and_};
-ghost use Rattle.model.specs.Memory.{sizeAt};
+ghost use Rattle.model.specs.Memory.{nowhere, sizeAt};
 ghost use Rattle.model.specs.Lines.{size};
-ghost use Rattle.model.specs.World.{lineAt, stage, isIdle, isExpanding, isThiefs};
+ghost use Rattle.model.specs.World.{stage, isIdle, isExpanding};
 ghost use Rattle.model.specs.Limits.{
   isSize,
   widthOk,
@@ -28,13 +28,10 @@ ghost use Rattle.model.specs.Limits.{
   nextOk,
   numberOk,
   lineOk,
-  ownerOk,
-  thiefOk,
-  thievesOk,
   validOf,
 };
 ghost use Rattle.model.specs.Calls.{lent};
-ghost use Rattle.limits.specs.Parts.{startsOk, followsOk, contentsOk};
+ghost use Rattle.limits.specs.Parts.{startsOk, followsOk, memberOk, workersOk, contentsOk};
 use model::Anchor;
 use model::Bench;
 use model::Kind;
@@ -154,7 +151,8 @@ fn follows(before: Region, next: Region) -> bool
     2 * tasks <= 1024
 }
 
-// The arrays that are claimed.
+// The arrays that are claimed. An index that varies has the whole directory copied: it is bound once, and only where there
+// are two arrays to compare.
 fn tidy(queue: Queue) -> bool
     requires { ⌜ (0 < queue .claimed) × (queue .claimed ≤ 11) ⌝ }
     ensures { λ r. ⌜ r ≡ tidy (queue .arrays) (queue .claimed) ⌝ }
@@ -164,17 +162,34 @@ fn tidy(queue: Queue) -> bool
     if !starts(first) {
         return false;
     }
+    if claimed == 1 {
+        return true;
+    }
+    let arrays = queue.arrays;
+    let mut before = first;
     let mut last: usize = 0;
     while last + 1 < claimed {
-        let before = queue.arrays[last];
         let i = last + 1;
-        let next = queue.arrays[i];
+        let next = arrays[i];
         if !follows(before, next) {
             return false;
         }
+        before = next;
         last = i;
     }
     true
+}
+
+// A pair of the directory. The first is the commonest, and an index that is a constant copies only that pair.
+fn region_at(queue: Queue, place: u32) -> Region
+    requires { ⌜ place < 11 ⌝ }
+    ensures { λ r. ⌜ r ≡ getD (queue .arrays) place nowhere ⌝ }
+{
+    if place == 0 {
+        return queue.arrays[0];
+    }
+    let i = place as usize;
+    queue.arrays[i]
 }
 
 // The words that they take are in the store.
@@ -182,8 +197,8 @@ fn fits(queue: Queue, store: &[u32]) -> bool
     requires { ⌜ (0 < queue .claimed) × (queue .claimed ≤ 11) ⌝ }
     ensures { λ r. ⌜ r ≡ leb (taken queue) (length (now (store .entry))) ⌝ }
 {
-    let place = queue.claimed as usize - 1;
-    let last = queue.arrays[place];
+    let place = queue.claimed - 1;
+    let last = region_at(queue, place);
     let end = last.offset as usize + 2 * ((last.length / 2) as usize);
     end <= store.len()
 }
@@ -224,8 +239,7 @@ pub fn size_at(queue: Queue, place: u32) -> u32
     requires { ⌜ place < 11 ⌝ }
     ensures { λ r. ⌜ r ≡ sizeAt (queue .arrays) place ⌝ }
 {
-    let i = place as usize;
-    let region = queue.arrays[i];
+    let region = region_at(queue, place);
     region.length / 2
 }
 
@@ -464,73 +478,70 @@ fn line_ok(kind: Kind, width: u32, queue: Queue, tasks: u32, line: Line) -> bool
     }
 }
 
-// The owner is at a line of put or take.
-fn owner_ok(kind: Kind, width: u32, queue: Queue, tasks: u32, line: Line) -> bool
-    requires { ⌜ width ≤ 16 ⌝ }
-    requires { ⌜ queue .published ≤ 11 ⌝ }
-    requires { ⌜ tasks ≡ size queue ⌝ }
-    ensures { λ r. ⌜ r ≡ ownerOk kind width queue line ⌝ }
-{
-    both(stage(line) < 4, line_ok(kind, width, queue, tasks, line))
-}
-
 pub fn is_idle(line: Line) -> bool
     ensures { λ r. ⌜ r ≡ isIdle line ⌝ }
 {
     stage(line) == 0
 }
 
-// A thief is idle or at a line of steal.
-fn is_thiefs(line: Line) -> bool
-    ensures { λ r. ⌜ r ≡ isThiefs line ⌝ }
+// A worker that is not idle is at a line of its own operation: the owner's put or take, a thief's steal.
+fn own_line(worker: usize, at: u32) -> bool
+    ensures { λ r. ⌜ r ≡ (if eqb worker 0 then ltb at 4 else ltb 3 at) ⌝ }
+{
+    if worker == 0 { at < 4 } else { 3 < at }
+}
+
+// A worker at `line`. Most are idle and pass at once; a busy one outside the crew is refused.
+fn member_ok(
+    kind: Kind,
+    width: u32,
+    queue: Queue,
+    tasks: u32,
+    crew: usize,
+    worker: usize,
+    line: Line,
+) -> bool
+    requires { ⌜ width ≤ 16 ⌝ }
+    requires { ⌜ queue .published ≤ 11 ⌝ }
+    requires { ⌜ tasks ≡ size queue ⌝ }
+    requires { ⌜ 0 < crew ⌝ }
+    ensures { λ r. ⌜ r ≡ memberOk kind width queue crew worker line ⌝ }
 {
     let at = stage(line);
-    at == 0 || 3 < at
-}
-
-fn thief_ok(kind: Kind, width: u32, queue: Queue, tasks: u32, line: Line) -> bool
-    requires { ⌜ width ≤ 16 ⌝ }
-    requires { ⌜ queue .published ≤ 11 ⌝ }
-    requires { ⌜ tasks ≡ size queue ⌝ }
-    ensures { λ r. ⌜ r ≡ thiefOk kind width queue line ⌝ }
-{
-    both(is_thiefs(line), line_ok(kind, width, queue, tasks, line))
-}
-
-// Worker `i` of a crew: a thief, or idle where it is outside the crew.
-fn thief_or_idle(kind: Kind, width: u32, queue: Queue, tasks: u32, inside: bool, line: Line) -> bool
-    requires { ⌜ width ≤ 16 ⌝ }
-    requires { ⌜ queue .published ≤ 11 ⌝ }
-    requires { ⌜ tasks ≡ size queue ⌝ }
-    ensures { λ r. ⌜ r ≡ (if inside then thiefOk kind width queue line else isIdle line) ⌝ }
-{
-    if inside {
-        thief_ok(kind, width, queue, tasks, line)
-    } else {
-        is_idle(line)
+    if at == 0 {
+        return true;
     }
+    if crew <= worker {
+        return false;
+    }
+    if !own_line(worker, at) {
+        return false;
+    }
+    line_ok(kind, width, queue, tasks, line)
 }
 
-// Workers 1 to 7.
-fn thieves_ok(bench: Bench, tasks: u32) -> bool
+// The eight workers, owner and thieves in one loop: the tests of a line are long, and the compiler puts them in place only
+// where they are called once.
+fn workers_ok(bench: Bench, tasks: u32) -> bool
     requires { ⌜ bench .width ≤ 16 ⌝ }
     requires { ⌜ bench .queue .published ≤ 11 ⌝ }
     requires { ⌜ tasks ≡ size (bench .queue) ⌝ }
-    ensures { λ r. ⌜ r ≡ thievesOk (bench .kind) (bench .width) (bench .queue) (bench .crew) (bench .workers) 7 ⌝ }
+    requires { ⌜ 0 < bench .crew ⌝ }
+    ensures { λ r. ⌜ r ≡ workersOk (bench .kind) (bench .width) (bench .queue) (bench .crew) (bench .workers) 8 ⌝ }
 {
     let kind = bench.kind;
     let queue = bench.queue;
     let width = bench.width;
     let crew = bench.crew as usize;
-    let mut last: usize = 0;
-    while last < 7 {
-        let i = last + 1;
-        let worker = bench.workers[i];
+    let workers = bench.workers;
+    let mut i: usize = 0;
+    while i < 8 {
+        let worker = workers[i];
         let line = worker.line;
-        if !thief_or_idle(kind, width, queue, tasks, i < crew, line) {
+        if !member_ok(kind, width, queue, tasks, crew, i, line) {
             return false;
         }
-        last = i;
+        i += 1;
     }
     true
 }
@@ -539,6 +550,7 @@ fn thieves_ok(bench: Bench, tasks: u32) -> bool
 fn contents_ok(bench: Bench) -> bool
     requires { ⌜ bench .width ≤ 16 ⌝ }
     requires { ⌜ (0 < bench .queue .published) × (bench .queue .published ≤ 11) ⌝ }
+    requires { ⌜ 0 < bench .crew ⌝ }
     ensures { λ r. ⌜ r ≡ contentsOk bench ⌝ }
 {
     let kind = bench.kind;
@@ -553,12 +565,7 @@ fn contents_ok(bench: Bench) -> bool
     if !number_ok(bench.used) {
         return false;
     }
-    let owner = bench.workers[0];
-    let line = owner.line;
-    if !owner_ok(kind, width, queue, tasks, line) {
-        return false;
-    }
-    thieves_ok(bench, tasks)
+    workers_ok(bench, tasks)
 }
 
 // The state, with the lengths of its lent memory, is no foreign one.

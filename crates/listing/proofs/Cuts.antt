@@ -17,16 +17,14 @@ use Rattle.text.specs.Words.{lines, head, tail}
 use Rattle.text.specs.Commands.{commandOf}
 use Rattle.text.proofs.Long.{line-long}
 use Rattle.listing.specs.declared.Fed.{Fed}
-use Rattle.listing.specs.declared.Ended.{Ended}
-use Rattle.listing.specs.declared.Played.{Played}
 use Rattle.listing.specs.Shown.{shownAll}
-use Rattle.listing.specs.Listing.{listingOf, Open}
-use Rattle.listing.specs.Sessions.{programOf, leftBy, PlayedBy, FedBy, CarriedBy, EndedBy}
-use Rattle.listing.proofs.Lines.{open-line, open-take}
+use Rattle.listing.specs.Listing.{listingOf, front, Open}
+use Rattle.listing.specs.Sessions.{programOf, leftBy, FedBy, CarriedBy}
+use Rattle.text.proofs.Lists.{done}
+use Rattle.listing.proofs.Lines.{decide, front-newline, front-more, open-line, open-take}
 use Rattle.listing.proofs.Shows.{show-none}
 use Rattle.listing.proofs.Fronts.{lent-front}
-use Rattle.listing.proofs.Feeding.{respond-most, taken, played-fits, listing-one}
-use Rattle.listing.proofs.Ways.{never}
+use Rattle.listing.proofs.Feeding.{listing-one, heard-line}
 use Rattle.listing.proofs.Replies.{left-on}
 
 pub listing-none : (P : Program) → listingOf P [] ≡ []
@@ -84,21 +82,28 @@ cut P (b ∷ s) z h = go (ltb 60 (length (b ∷ s))) refl
         (ap (λ (ls : List (List ℕ)). shownAll (listingFrom P (map commandOf ls))) (open-line b s z h) ∙ same-command _ _ (tail (lines z)) (longs k (head (lines z)))
         ∙ sym (ap (λ (ls : List (List ℕ)). shownAll (listingFrom P (map commandOf ls))) (open-line b (take 60 s) z (open-take 61 (b ∷ s) h))))
 
--- the last line was played; there was none; there was no room for it
-pub ended-by : (P : Program) (buf out : List ℕ) (p : Played) (m l after : List ℕ) → (length buf ≡ 0 → ⊥) → 72 ≤ length out → PlayedBy (respond P (commandOf buf)) p m l out 0 after →
-    EndedBy P buf (record { wrote = p .end; full = false }) after
-ended-by P buf out p m l after n h by = record {
-  room = played-fits P (commandOf buf) out 0 p m l after (omega arith) by;
-  heard = λ x o. listing-last P buf n o ∙ sym (taken out 0 _ (p .end) after (by .text) (omega (arith, respond-most P (commandOf buf))));
-  goes = λ x. never (sym x);
-}
+-- a line that has begun, with a newline behind it
+front-closed : (s : List ℕ) → Open s → front (s ++ 10 ∷ []) ≡ s
+front-closed [] h = front-newline 10 [] refl
+front-closed (b ∷ s) h = decide b
+    (λ e. absurd (let z : ⊥ = omega (arith, ap length (front-newline b s e)) in z))
+    (λ n. front-more b (s ++ 10 ∷ []) n ∙ ap (λ (l : List ℕ). b ∷ l) (front-closed s (let z : Open s = omega (arith, ap length (front-more b s n)) in z)))
 
-pub ended-none : (P : Program) (buf out : List ℕ) → length buf ≡ 0 → EndedBy P buf (record { wrote = 0; full = false }) out
-ended-none P [] out e = record { room = omega arith; heard = λ x o. listing-none P; goes = λ x. never (sym x) }
-ended-none P (b ∷ t) out e = absurd (let z : ⊥ = omega arith in z)
+-- the last line is played as if a newline ended it
+pub closed : (P : Program) (buf : List ℕ) → (length buf ≡ 0 → ⊥) → Open buf → listingOf P buf ≡ listingOf P (buf ++ 10 ∷ [])
+closed P buf n h = listing-last P buf n h ∙ sym (ap (listingOf P) (sym (append-nil _)) ∙ one)
+  where
+    whole-line : length (front (buf ++ 10 ∷ [])) < length (buf ++ 10 ∷ [])
+    whole-line = rw (front-closed buf h, length-append buf (10 ∷ [])) (omega arith)
 
-pub ended-full : (P : Program) (buf out : List ℕ) → length out < 72 → EndedBy P buf (record { wrote = 0; full = true }) out
-ended-full P buf out h = record { room = omega arith; heard = λ x. never x; goes = λ x. h }
+    none : drop (length (front (buf ++ 10 ∷ [])) + 1) (buf ++ 10 ∷ []) ≡ []
+    none = done (buf ++ 10 ∷ []) (length (front (buf ++ 10 ∷ [])) + 1) (rw (front-closed buf h, length-append buf (10 ∷ [])) (omega arith))
+
+    one : listingOf P ((buf ++ 10 ∷ []) ++ []) ≡ shownAll (respond P (commandOf buf) .output)
+    one = heard-line P (buf ++ 10 ∷ []) [] P (buf ++ 10 ∷ []) (λ z. refl) whole-line []
+        ∙ ap (λ (l : List ℕ). shownAll (respond P (commandOf l) .output) ++ listingOf (respond P (commandOf l) .program) (drop (length l + 1) (buf ++ 10 ∷ []) ++ [])) (front-closed buf h)
+        ∙ ap (λ (l : List ℕ). shownAll (respond P (commandOf buf) .output) ++ listingOf (respond P (commandOf buf) .program) (l ++ [])) (ap (λ (l : List ℕ). drop (length l + 1) (buf ++ 10 ∷ [])) (sym (front-closed buf h)) ∙ none)
+        ∙ ap (λ (l : List ℕ). shownAll (respond P (commandOf buf) .output) ++ l) (listing-none _) ∙ append-nil _
 
 -- one byte more moved to the front
 pub carry-step : (b₀ b : List ℕ) (from i : ℕ) → from + i < length b → take i b ≡ take i (drop from b₀) → drop i b ≡ drop i b₀ → length b ≡ length b₀ →
@@ -140,14 +145,15 @@ carried buf from n to r after e f g = record { count = sym (ap length (sym same)
     long = length-take r (drop from buf) ∙ (let z : min r (length (drop from buf)) ≡ r = omega (arith, length-drop from buf, e, f) in z)
 
 -- What a program does with an input that comes in chunks: it reads one behind what it has, feeds what it has, drops what it need not keep, until
--- an `end` is accepted or the input is over. P is where it stands, buf what it has, the chunks are still to come; the last argument is what it
+-- an `end` is accepted or the input is over; a last line without a newline gets one. P is where it stands, buf what it has, the chunks are still to come; the last argument is what it
 -- writes.
 pub data Stream : Program → List ℕ → List (List ℕ) → List ℕ → Type 0 where
   reads : {P : Program} {buf c text : List ℕ} {cs : List (List ℕ)} → Stream P (buf ++ c) cs text → Stream P buf (c ∷ cs) text
   feeds : {P : Program} {buf text : List ℕ} {cs : List (List ℕ)} (f : Fed) (m l out : List ℕ) → FedBy P buf f m l out → f .stops ≡ false → Stream (programOf (f .session) m l) (drop (f .used) buf) cs text → Stream P buf cs (take (f .wrote) out ++ text)
   stops : {P : Program} {buf : List ℕ} {cs : List (List ℕ)} (f : Fed) (m l out : List ℕ) → FedBy P buf f m l out → f .stops ≡ true → Stream P buf cs (take (f .wrote) out)
   carries : {P : Program} {buf text : List ℕ} {cs : List (List ℕ)} → Open buf → Stream P (take 61 buf) cs text → Stream P buf cs text
-  over : {P : Program} {buf : List ℕ} (f : Ended) (out : List ℕ) → Open buf → EndedBy P buf f out → f .full ≡ false → Stream P buf [] (take (f .wrote) out)
+  closes : {P : Program} {buf text : List ℕ} → (length buf ≡ 0 → ⊥) → Open buf → Stream P (buf ++ 10 ∷ []) [] text → Stream P buf [] text
+  over : {P : Program} → Stream P [] [] []
 
 unfoldable pub whole : List (List ℕ) → List ℕ
 whole [] = []
@@ -163,4 +169,5 @@ any-cut (stops {buf = buf} {cs = cs} f m l out by e) =
     by .heard (whole cs) ∙ ap (λ (b : Bool). take (f .wrote) out ++ listingOf (leftBy b (f .session) m l) (drop (f .used) buf ++ whole cs)) e
     ∙ ap (λ (t : List ℕ). take (f .wrote) out ++ t) (listing-ended (drop (f .used) buf ++ whole cs)) ∙ append-nil _
 any-cut (carries {P = P} {buf = buf} {cs = cs} o s) = cut P buf (whole cs) o ∙ any-cut s
-any-cut (over {P = P} {buf = buf} f out o by e) = ap (listingOf P) (append-nil buf) ∙ by .heard e o
+any-cut (closes {P = P} {buf = buf} n o s) = ap (listingOf P) (append-nil buf) ∙ closed P buf n o ∙ ap (listingOf P) (sym (append-nil (buf ++ 10 ∷ []))) ∙ any-cut s
+any-cut (over {P = P}) = listing-none P

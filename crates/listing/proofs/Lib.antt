@@ -5,6 +5,8 @@ pub mod TwoLines
 pub mod Fronts
 pub mod Replies
 pub mod Stepping
+pub mod Reaching
 pub mod Feeding
+pub mod Standing
 pub mod Cuts
 pub mod Runs

@@ -12,7 +12,7 @@ use Rattle.model.specs.Tests.{if_then_else_}
 use Rattle.text.specs.Words.{onto, lines, head, tail}
 use Rattle.listing.specs.Listing.{front, Open}
 
-decide : (b : ℕ) {C : Type 0} → (b ≡ 10 → C) → ((b ≡ 10 → ⊥) → C) → C
+pub decide : (b : ℕ) {C : Type 0} → (b ≡ 10 → C) → ((b ≡ 10 → ⊥) → C) → C
 decide b {C} f g = go (eqb b 10) refl
   where
     go : (t : Bool) → eqb b 10 ≡ t → C

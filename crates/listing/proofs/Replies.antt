@@ -1,5 +1,6 @@
 -- What the calls on a bench leave of the program.
 use Prim.Native.Nat.{ℕ, min}
+use native.Mathlib.Omega.{arith}
 use mathlib.Core.Path.{_≡_, refl, ap, sym, subst, _∙_}
 use mathlib.Core.Bool.{Bool, true, false}
 use mathlib.Core.List.{List, [], _∷_, _++_}
@@ -9,19 +10,27 @@ use Rattle.model.specs.declared.Bench.{Bench}
 use Rattle.model.specs.declared.Answer.{Answer}
 use Rattle.model.specs.declared.Answer.the-variants.{Accepted, Numbered, GoesOn, Finished, HandedOut, Empty, Full, Refused}
 use Rattle.model.specs.declared.Operation.{Operation}
+use Rattle.model.specs.declared.Command.{Command}
+use Rattle.model.specs.declared.Command.the-variants.{Steps}
 use Rattle.model.specs.declared.Counts.{Counts}
 use Rattle.model.specs.Tests.{if_then_else_}
-use Rattle.model.specs.World.{Outcome}
-use Rattle.model.specs.Calls.{lent, freshOf, beginOf, stepOf}
+use Rattle.model.specs.World.{World, Outcome}
+use Rattle.model.specs.Calls.{lent, freshOf, beginOf, commit}
+use Rattle.lines.specs.declared.Act.{Act}
+use Rattle.lines.specs.Act.{enact}
+use Rattle.machine.specs.declared.Stop.{Stop}
+use Rattle.machine.specs.declared.Stop.the-variants.{No, Why}
+use Rattle.machine.specs.Turns.{BeginStops}
 use Rattle.model.specs.Counts.{countsOf}
-use Rattle.model.specs.Listing.{Program, waiting, playing, ended, printed, isRefused, totals, reply, opened, told, bad}
+use Rattle.model.specs.Listing.{Program, waiting, playing, ended, printed, isRefused, totals, reply, opened, told, bad, respond}
 use Rattle.queues.specs.declared.Bench as queues
 use Rattle.text.specs.Numbers.{lineOf, Placed}
 use Rattle.listing.specs.declared.Judged.the-variants.{Made, Stopped}
+use Rattle.listing.specs.declared.Asked.the-variants.{Other, Step}
 use Rattle.listing.specs.declared.Session.{Session}
 use Rattle.listing.specs.declared.Played.{Played}
 use Rattle.listing.specs.Shown.{shown, shownAll}
-use Rattle.listing.specs.Sessions.{worldOf, programOf, leftBy, judgedOf, PlayedBy}
+use Rattle.listing.specs.Sessions.{worldOf, programOf, leftBy, judgedOf, askedOf, CalmBy, PlayedBy}
 use Rattle.listing.proofs.Shows.{shows-one}
 use Rattle.listing.proofs.Fronts.{lent-front, given-back, unchanged}
 use Rattle.listing.proofs.Ways.{either, never}
@@ -58,11 +67,21 @@ pub begun-by : (s b : Bench) (a : Answer) (i : ℕ) (op : Operation) (w n : ℕ)
     record { world = lent b (take w m) l; answer = a } ≡ beginOf (lent s (take w m) l) i op
 begun-by s b a i op w n m l e o = subst (λ (x : List ℕ). record { world = lent b x l; answer = a } ≡ beginOf (lent s x l) i op) (lent-front w n m e) o
 
--- a step on the words that were lent, p as it leaves them
-pub stepped-by : (s b : Bench) (a : Answer) (i w n : ℕ) (m l p l′ : List ℕ) → n ≡ min w (length m) → length p ≡ length (take n m) → record { world = lent b p l′; answer = a } ≡ stepOf (lent s (take n m) l) i →
-    record { world = lent b (take w (p ++ drop n m)) l′; answer = a } ≡ stepOf (lent s (take w m) l) i
-stepped-by s b a i w n m l p l′ e f o =
-    ap (λ (x : List ℕ). record { world = lent b x l′; answer = a }) (given-back w n m e p f) ∙ o ∙ ap (λ (x : List ℕ). stepOf (lent s x l) i) (lent-front w n m e)
+-- an act on the words that were lent, p as it leaves them
+pub acted-by : (s b : Bench) (a : Answer) (x : Act) (i w n : ℕ) (m l p l′ : List ℕ) → n ≡ min w (length m) → length p ≡ length (take n m) → record { world = lent b p l′; answer = a } ≡ commit (lent s (take n m) l) i (enact (s .queue) (take n m) x) →
+    record { world = lent b (take w (p ++ drop n m)) l′; answer = a } ≡ commit (lent s (take w m) l) i (enact (s .queue) (take w m) x)
+acted-by s b a x i w n m l p l′ e f o =
+    ap (λ (y : List ℕ). record { world = lent b y l′; answer = a }) (given-back w n m e p f) ∙ o ∙ ap (λ (y : List ℕ). commit (lent s y l) i (enact (s .queue) y x)) (lent-front w n m e)
+
+-- a begin that is refused at once
+pub calm-begin : (v : Bool) (W : World) (i : ℕ) (op : Operation) (c : Command) (r : Stop) → v ≡ true → BeginStops W i op r → respond (playing W) c ≡ told (beginOf W i op) → CalmBy v W c r
+calm-begin v W i op c No h b e = tt
+calm-begin v W i op c (Why x) h b e = (h, e ∙ ap told b)
+
+-- a `step` while a bench is played asks for steps
+pub asks-steps : (c : Command) (i n : ℕ) → c ≡ Steps i n → askedOf true c ≡ Other → ⊥
+unfolding if_then_else_
+asks-steps c i n e h = let z : Step i n ≡ Other = ap (askedOf true) (sym e) ∙ h in let y : _≡_ {A = ℕ} 0 1 = cc in omega arith
 
 -- a refused fresh leaves the store as it was
 abbrev Leaves : List ℕ → Outcome → Type 0

@@ -12,9 +12,8 @@ use Rattle.model.specs.Listing.{playing, Reply, printed, isRefused, stepsOf}
 use Rattle.text.specs.Numbers.{Placed}
 use Rattle.text.proofs.Spell.{placed-more, placed-length}
 use Rattle.listing.specs.declared.Session.{Session}
-use Rattle.listing.specs.declared.Stepped.{Stepped}
 use Rattle.listing.specs.Shown.{shownAll}
-use Rattle.listing.specs.Sessions.{worldOf, PlayedBy, SteppedBy}
+use Rattle.listing.specs.Sessions.{worldOf, PlayedBy}
 use Rattle.listing.proofs.Shows.{show-none, show-append}
 use Rattle.listing.proofs.TwoLines.{steps-refused, steps-made, steps-most}
 use Rattle.listing.proofs.Replies.{played, program-live, left-on}
@@ -81,42 +80,42 @@ module _ (W : World) (times : ℕ) (s : Session) (m l : List ℕ) (i left : ℕ)
             (σ .placed);
       }
 
-  module _ (h : 0 < left) (r : Stepped) (m′ l′ : List ℕ) (by : SteppedBy (stepOf (worldOf s m l) i) (s .words) r m′ l′) (end′ : ℕ) (out′ : List ℕ) (shows : Placed out end (shownAll (printed (r .answer))) end′ out′) where
-    answered : stepOf (worldOf s m l) i .answer ≡ r .answer
-    answered = ap (λ (d : Outcome). d .answer) (sym (by .outcome))
+  module _ (h : 0 < left) (t : Session) (a : Answer) (m′ l′ : List ℕ) (by : record { world = worldOf t m′ l′; answer = a } ≡ stepOf (worldOf s m l) i) (lives : t .live ≡ true) (end′ : ℕ) (out′ : List ℕ) (shows : Placed out end (shownAll (printed a)) end′ out′) where
+    answered : stepOf (worldOf s m l) i .answer ≡ a
+    answered = ap (λ (d : Outcome). d .answer) (sym (by))
 
-    left-at : stepOf (worldOf s m l) i .world ≡ worldOf (r .session) m′ l′
-    left-at = ap (λ (d : Outcome). d .world) (sym (by .outcome))
+    left-at : stepOf (worldOf s m l) i .world ≡ worldOf t m′ l′
+    left-at = ap (λ (d : Outcome). d .world) (sym (by))
 
-    behind : Placed before at (σ .text ++ shownAll (printed (r .answer))) end′ out′
-    behind = placed-more before at (σ .text) end out (shownAll (printed (r .answer))) end′ out′ (σ .placed) shows
+    behind : Placed before at (σ .text ++ shownAll (printed a)) end′ out′
+    behind = placed-more before at (σ .text) end out (shownAll (printed a)) end′ out′ (σ .placed) shows
 
     -- the step was refused: the line ends here
-    pub stepping-stops : isRefused (r .answer) ≡ true → PlayedBy (stepsOf W i times) (played (r .session) end′) m′ l′ before at out′
+    pub stepping-stops : isRefused a ≡ true → PlayedBy (stepsOf W i times) (played t end′) m′ l′ before at out′
     stepping-stops e =
         let now : toDo s m l i left ≡ record { program = playing (stepOf (worldOf s m l) i .world); output = printed (stepOf (worldOf s m l) i .answer) } =
         refused-now (worldOf s m l) i left h (ap isRefused answered ∙ e) in record {
           program =
-              left-on false (r .session) m′ l′ refl ∙ program-live (r .session) m′ l′ (by .live)
+              left-on false t m′ l′ refl ∙ program-live t m′ l′ (lives)
               ∙ sym (σ .program ∙ ap (λ (x : Reply). x .program) now ∙ ap playing left-at);
           text =
               subst (λ (t : List ℕ). Placed before at t end′ out′)
-              (sym (σ .rest ∙ ap (λ (x : Reply). σ .text ++ shownAll (x .output)) now ∙ ap (λ (a : Answer). σ .text ++ shownAll (printed a)) answered)) behind;
+              (sym (σ .rest ∙ ap (λ (x : Reply). σ .text ++ shownAll (x .output)) now ∙ ap (λ (y : Answer). σ .text ++ shownAll (printed y)) answered)) behind;
         }
 
     -- the step was made: one fewer is left
-    pub stepping-on : isRefused (r .answer) ≡ false → Stepping (stepsOf W i times) (r .session) m′ l′ i (left - 1) before at end′ out′
+    pub stepping-on : isRefused a ≡ false → Stepping (stepsOf W i times) t m′ l′ i (left - 1) before at end′ out′
     stepping-on e =
         let now : toDo s m l i left ≡ record { program = stepsOf (stepOf (worldOf s m l) i .world) i (left - 1) .program; output = printed (stepOf (worldOf s m l) i .answer) ++ stepsOf (stepOf (worldOf s m l) i .world) i (left - 1) .output } =
         made-now (worldOf s m l) i left h (ap isRefused answered ∙ e) in record {
-          text = σ .text ++ shownAll (printed (r .answer));
+          text = σ .text ++ shownAll (printed a);
           placed = behind;
           rest =
               σ .rest ∙ ap (λ (x : Reply). σ .text ++ shownAll (x .output)) now
               ∙ ap (λ (t : List ℕ). σ .text ++ t) (show-append (printed (stepOf (worldOf s m l) i .answer)) (stepsOf (stepOf (worldOf s m l) i .world) i (left - 1) .output))
               ∙ sym (append-assoc (σ .text) _ _)
               ∙ ap (λ (a : Answer). (σ .text ++ shownAll (printed a)) ++ shownAll (stepsOf (stepOf (worldOf s m l) i .world) i (left - 1) .output)) answered
-              ∙ ap (λ (X : World). (σ .text ++ shownAll (printed (r .answer))) ++ shownAll (stepsOf X i (left - 1) .output)) left-at;
+              ∙ ap (λ (X : World). (σ .text ++ shownAll (printed a)) ++ shownAll (stepsOf X i (left - 1) .output)) left-at;
           program = σ .program ∙ ap (λ (x : Reply). x .program) now ∙ ap (λ (X : World). stepsOf X i (left - 1) .program) left-at;
-          live = by .live;
+          live = lives;
         }

@@ -2,10 +2,11 @@
 ghost use mathlib.Core.Path.{_≡_};
 ghost use mathlib.Core.Bool.{true, false};
 ghost use mathlib.Core.List.{List, [], _∷_};
-ghost use Prim.Native.Nat.{ℕ, _+_, _-_, _≤_, min};
+ghost use Prim.Native.Nat.{ℕ, _+_, _-_, _≤_, _<_, min};
 ghost use lib.ListN.{length, take, drop};
 ghost use Rattle.model.specs.Answers.{numberOf};
-ghost use Rattle.model.specs.Calls.{freshOf, beginOf, stepOf};
+ghost use Rattle.model.specs.Limits.{validOf};
+ghost use Rattle.model.specs.Calls.{lent, freshOf, beginOf, commit};
 ghost use Rattle.model.specs.Counts.{countsOf};
 ghost use Rattle.model.specs.Listing.{
   waiting,
@@ -17,27 +18,36 @@ ghost use Rattle.model.specs.Listing.{
   reply,
   opened,
   told,
-  stepsOf,
   bad,
   respond,
 };
+ghost use Rattle.lines.specs.Act.{enact, InStore};
+ghost use Rattle.machine.specs.Left.{left};
 ghost use Rattle.text.specs.Numbers.{Placed};
 ghost use Rattle.listing.specs.Shown.{shownAll};
 ghost use Rattle.listing.specs.Listing.{front};
+ghost use Rattle.listing.specs.declared.Asked.the-variants.{Other};
 ghost use Rattle.listing.specs.Sessions.{
   worldOf,
   programOf,
+  sessionOf,
+  leftBy,
+  Reachable,
   judgedOf,
-  SteppedBy,
+  askedOf,
+  CalmBy,
   PlayedBy,
   FedBy,
   CarriedBy,
-  EndedBy,
 };
+use lines::Act;
+use machine::Stop;
+use machine::Turn;
 use model::Answer;
 use model::Command;
 use model::Operation;
 use model::Refusal;
+use model::Worker;
 use queues::Bench;
 
 // The program between two lines: whether a `queue` was accepted, and then its bench, on the first `words` words of the store.
@@ -47,10 +57,10 @@ pub struct Session {
     pub bench: Bench,
 }
 
-// What a step left, and its answer.
-struct Stepped {
-    session: Session,
-    answer: Answer,
+// What a line asks for: steps of a bench that is played, or something else.
+enum Asked {
+    Other,
+    Step { worker: u32, times: u32 },
 }
 
 // Whether a step was made or refused.
@@ -73,13 +83,6 @@ pub struct Fed {
     pub used: usize,
     pub wrote: usize,
     pub stops: bool,
-    pub full: bool,
-}
-
-// What the last line left: how many bytes were written, and whether it was not played because the output has no room for a line's
-// text.
-pub struct Ended {
-    pub wrote: usize,
     pub full: bool,
 }
 
@@ -268,70 +271,26 @@ fn begin(
     }
 }
 
-// One step of a worker.
-fn step_once(session: Session, worker: u32, store: &mut [u32], log: &mut [u32]) -> Stepped
-    ensures { λ r.
-        ⌜
-        SteppedBy (stepOf (worldOf session (now (store .entry)) (now (log .entry))) worker) (session .words)
-        r (now (store .exit)) (now (log .exit))
-        ⌝ }
-{
-    let words = session.words;
-    let n = span(words, store);
-    let bench = session.bench;
-    let stepped = bench.step(worker, &mut store[..n], log);
-    let answer = stepped.answer;
-    let next = stepped.bench;
-    let after = Session {
-        live: true,
-        words,
-        bench: next,
-    };
-    Stepped {
-        session: after,
-        answer,
-    }
-}
-
-// `step I M`: M steps, stopping at the first refusal.
-fn steps(
-    session: Session,
+// Does what a worker's line decided, on the first `words` words of the store.
+fn do_act(
+    words: u32,
+    bench: model::Bench,
     worker: u32,
-    times: u32,
+    act: Act,
     store: &mut [u32],
     log: &mut [u32],
-    out: &mut [u8],
-    at: usize,
-) -> Played
-    requires { ⌜ (at + 72 ≤ length (now out)) × (session .live ≡ true) ⌝ }
+) -> machine::Reply
+    requires { ⌜ (worker < 8) × (bench .queue .published ≤ 11) ⌝ }
+    requires { ⌜ InStore (bench .queue) (length (take words (now store))) act ⌝ }
     ensures { λ r.
         ⌜
-        PlayedBy (stepsOf (worldOf session (now (store .entry)) (now (log .entry))) worker times)
-        r (now (store .exit)) (now (log .exit)) (now (out .entry)) at (now (out .exit))
+        left r (take words (now (store .exit))) (now (log .exit))
+        ≡ commit (lent bench (take words (now (store .entry))) (now (log .entry))) worker
+        (enact (bench .queue) (take words (now (store .entry))) act)
         ⌝ }
 {
-    let mut current = session;
-    let mut end = at;
-    let mut left = times;
-    while 0 < left {
-        let stepped = step_once(current, worker, store, log);
-        let answer = stepped.answer;
-        current = stepped.session;
-        end = show(answer, out, end);
-        let Judged::Made = judge(answer) else {
-            return Played {
-                session: current,
-                end,
-                stops: false,
-            };
-        };
-        left -= 1;
-    }
-    Played {
-        session: current,
-        end,
-        stops: false,
-    }
+    let n = span(words, store);
+    machine::apply(bench, worker, act, &mut store[..n], log)
 }
 
 // `end`: the six counts.
@@ -398,7 +357,7 @@ fn play_waiting(
     }
 }
 
-// A line while a bench is played.
+// A line while a bench is played, but for `step`.
 fn play_live(
     session: Session,
     command: Command,
@@ -408,6 +367,7 @@ fn play_live(
     at: usize,
 ) -> Played
     requires { ⌜ (at + 72 ≤ length (now out)) × (session .live ≡ true) ⌝ }
+    requires { ⌜ askedOf true command ≡ Other ⌝ }
     ensures { λ r.
         ⌜
         PlayedBy (respond (playing (worldOf session (now (store .entry)) (now (log .entry)))) command)
@@ -434,13 +394,16 @@ fn play_live(
             let operation = Operation::Steal;
             begin(session, worker, operation, store, log, out, at)
         }
-        Command::Steps { worker, times } => steps(session, worker, times, store, log, out, at),
+        Command::Steps {
+            worker: _,
+            times: _,
+        } => refuse(session, out, at),
         Command::End => total(session, store, log, out, at),
         Command::Bad => refuse(session, out, at),
     }
 }
 
-// Plays a line, with its text put into the output from `at` on.
+// Plays a line that does not ask for steps, with its text put into the output from `at` on.
 fn play(
     session: Session,
     command: Command,
@@ -450,6 +413,7 @@ fn play(
     at: usize,
 ) -> Played
     requires { ⌜ at + 72 ≤ length (now out) ⌝ }
+    requires { ⌜ askedOf (session .live) command ≡ Other ⌝ }
     ensures { λ r.
         ⌜
         PlayedBy (respond (programOf session (now (store .entry)) (now (log .entry))) command)
@@ -460,6 +424,72 @@ fn play(
         return play_live(session, command, store, log, out, at);
     }
     play_waiting(session, command, store, out, at)
+}
+
+fn ask(live: bool, command: Command) -> Asked
+    ensures { λ r. ⌜ r ≡ askedOf live command ⌝ }
+{
+    match command {
+        Command::Open {
+            kind: _,
+            width: _,
+            size: _,
+            workers: _,
+            words: _,
+        } => Asked::Other,
+        Command::BeginPut { payload: _ } => Asked::Other,
+        Command::BeginTake => Asked::Other,
+        Command::BeginSteal { worker: _ } => Asked::Other,
+        Command::Steps { worker, times } => {
+            if live {
+                return Asked::Step { worker, times };
+            }
+            Asked::Other
+        }
+        Command::End => Asked::Other,
+        Command::Bad => Asked::Other,
+    }
+}
+
+// Whether a line is refused at once and changes nothing, while a bench is played. `step` is not looked at.
+fn calm(live: bool, bench: model::Bench, command: Command) -> Stop
+    requires { ⌜ (live ≡ true → bench .crew ≤ 8) ⌝ }
+    ensures { λ r. ⌜ ((m l : List ℕ) → (live ≡ true → validOf (lent bench m l) ≡ true) → CalmBy live (lent bench m l) command r) ⌝ }
+{
+    if !live {
+        return Stop::No;
+    }
+    match command {
+        Command::Open {
+            kind: _,
+            width: _,
+            size: _,
+            workers: _,
+            words: _,
+        } => Stop::Why {
+            why: Refusal::BadLine,
+        },
+        Command::BeginPut { payload } => {
+            let operation = Operation::Put { payload };
+            machine::begin_stop(bench, 0, operation)
+        }
+        Command::BeginTake => {
+            let operation = Operation::Take;
+            machine::begin_stop(bench, 0, operation)
+        }
+        Command::BeginSteal { worker } => {
+            let operation = Operation::Steal;
+            machine::begin_stop(bench, worker, operation)
+        }
+        Command::Steps {
+            worker: _,
+            times: _,
+        } => Stop::No,
+        Command::End => Stop::No,
+        Command::Bad => Stop::Why {
+            why: Refusal::BadLine,
+        },
+    }
 }
 
 // Where the line that starts at `at` ends: at a newline byte or at the buffer's end.
@@ -477,21 +507,50 @@ fn line_end(buf: &[u8], at: usize) -> usize
     i
 }
 
-// Plays the lines of the buffer that end in a newline, as long as the output has room for another line's text.
+fn session_of(live: bool, words: u32, bench: model::Bench) -> Session
+    ensures { λ r. ⌜ r ≡ sessionOf live words bench ⌝ }
+{
+    let face = Bench { state: bench };
+    Session {
+        live,
+        words,
+        bench: face,
+    }
+}
+
+// A worker's place among the eight records; of a number that no worker has, the last.
+fn place_of(worker: u32) -> usize
+    ensures { λ r. ⌜ (r ≤ 7) × (worker < 8 → r ≡ worker) ⌝ }
+{
+    if worker < 8 {
+        return worker as usize;
+    }
+    7
+}
+
+// Plays the lines of the buffer that end in a newline, as long as the output has room for another line's text. `step I M` is
+// M steps, stopping at the first refusal. The bench stays in place where it can: a step that changes a worker's record alone
+// replaces that record, and a line refused at once leaves it alone. A bench that a `queue` of this program made is never
+// foreign, so the limits are not tested at each step.
 pub fn feed(session: Session, buf: &[u8], store: &mut [u32], log: &mut [u32], out: &mut [u8]) -> Fed
+    requires { ⌜ Reachable (programOf session (now store) (now log)) ⌝ }
     ensures { λ f.
         ⌜
         FedBy (programOf session (now (store .entry)) (now (log .entry))) (now (buf .entry)) f (now (store .exit)) (now (log .exit)) (now (out .exit))
         ⌝ }
+    ensures { λ f. ⌜ Reachable (leftBy (f .stops) (f .session) (now (store .exit)) (now (log .exit))) ⌝ }
 {
-    let mut current = session;
+    let face = session.bench;
+    let mut live = session.live;
+    let mut words = session.words;
+    let mut bench = face.state;
     let mut used: usize = 0;
     let mut wrote: usize = 0;
     let most = out.len();
-    while used < buf.len() {
+    'lines: while used < buf.len() {
         if most - wrote < 72 {
             return Fed {
-                session: current,
+                session: session_of(live, words, bench),
                 used,
                 wrote,
                 stops: false,
@@ -501,7 +560,7 @@ pub fn feed(session: Session, buf: &[u8], store: &mut [u32], log: &mut [u32], ou
         let end = line_end(buf, used);
         if end == buf.len() {
             return Fed {
-                session: current,
+                session: session_of(live, words, bench),
                 used,
                 wrote,
                 stops: false,
@@ -509,22 +568,68 @@ pub fn feed(session: Session, buf: &[u8], store: &mut [u32], log: &mut [u32], ou
             };
         }
         let command = text::parse(&buf[used..end]);
-        let p = play(current, command, store, log, out, wrote);
-        current = p.session;
-        wrote = p.end;
         used = end + 1;
-        if p.stops {
-            return Fed {
-                session: current,
-                used,
-                wrote,
-                stops: true,
-                full: false,
-            };
+        let asked = ask(live, command);
+        let Asked::Step { worker, times } = asked else {
+            let stop = calm(live, bench, command);
+            if let Stop::Why { why } = stop {
+                let answer = Answer::Refused { why };
+                wrote = show(answer, out, wrote);
+                continue;
+            }
+            let p = play(session_of(live, words, bench), command, store, log, out, wrote);
+            let after = p.session;
+            let then = after.bench;
+            live = after.live;
+            words = after.words;
+            bench = then.state;
+            wrote = p.end;
+            if p.stops {
+                return Fed {
+                    session: after,
+                    used,
+                    wrote,
+                    stops: true,
+                    full: false,
+                };
+            }
+            continue;
+        };
+        let i = place_of(worker);
+        let n = span(words, store);
+        let mut left = times;
+        while 0 < left {
+            let own = bench.workers[i];
+            let line = own.line;
+            let turn = machine::look(bench, worker, line, &store[..n], log);
+            match turn {
+                Turn::Refused { why } => {
+                    let answer = Answer::Refused { why };
+                    wrote = show(answer, out, wrote);
+                    continue 'lines;
+                }
+                Turn::Acts { act } => {
+                    let Act::Goes { line: next } = act else {
+                        let done = do_act(words, bench, worker, act, store, log);
+                        let answer = done.answer;
+                        bench = done.bench;
+                        wrote = show(answer, out, wrote);
+                        let Judged::Made = judge(answer) else {
+                            continue 'lines;
+                        };
+                        left -= 1;
+                        continue;
+                    };
+                    bench.restarts = state::count_restart(bench.restarts, next);
+                    bench.workers[i] = Worker { line: next };
+                    left -= 1;
+                    continue;
+                }
+            }
         }
     }
     Fed {
-        session: current,
+        session: session_of(live, words, bench),
         used,
         wrote,
         stops: false,
@@ -563,37 +668,4 @@ pub fn carry(buf: &mut [u8], from: usize, n: usize) -> usize
         i += 1;
     }
     k
-}
-
-// Plays the last line, which no newline ends.
-pub fn finish(
-    session: Session,
-    buf: &[u8],
-    store: &mut [u32],
-    log: &mut [u32],
-    out: &mut [u8],
-) -> Ended
-    ensures { λ f.
-        ⌜
-        EndedBy (programOf session (now (store .entry)) (now (log .entry))) (now (buf .entry)) f (now (out .exit))
-        ⌝ }
-{
-    if out.len() < 72 {
-        return Ended {
-            wrote: 0,
-            full: true,
-        };
-    }
-    if buf.len() == 0 {
-        return Ended {
-            wrote: 0,
-            full: false,
-        };
-    }
-    let command = text::parse(buf);
-    let p = play(session, command, store, log, out, 0);
-    Ended {
-        wrote: p.end,
-        full: false,
-    }
 }

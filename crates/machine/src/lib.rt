@@ -1,6 +1,7 @@
 // The calls on a bench: fresh, begin, step, and the log's front. This is the only code that writes a
 // store or a log, and it writes only once the whole outcome of the call is known.
 ghost use mathlib.Core.Path.{_≡_};
+ghost use mathlib.Core.Bool.{true};
 ghost use mathlib.Core.List.{List};
 ghost use Prim.Native.Nat.{ℕ, _+_, _*_, _≤_, _<_};
 ghost use lib.Dec.{ltb, leb};
@@ -11,7 +12,8 @@ ghost use Rattle.model.specs.Tests.{_and_};
 ghost use Rattle.model.specs.Memory.{zeros};
 ghost use Rattle.model.specs.Answers.{entryOf, writeEntry};
 ghost use Rattle.model.specs.Lines.{eff, anchored, publishing};
-ghost use Rattle.model.specs.World.{isLine1};
+ghost use Rattle.model.specs.World.{lineAt};
+ghost use Rattle.model.specs.Limits.{validOf};
 ghost use Rattle.model.specs.Calls.{
   blank,
   noBench,
@@ -25,11 +27,11 @@ ghost use Rattle.model.specs.Calls.{
   restarted,
   commit,
   stepOf,
-  frontOf,
 };
 ghost use Rattle.lines.specs.Act.{withArray, enact, InStore};
 ghost use Rattle.state.specs.Pieces.{moved};
 ghost use Rattle.machine.specs.Left.{left};
+ghost use Rattle.machine.specs.Turns.{BeginStops, TurnOf};
 use lines::Act;
 use model::Anchor;
 use model::Answer;
@@ -47,6 +49,18 @@ use model::Worker;
 pub struct Reply {
     pub bench: Bench,
     pub answer: Answer,
+}
+
+// Whether a begin is refused, and why.
+pub enum Stop {
+    No,
+    Why { why: Refusal },
+}
+
+// What a step does: it is refused, or its line is done, which may still find the log full.
+pub enum Turn {
+    Refused { why: Refusal },
+    Acts { act: Act },
 }
 
 // A refusal hands the state back as it came in.
@@ -124,29 +138,38 @@ fn accept(bench: Bench, worker: u32, operation: Operation) -> Reply
     }
 }
 
+// begin's refusals past 12, in their order. A caller that knows the state to be within the limits may ask for them alone.
+pub fn begin_stop(bench: Bench, worker: u32, operation: Operation) -> Stop
+    requires { ⌜ bench .crew ≤ 8 ⌝ }
+    ensures { λ r. ⌜ ((m l : List ℕ) → validOf (lent bench m l) ≡ true → BeginStops (lent bench m l) worker operation r) ⌝ }
+{
+    if bench.crew <= worker {
+        return Stop::Why { why: Refusal::NoSuchWorker };
+    }
+    if !state::right_hand(worker, operation) {
+        return Stop::Why { why: Refusal::WrongHand };
+    }
+    let i = worker as usize;
+    let own = bench.workers[i];
+    let line = own.line;
+    if !limits::is_idle(line) {
+        return Stop::Why { why: Refusal::BusyWorker };
+    }
+    if !state::numbers_left(operation, bench.used) {
+        return Stop::Why { why: Refusal::NumbersSpent };
+    }
+    Stop::No
+}
+
 pub fn begin(bench: Bench, worker: u32, operation: Operation, store: &[u32], log: &[u32]) -> Reply
     ensures { λ r. ⌜ left r (now (store .entry)) (now (log .entry)) ≡ beginOf (lent bench (now (store .entry)) (now (log .entry))) worker operation ⌝ }
 {
     if !limits::valid(bench, store, log) {
         return refused(bench, Refusal::ForeignState);
     }
-    if bench.crew <= worker {
-        return refused(bench, Refusal::NoSuchWorker);
-    }
-    let i = worker as usize;
-    let own = bench.workers[i];
-    let line = own.line;
-    let right = state::right_hand(worker, operation);
-    let idle = limits::is_idle(line);
-    let numbered = state::numbers_left(operation, bench.used);
-    if !right {
-        return refused(bench, Refusal::WrongHand);
-    }
-    if !idle {
-        return refused(bench, Refusal::BusyWorker);
-    }
-    if !numbered {
-        return refused(bench, Refusal::NumbersSpent);
+    let stop = begin_stop(bench, worker, operation);
+    if let Stop::Why { why } = stop {
+        return refused(bench, why);
     }
     accept(bench, worker, operation)
 }
@@ -205,7 +228,7 @@ fn ends(bench: Bench, worker: u32, queue: Queue, answer: Answer, log: &mut [u32]
 }
 
 // Does what a line decided.
-fn apply(bench: Bench, worker: u32, act: Act, store: &mut [u32], log: &mut [u32]) -> Reply
+pub fn apply(bench: Bench, worker: u32, act: Act, store: &mut [u32], log: &mut [u32]) -> Reply
     requires { ⌜ worker < 8 ⌝ }
     requires { ⌜ bench .queue .published ≤ 11 ⌝ }
     requires { ⌜ InStore (bench .queue) (length (now store)) act ⌝ }
@@ -244,22 +267,51 @@ fn apply(bench: Bench, worker: u32, act: Act, store: &mut [u32], log: &mut [u32]
     }
 }
 
+// The line that a worker is at; of a number that no worker has, none that counts.
+fn line_of(bench: Bench, worker: u32) -> Line
+    ensures { λ r. ⌜ (worker < 8 → r ≡ lineAt (bench .workers) worker) ⌝ }
+{
+    if worker < 8 {
+        let i = worker as usize;
+        let own = bench.workers[i];
+        return own.line;
+    }
+    Line::Idle
+}
+
+// The step of a worker that is at `line`, in a state within the limits, looked at and not made. A caller that keeps its bench
+// in place can so make a step that leaves all but the worker's record as it was by replacing that record.
+pub fn look(bench: Bench, worker: u32, line: Line, store: &[u32], log: &[u32]) -> Turn
+    requires { ⌜ validOf (lent bench (now store) (now log)) ≡ true ⌝ }
+    requires { ⌜ (worker < 8 → line ≡ lineAt (bench .workers) worker) ⌝ }
+    ensures { λ r. ⌜ TurnOf (lent bench (now (store .entry)) (now (log .entry))) worker r ⌝ }
+{
+    if bench.crew <= worker {
+        return Turn::Refused {
+            why: Refusal::NoSuchWorker,
+        };
+    }
+    if limits::is_idle(line) {
+        return Turn::Refused {
+            why: Refusal::IdleWorker,
+        };
+    }
+    let kind = bench.kind;
+    let queue = bench.queue;
+    let act = lines::decide(kind, bench.width, queue, store, worker, line);
+    Turn::Acts { act }
+}
+
 pub fn step(bench: Bench, worker: u32, store: &mut [u32], log: &mut [u32]) -> Reply
     ensures { λ r. ⌜ left r (now (store .exit)) (now (log .exit)) ≡ stepOf (lent bench (now (store .entry)) (now (log .entry))) worker ⌝ }
 {
     if !limits::valid(bench, store, log) {
         return refused(bench, Refusal::ForeignState);
     }
-    if bench.crew <= worker {
-        return refused(bench, Refusal::NoSuchWorker);
+    let line = line_of(bench, worker);
+    let turn = look(bench, worker, line, store, log);
+    match turn {
+        Turn::Refused { why } => refused(bench, why),
+        Turn::Acts { act } => apply(bench, worker, act, store, log),
     }
-    let i = worker as usize;
-    let own = bench.workers[i];
-    let line = own.line;
-    if limits::is_idle(line) {
-        return refused(bench, Refusal::IdleWorker);
-    }
-    let queue = bench.queue;
-    let act = lines::decide(bench.kind, bench.width, queue, store, worker, line);
-    apply(bench, worker, act, store, log)
 }

@@ -187,7 +187,7 @@ fn is_line1(line: Line) -> bool
 }
 
 // A return to line 1 counts as a restart; the counter stays at its ceiling.
-fn count_restart(restarts: u32, line: Line) -> u32
+pub fn count_restart(restarts: u32, line: Line) -> u32
     ensures { λ r. ⌜ r ≡ restarted restarts line ⌝ }
 {
     if !is_line1(line) {

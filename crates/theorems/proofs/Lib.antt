@@ -22,6 +22,7 @@ pub mod Fresh
 pub mod Translate
 pub mod PutNumbers
 pub mod NeverForeign
+pub mod Reached
 pub mod NothingLost
 pub mod WidestTag
 pub mod Rounds

@@ -1,20 +1,23 @@
 use native.Mathlib.Omega.{arith}
 use borrow.Author.Needs.{needs}
 use Prim.Native.Nat.{_≤_}
-use mathlib.Core.Path.{_≡_, refl, sym, _∙_}
+use mathlib.Core.Path.{_≡_, refl, sym, subst, _∙_}
 use lib.ListN.{length, length-take, length-drop}
 use lib.Seq.{length-take-le}
+use Rattle.listing.specs.Sessions.{programOf, Reachable}
+use Rattle.listing.proofs.Ways.{never}
+use Rattle.listing.proofs.Replies.{left-on}
 use Rattle.bench.proofs.play_some.Statement.{statement}
 use Rattle.bench.proofs.play_some.Tie as tie
 
 abbrev Inv-loop : tie.InvT-loop
-Inv-loop buf₀ n store₀ log₀ out₀ current₀ from₀ turns₀ t14 buf store log out current from turns = (from ≤ n) × (n ≤ length buf) × (length buf ≡ length buf₀) × (length store ≡ length store₀) × (length log ≡ length log₀) × (length out ≡ length out₀) × (length t14 ≡ 5)
+Inv-loop buf₀ n store₀ log₀ out₀ current₀ from₀ turns₀ t14 buf store log out current from turns = (from ≤ n) × (n ≤ length buf) × (length buf ≡ length buf₀) × (length store ≡ length store₀) × (length log ≡ length log₀) × (length out ≡ length out₀) × (length t14 ≡ 5) × Reachable (programOf current store log)
 
 abbrev μ-loop : tie.MeasureT-loop
 μ-loop buf₀ n store₀ log₀ out₀ current₀ from₀ turns₀ t14 buf store log out current from turns = turns
 
 loop-holds : tie.Need-loop-holds Inv-loop μ-loop
-loop-holds c = (omega arith, omega arith, refl, refl, refl, refl, refl)
+loop-holds c = (omega arith, omega arith, refl, refl, refl, refl, refl, c .before .before .before .before .pre .1)
 
 sub-turns : tie.Need-sub-turns Inv-loop μ-loop
 sub-turns c = omega arith
@@ -29,16 +32,16 @@ part-feed-end : tie.Need-part-feed-end Inv-loop μ-loop
 part-feed-end c = omega arith
 
 feed-requires : tie.Need-feed-requires Inv-loop μ-loop
-feed-requires c κs = search needs
+feed-requires c κs = c .before .before .before .before .before .before .loop .inv .7
 
 add-from : tie.Need-add-from Inv-loop μ-loop
-add-from c = omega (arith, c .before .before .before .before .before .before .before .before .before .before .before .before .before .before .loop .inv .0, simp (length-take, length-drop) at ((c .before .before .before .before .before .before .before .feed .ensures) .within))
+add-from c = omega (arith, c .before .before .before .before .before .before .before .before .before .before .before .before .before .before .loop .inv .0, simp (length-take, length-drop) at ((c .before .before .before .before .before .before .before .feed .ensures .0) .within))
 
 slice-reshare-prefix-write-all : tie.Need-slice-reshare-prefix-write-all Inv-loop μ-loop
-slice-reshare-prefix-write-all c = omega (arith, (c .before .before .before .before .before .before .before .feed .ensures) .room)
+slice-reshare-prefix-write-all c = omega (arith, (c .before .before .before .before .before .before .before .feed .ensures .0) .room)
 
 slice-aggregate-write-all : tie.Need-slice-aggregate-write-all Inv-loop μ-loop
-slice-aggregate-write-all c = sym (length-take-le _ _ ((c .before .before .before .before .before .before .before .before .feed .ensures) .room))
+slice-aggregate-write-all c = sym (length-take-le _ _ ((c .before .before .before .before .before .before .before .before .feed .ensures .0) .room))
 
 write-all-requires : tie.Need-write-all-requires Inv-loop μ-loop
 write-all-requires c κs = search needs
@@ -62,7 +65,7 @@ same-length-4 : tie.Need-same-length-4 Inv-loop μ-loop
 same-length-4 c = c .before .before .before .before .before .before .before .before .before .before .before .before .feed .kept .1 .1 .1 .1 .0 ∙ c .before .before .before .before .before .before .before .before .before .before .before .before .before .before .before .before .before .before .before .loop .inv .5
 
 returns : tie.Need-returns Inv-loop μ-loop
-returns c = (omega arith, omega arith)
+returns c = ((omega arith, omega arith), λ e. never (sym e))
 
 same-length-5 : tie.Need-same-length-5 Inv-loop μ-loop
 same-length-5 c = c .before .before .before .before .before .before .before .before .before .before .before .before .before .before .before .before .before .before .loop .inv .2
@@ -77,7 +80,7 @@ same-length-8 : tie.Need-same-length-8 Inv-loop μ-loop
 same-length-8 c = c .before .before .before .before .before .before .before .before .before .before .before .feed .kept .1 .1 .1 .1 .0 ∙ c .before .before .before .before .before .before .before .before .before .before .before .before .before .before .before .before .before .before .loop .inv .5
 
 returns-2 : tie.Need-returns-2 Inv-loop μ-loop
-returns-2 c = (omega arith, omega arith)
+returns-2 c = ((omega arith, omega arith), λ e. never (sym e))
 
 carry-requires : tie.Need-carry-requires Inv-loop μ-loop
 carry-requires c κs = search needs
@@ -95,20 +98,21 @@ same-length-12 : tie.Need-same-length-12 Inv-loop μ-loop
 same-length-12 c = c .before .before .before .before .before .before .before .before .before .before .before .before .before .before .before .before .before .feed .kept .1 .1 .1 .1 .0 ∙ c .before .before .before .before .before .before .before .before .before .before .before .before .before .before .before .before .before .before .before .before .before .before .before .before .loop .inv .5
 
 returns-3 : tie.Need-returns-3 Inv-loop μ-loop
-returns-3 c = let k = simp (length-take, length-drop) at (c .before .before .carry .ensures .count) in (omega (arith, k), omega (arith, k, c .before .before .carry .kept .0))
+returns-3 c = let k = simp (length-take, length-drop) at (c .before .before .carry .ensures .count) in ((omega (arith, k), omega (arith, k, c .before .before .carry .kept .0)), λ e. subst Reachable (left-on _ (c .before .before .before .before .before .before .before .before .before .before .before .before .before .before .before .before .before .feed .result .session) (c .before .before .before .before .before .before .before .before .before .before .before .before .before .before .before .before .before .feed .last .1 .1 .0) (c .before .before .before .before .before .before .before .before .before .before .before .before .before .before .before .before .before .feed .last .1 .1 .1 .0) (c .before .before .before .before .before .before .if2 .left)) (c .before .before .before .before .before .before .before .before .before .before .before .before .before .before .before .before .before .feed .ensures .1))
 
 loop-less : tie.Need-loop-less Inv-loop μ-loop
 loop-less c = omega arith
 
 loop-again : tie.Need-loop-again Inv-loop μ-loop
 loop-again c = let l = c .before .before .before .before .before .before .before .before .before .before .before .before .before .before .before .before .before .before .before .before .loop in (
-  omega (arith, l .inv .0, simp (length-take, length-drop) at ((c .before .before .before .before .before .before .before .before .before .before .before .before .before .feed .ensures) .within)),
+  omega (arith, l .inv .0, simp (length-take, length-drop) at ((c .before .before .before .before .before .before .before .before .before .before .before .before .before .feed .ensures .0) .within)),
   l .inv .1,
   l .inv .2,
   c .before .before .before .before .before .before .before .before .before .before .before .before .before .feed .kept .1 .1 .0 ∙ l .inv .3,
   c .before .before .before .before .before .before .before .before .before .before .before .before .before .feed .kept .1 .1 .1 .0 ∙ l .inv .4,
   c .before .before .before .before .before .before .before .before .before .before .before .before .before .feed .kept .1 .1 .1 .1 .0 ∙ l .inv .5,
   l .inv .6,
+  subst Reachable (left-on _ (c .before .before .before .before .before .before .before .before .before .before .before .before .before .feed .result .session) (c .before .before .before .before .before .before .before .before .before .before .before .before .before .feed .last .1 .1 .0) (c .before .before .before .before .before .before .before .before .before .before .before .before .before .feed .last .1 .1 .1 .0) (c .before .before .if2 .left)) (c .before .before .before .before .before .before .before .before .before .before .before .before .before .feed .ensures .1),
 )
 
 same-length-13 : tie.Need-same-length-13 Inv-loop μ-loop
@@ -124,7 +128,7 @@ same-length-16 : tie.Need-same-length-16 Inv-loop μ-loop
 same-length-16 c = c .before .loop .inv .5
 
 returns-4 : tie.Need-returns-4 Inv-loop μ-loop
-returns-4 c = (omega arith, omega arith)
+returns-4 c = ((omega arith, omega arith), λ e. never (sym e))
 
 pub play-some-spec : {M : Type 1} → statement M
 play-some-spec =

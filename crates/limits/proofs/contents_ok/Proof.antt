@@ -17,7 +17,7 @@ anchor-ok-requires c κs = search needs
 
 returns : tie.Need-returns
 returns c =
-    let b = c .before .before .before .before .before .before .args .t1 in
+    let b = c .before .before .before .before .before .before .args .bench in
     sym (fails _ (refused (c .before .anchor-ok .ensures ∙ ap (λ (z : ℕ). anchorOk (b .kind) (b .width) z (b .queue .anchor)) (c .before .before .size-at .ensures)) (c .if1 .taken)))
 
 number-ok-requires : tie.Need-number-ok-requires
@@ -25,36 +25,21 @@ number-ok-requires c κs = search needs
 
 returns-2 : tie.Need-returns-2
 returns-2 c =
-    let b = c .before .before .before .before .before .before .before .before .args .t1 in
+    let b = c .before .before .before .before .before .before .before .before .args .bench in
     sym
     (holds (passed (c .before .before .before .anchor-ok .ensures ∙ ap (λ (z : ℕ). anchorOk (b .kind) (b .width) z (b .queue .anchor)) (c .before .before .before .before .size-at .ensures)) (c .before .before .if1 .left))
     ∙ fails _ (refused (c .before .number-ok .ensures) (c .if2 .taken)))
 
-element-copy-out-owner : tie.Need-element-copy-out-owner
-element-copy-out-owner c = search needs
-
-owner-ok-requires : tie.Need-owner-ok-requires
-owner-ok-requires c κs = search needs
+workers-ok-requires : tie.Need-workers-ok-requires
+workers-ok-requires c κs = search needs
 
 returns-3 : tie.Need-returns-3
 returns-3 c =
-    let b = c .before .before .before .before .before .before .before .before .before .before .before .args .t1 in
-    sym
-    (holds (passed (c .before .before .before .before .before .before .anchor-ok .ensures ∙ ap (λ (z : ℕ). anchorOk (b .kind) (b .width) z (b .queue .anchor)) (c .before .before .before .before .before .before .before .size-at .ensures)) (c .before .before .before .before .before .if1 .left))
-    ∙ holds (passed (c .before .before .before .before .number-ok .ensures) (c .before .before .before .if2 .left))
-    ∙ fails _ (refused (c .before .owner-ok .ensures) (c .if3 .taken)))
-
-thieves-ok-requires : tie.Need-thieves-ok-requires
-thieves-ok-requires c κs = search needs
-
-returns-4 : tie.Need-returns-4
-returns-4 c =
-    let b = c .before .before .before .before .before .before .before .before .before .before .before .before .args .t1 in
-    c .thieves-ok .ensures
+    let b = c .before .before .before .before .before .before .before .before .before .args .bench in
+    c .workers-ok .ensures
     ∙ sym
-    (holds (passed (c .before .before .before .before .before .before .before .anchor-ok .ensures ∙ ap (λ (z : ℕ). anchorOk (b .kind) (b .width) z (b .queue .anchor)) (c .before .before .before .before .before .before .before .before .size-at .ensures)) (c .before .before .before .before .before .before .if1 .left))
-    ∙ holds (passed (c .before .before .before .before .before .number-ok .ensures) (c .before .before .before .before .if2 .left))
-    ∙ holds (passed (c .before .before .owner-ok .ensures) (c .before .if3 .left)))
+    (holds (passed (c .before .before .before .before .anchor-ok .ensures ∙ ap (λ (z : ℕ). anchorOk (b .kind) (b .width) z (b .queue .anchor)) (c .before .before .before .before .before .size-at .ensures)) (c .before .before .before .if1 .left))
+    ∙ holds (passed (c .before .before .number-ok .ensures) (c .before .if2 .left)))
 
 pub contents-ok-spec : {M : Type 1} → statement M
 contents-ok-spec =
@@ -66,8 +51,5 @@ contents-ok-spec =
     returns
     number-ok-requires
     returns-2
-    element-copy-out-owner
-    owner-ok-requires
-    returns-3
-    thieves-ok-requires
-    returns-4)
+    workers-ok-requires
+    returns-3)

@@ -1,19 +1,13 @@
 use borrow.Author.Needs.{needs}
-use Rattle.model.specs.Memory.{sizeAt, offsetAt}
+use Rattle.model.specs.Memory.{offsetAt, sizeAt}
 use Rattle.limits.proofs.fits.Statement.{statement}
 use Rattle.limits.proofs.fits.Tie as tie
-
-cast-place : tie.Need-cast-place
-cast-place c = search needs
 
 sub-place : tie.Need-sub-place
 sub-place c = search needs
 
-mul-last : tie.Need-mul-last
-mul-last c = search needs
-
-element-copy-out-last : tie.Need-element-copy-out-last
-element-copy-out-last c = search needs
+region-at-requires : tie.Need-region-at-requires
+region-at-requires c κs = search needs
 
 cast-end : tie.Need-cast-end
 cast-end c = search needs
@@ -29,18 +23,8 @@ add-end c = search needs
 
 returns : tie.Need-returns
 unfolding offsetAt sizeAt
-returns c = search needs
+returns c = simp (c .before .before .region-at .ensures)
 
 pub fits-spec : {M : Type 1} → statement M
 fits-spec =
-    tie.close
-    (tie.spec
-    cast-place
-    sub-place
-    mul-last
-    element-copy-out-last
-    cast-end
-    cast-end-2
-    mul-end
-    add-end
-    returns)
+    tie.close (tie.spec sub-place region-at-requires cast-end cast-end-2 mul-end add-end returns)

@@ -1,114 +1,403 @@
-use Rattle.listing.proofs.Feeding.{Heard, Onward, line-on, heard-next, fed-on, fed-over, nothing-open}
-use Rattle.listing.proofs.Ways.{never}
+use borrow.Author.Needs.{needs}
 use native.Mathlib.Omega.{arith}
-use mathlib.Core.Path.{_≡_, refl, sym, _∙_}
-use Prim.Native.Nat.{_+_, _-_, _≤_}
+use mathlib.Core.Path.{_≡_, refl, ap, sym, subst, _∙_}
+use mathlib.Core.Bool.{Bool, true, false}
+use mathlib.Core.List.{List}
+use Prim.Native.Nat.{ℕ, _+_, _-_, _≤_, _<_, min}
 use lib.ListN.{length, take, drop, length-drop}
-use Rattle.listing.specs.Sessions.{programOf}
+use lib.Seq.{length-take-le}
+use Rattle.model.specs.declared.Answer.the-variants.{GoesOn, Refused}
+use Rattle.model.specs.World.{Outcome, lineAt}
+use Rattle.model.specs.Calls.{lent, commit}
+use Rattle.model.specs.Listing.{respond, stepsOf}
+use Rattle.theorems.specs.Reached.{Reached}
+use Rattle.listing.specs.declared.Session.{Session}
+use Rattle.lines.specs.declared.Act.{Act}
+use Rattle.lines.specs.Act.{enact}
+use Rattle.machine.specs.Turns.{TurnOf}
+use Rattle.listing.specs.Listing as spec
+use Rattle.listing.specs.Sessions.{worldOf, programOf, leftBy, sessionOf, askedOf, CalmBy, Reachable, PlayedBy, FedBy}
+use Rattle.listing.proofs.Ways.{never}
 use Rattle.listing.proofs.Lines.{front-fits}
+use Rattle.listing.proofs.Shows.{answer-most, shows-none}
+use Rattle.listing.proofs.Replies.{played, judged-made, judged-stopped}
+use Rattle.listing.proofs.Stepping.{Stepping, stepping-start, stepping-room, stepping-over, stepping-stops, stepping-on}
+use Rattle.listing.proofs.Feeding.{fed-on, nothing-open}
+use Rattle.listing.proofs.Standing.{Standing, standing-start, standing-on, standing-over, calm-by, asked-live, steps-by, reached-of, crew-of, valid-front, turn-front, reached-step, goes-by, reach-left, reach-over, valid-of, refusal-room}
 use Rattle.listing.proofs.feed.Statement.{statement}
 use Rattle.listing.proofs.feed.Tie as tie
 
 abbrev Inv-loop : tie.InvT-loop
-Inv-loop buf store₀ log₀ out₀ current₀ used₀ wrote₀ most store log out current used wrote = (used ≤ length buf) × (wrote ≤ length out) × (length store ≡ length store₀) × (length log ≡ length log₀) × (length out ≡ length out₀) × Heard (programOf current₀ store₀ log₀) buf (take wrote out) (programOf current store log) (drop used buf)
+Inv-loop buf store₀ log₀ out₀ live words bench₀ used wrote₀ most end worker times i n left₀ store log out bench wrote left =
+    Stepping (stepsOf (worldOf (sessionOf live words bench₀) store₀ log₀) worker times) (sessionOf live words bench) store log worker left out₀ wrote₀ wrote out
+    × Reached (lent bench (take words store) log) × (length store ≡ length store₀) × (length log ≡ length log₀) × (length out ≡ length out₀)
 
 abbrev μ-loop : tie.MeasureT-loop
-μ-loop buf store₀ log₀ out₀ current₀ used₀ wrote₀ most store log out current used wrote = length buf - used
+μ-loop buf store₀ log₀ out₀ live words bench₀ used wrote₀ most end worker times i n left₀ store log out bench wrote left = left
 
-loop-holds : tie.Need-loop-holds Inv-loop μ-loop
-loop-holds c = (omega arith, omega arith, refl, refl, refl, λ z. refl)
+abbrev Inv-lines : tie.InvT-lines
+Inv-lines buf store₀ log₀ out₀ live₀ words₀ bench₀ used₀ wrote₀ most store log out live words bench used wrote =
+    Standing (programOf (sessionOf live₀ words₀ bench₀) store₀ log₀) buf (sessionOf live words bench) store log out used wrote
+    × (length store ≡ length store₀) × (length log ≡ length log₀) × (length out ≡ length out₀)
 
-sub-if1 : tie.Need-sub-if1 Inv-loop μ-loop
-sub-if1 c = omega arith
+abbrev μ-lines : tie.MeasureT-lines
+μ-lines buf store₀ log₀ out₀ live₀ words₀ bench₀ used₀ wrote₀ most store log out live words bench used wrote = length buf - used
 
-same-length : tie.Need-same-length Inv-loop μ-loop
-same-length c = c .before .before .loop .inv .2
+lines-holds : tie.Need-lines-holds Inv-loop μ-loop Inv-lines μ-lines
+lines-holds c = (standing-start _ _ _ _ _ (c .before .before .before .before .before .before .pre), refl, refl, refl)
 
-same-length-2 : tie.Need-same-length-2 Inv-loop μ-loop
-same-length-2 c = c .before .before .loop .inv .3
+sub-if1 : tie.Need-sub-if1 Inv-loop μ-loop Inv-lines μ-lines
+sub-if1 c = omega (arith, c .before .lines .inv .0 .fits, c .before .lines .inv .3)
 
-same-length-3 : tie.Need-same-length-3 Inv-loop μ-loop
-same-length-3 c = c .before .before .loop .inv .4
+session-of-requires : tie.Need-session-of-requires Inv-loop μ-loop Inv-lines μ-lines
+session-of-requires c κs = search needs
 
-returns : tie.Need-returns Inv-loop μ-loop
-returns c = let l = c .before .before .loop in fed-on _ _ _ _ _ _ _ _ (l .inv .0) (l .inv .1) _ (l .inv .5) (λ e. never e) (λ e. omega (arith, l .inv .4, c .if1 .taken))
+same-length : tie.Need-same-length Inv-loop μ-loop Inv-lines μ-lines
+same-length c = c .before .before .before .lines .inv .1
 
-line-end-requires : tie.Need-line-end-requires Inv-loop μ-loop
-line-end-requires c κs = omega arith
+same-length-2 : tie.Need-same-length-2 Inv-loop μ-loop Inv-lines μ-lines
+same-length-2 c = c .before .before .before .lines .inv .2
 
-same-length-4 : tie.Need-same-length-4 Inv-loop μ-loop
-same-length-4 c = c .before .before .before .before .loop .inv .2
+same-length-3 : tie.Need-same-length-3 Inv-loop μ-loop Inv-lines μ-lines
+same-length-3 c = c .before .before .before .lines .inv .3
 
-same-length-5 : tie.Need-same-length-5 Inv-loop μ-loop
-same-length-5 c = c .before .before .before .before .loop .inv .3
+returns : tie.Need-returns Inv-loop μ-loop Inv-lines μ-lines
+returns c = 
+    let l = c .before .before .before .lines in
+    (
+      subst (λ (s : Session). FedBy (programOf (c .before .before .before .before .before .before .before .before .before .before .args .session) (c .before .before .before .before .before .before .before .before .before .before .args .store .now) (c .before .before .before .before .before .before .before .before .before .before .args .log .now)) (c .before .before .before .before .before .before .before .before .before .before .args .buf .now) (record { session = s; used = l .used; wrote = l .wrote; stops = false; full = true }) (l .store) (l .log) (l .out)) (sym (c .session-of .ensures))
+      (fed-on _ _ _ _ _ _ _ _ (l .inv .0 .within) (l .inv .0 .fits) _ (l .inv .0 .heard) (λ e. never e) (λ e. omega (arith, l .inv .3, c .before .if1 .taken))),
+      subst (λ (s : Session). Reachable (leftBy false s (l .store) (l .log))) (sym (c .session-of .ensures)) (reach-left (sessionOf (l .live) (l .words) (l .bench)) (l .store) (l .log) (l .inv .0 .reach)),
+    )
 
-same-length-6 : tie.Need-same-length-6 Inv-loop μ-loop
-same-length-6 c = c .before .before .before .before .loop .inv .4
+line-end-requires : tie.Need-line-end-requires Inv-loop μ-loop Inv-lines μ-lines
+line-end-requires c κs = c .before .before .lines .inv .0 .within
 
-returns-2 : tie.Need-returns-2 Inv-loop μ-loop
-returns-2 c = let l = c .before .before .before .before .loop in let s = c .before .before .before .before .before .before .before .before .before .args .buf .now in fed-on _ _ _ _ _ _ _ _ (l .inv .0) (l .inv .1) _ (l .inv .5) (λ e. omega (arith, length-drop (l .used) s, c .before .line-end .ensures, c .if2 .taken)) (λ e. never (sym e))
+session-of-requires-2 : tie.Need-session-of-requires-2 Inv-loop μ-loop Inv-lines μ-lines
+session-of-requires-2 c κs = search needs
 
-sub-parse : tie.Need-sub-parse Inv-loop μ-loop
+same-length-4 : tie.Need-same-length-4 Inv-loop μ-loop Inv-lines μ-lines
+same-length-4 c = c .before .before .before .before .before .lines .inv .1
+
+same-length-5 : tie.Need-same-length-5 Inv-loop μ-loop Inv-lines μ-lines
+same-length-5 c = c .before .before .before .before .before .lines .inv .2
+
+same-length-6 : tie.Need-same-length-6 Inv-loop μ-loop Inv-lines μ-lines
+same-length-6 c = c .before .before .before .before .before .lines .inv .3
+
+returns-2 : tie.Need-returns-2 Inv-loop μ-loop Inv-lines μ-lines
+returns-2 c = 
+    let l = c .before .before .before .before .before .lines in
+    let s = c .before .before .before .before .before .before .before .before .before .before .before .before .args .buf .now in
+    (
+      subst (λ (t : Session). FedBy (programOf (c .before .before .before .before .before .before .before .before .before .before .before .before .args .session) (c .before .before .before .before .before .before .before .before .before .before .before .before .args .store .now) (c .before .before .before .before .before .before .before .before .before .before .before .before .args .log .now)) (c .before .before .before .before .before .before .before .before .before .before .before .before .args .buf .now) (record { session = t; used = l .used; wrote = l .wrote; stops = false; full = false }) (l .store) (l .log) (l .out)) (sym (c .session-of2 .ensures))
+      (fed-on _ _ _ _ _ _ _ _ (l .inv .0 .within) (l .inv .0 .fits) _ (l .inv .0 .heard) (λ e. let o : spec.Open (drop (l .used) s) = omega (arith, length-drop (l .used) s, l .inv .0 .within, c .before .before .line-end .ensures, c .before .if2 .taken) in o) (λ e. never (sym e))),
+      subst (λ (t : Session). Reachable (leftBy false t (l .store) (l .log))) (sym (c .session-of2 .ensures)) (reach-left (sessionOf (l .live) (l .words) (l .bench)) (l .store) (l .log) (l .inv .0 .reach)),
+    )
+
+sub-parse : tie.Need-sub-parse Inv-loop μ-loop Inv-lines μ-lines
 sub-parse c = omega (arith, c .before .line-end .ensures)
 
-part-parse-start : tie.Need-part-parse-start Inv-loop μ-loop
+part-parse-start : tie.Need-part-parse-start Inv-loop μ-loop Inv-lines μ-lines
 part-parse-start c = omega (arith, c .before .line-end .ensures)
 
-part-parse-end : tie.Need-part-parse-end Inv-loop μ-loop
-part-parse-end c = let l = c .before .before .before .before .loop in let s = c .before .before .before .before .before .before .before .before .before .args .buf .now in omega (arith, c .before .line-end .ensures, front-fits (drop (l .used) s), length-drop (l .used) s)
+part-parse-end : tie.Need-part-parse-end Inv-loop μ-loop Inv-lines μ-lines
+part-parse-end c = let l = c .before .before .before .before .lines in omega (arith, c .before .line-end .ensures, front-fits (drop (l .used) (c .before .before .before .before .before .before .before .before .before .before .before .args .buf .now)), length-drop (l .used) (c .before .before .before .before .before .before .before .before .before .before .before .args .buf .now), l .inv .0 .within)
 
-parse-requires : tie.Need-parse-requires Inv-loop μ-loop
-parse-requires c κs = tt
+parse-requires : tie.Need-parse-requires Inv-loop μ-loop Inv-lines μ-lines
+parse-requires c κs = search needs
 
-play-requires : tie.Need-play-requires Inv-loop μ-loop
-play-requires c κs = let l = c .before .before .before .before .before .before .before .before .before .loop in omega (arith, l .inv .4, c .before .before .before .before .before .before .before .if1 .left)
+add-used : tie.Need-add-used Inv-loop μ-loop Inv-lines μ-lines
+add-used c = omega (arith, c .before .before .before .line-end .ensures, front-fits (drop (c .before .before .before .before .before .before .lines .used) (c .before .before .before .before .before .before .before .before .before .before .before .before .before .args .buf .now)), length-drop (c .before .before .before .before .before .before .lines .used) (c .before .before .before .before .before .before .before .before .before .before .before .before .before .args .buf .now), c .before .before .before .before .before .before .lines .inv .0 .within, c .before .before .if2 .left)
 
-add-used : tie.Need-add-used Inv-loop μ-loop
-add-used c = let l = c .before .before .before .before .before .before .before .before .before .before .before .before .before .before .before .before .before .loop in let b = c .before .before .before .before .before .before .before .before .before .before .before .before .before .before .before .before .before .before .before .before .before .before .args .buf .now in let g = c .before .before .before .before .before .before .before .before .before .before .before .before .before .before .before .before .before .before .before .before .before .before .good in omega (arith, c .before .before .before .before .before .before .before .before .before .before .before .before .before .before .line-end .ensures, c .before .before .before .before .before .before .before .before .before .before .before .before .before .if2 .left, front-fits (drop (l .used) b), length-drop (l .used) b)
+ask-requires : tie.Need-ask-requires Inv-loop μ-loop Inv-lines μ-lines
+ask-requires c κs = search needs
 
--- the line was played
-onward : (c : tie.After-current Inv-loop μ-loop) →
-    Onward (programOf (c .before .before .before .before .before .before .before .before .before .before .before .before .before .before .before .before .before .before .before .before .before .before .args .session) (c .before .before .before .before .before .before .before .before .before .before .before .before .before .before .before .before .before .before .before .before .before .before .args .store .now) (c .before .before .before .before .before .before .before .before .before .before .before .before .before .before .before .before .before .before .before .before .before .before .args .log .now)) (c .before .before .before .before .before .before .before .before .before .before .before .before .before .before .before .before .before .before .before .before .before .before .args .buf .now) (c .before .before .before .before .before .before .before .before .before .before .before .before .before .before .line-end .result + 1) (c .before .before .before .before .before .before .before .play .result) (c .before .before .before .before .before .before .before .play .last .1 .1 .0) (c .before .before .before .before .before .before .before .play .last .1 .1 .1 .0) (c .before .before .before .before .before .before .before .play .last .1 .1 .1 .1 .0)
-onward c = let l = c .before .before .before .before .before .before .before .before .before .before .before .before .before .before .before .before .before .loop in let s = c .before .before .before .before .before .before .before .before .before .before .before .before .before .before .before .before .before .before .before .before .before .before .args .buf .now in
-    line-on _ s (l .out) _ (l .used) (l .wrote) (c .before .before .before .before .before .before .before .before .before .before .before .before .before .before .line-end .result) (c .before .before .before .before .before .before .before .before .before .before .before .parse .result) (c .before .before .before .before .before .before .before .play .result) _ _ _ (l .inv .5) (l .inv .0) (c .before .before .before .before .before .before .before .before .before .before .before .before .before .before .line-end .ensures) (c .before .before .before .before .before .before .before .before .before .before .before .before .before .if2 .left) (omega (arith, l .inv .4, c .before .before .before .before .before .before .before .before .before .before .before .before .before .before .before .if1 .left)) (c .before .before .before .before .before .before .before .before .before .before .before .parse .ensures) (c .before .before .before .before .before .before .before .play .ensures)
+enum-known-asked : tie.Need-enum-known-asked Inv-loop μ-loop Inv-lines μ-lines
+enum-known-asked c = search needs
 
-same-length-7 : tie.Need-same-length-7 Inv-loop μ-loop
-same-length-7 c = c .before .before .before .before .before .before .before .before .play .kept .1 .1 .0 ∙ c .before .before .before .before .before .before .before .before .before .before .before .before .before .before .before .before .before .before .loop .inv .2
+enum-told : tie.Need-enum-told Inv-loop μ-loop Inv-lines μ-lines
+enum-told c = search needs
 
-same-length-8 : tie.Need-same-length-8 Inv-loop μ-loop
-same-length-8 c = c .before .before .before .before .before .before .before .before .play .kept .1 .1 .1 .0 ∙ c .before .before .before .before .before .before .before .before .before .before .before .before .before .before .before .before .before .before .loop .inv .3
+calm-requires : tie.Need-calm-requires Inv-loop μ-loop Inv-lines μ-lines
+calm-requires c κs = crew-of (sessionOf (c .before .before .before .before .before .before .before .before .before .lines .live) (c .before .before .before .before .before .before .before .before .before .lines .words) (c .before .before .before .before .before .before .before .before .before .lines .bench)) (c .before .before .before .before .before .before .before .before .before .lines .store) (c .before .before .before .before .before .before .before .before .before .lines .log) (c .before .before .before .before .before .before .before .before .before .lines .inv .0 .reach)
 
-same-length-9 : tie.Need-same-length-9 Inv-loop μ-loop
-same-length-9 c = c .before .before .before .before .before .before .before .before .play .kept .1 .1 .1 .1 .0 ∙ c .before .before .before .before .before .before .before .before .before .before .before .before .before .before .before .before .before .before .loop .inv .4
+enum-known-stop : tie.Need-enum-known-stop Inv-loop μ-loop Inv-lines μ-lines
+enum-known-stop c = search needs
 
-returns-3 : tie.Need-returns-3 Inv-loop μ-loop
-returns-3 c = let on = onward (c .before) in
-    fed-over _ _ (c .before .before .before .before .before .before .before .before .play .result .session) _ _ _ _ _ (on .within) (on .fits) _ (c .if3 .taken) (on .heard)
+show-requires : tie.Need-show-requires Inv-loop μ-loop Inv-lines μ-lines
+show-requires c κs = 
+    let l = c .before .before .before .before .before .before .before .before .before .before .before .before .before .before .lines in
+    let s = sessionOf (l .live) (l .words) (l .bench) in
+    refusal-room (c .before .before .stop .given .0 .0) _ _ (let z : l .wrote + 72 ≤ length (l .out) = omega (arith, l .inv .0 .fits, l .inv .3, c .before .before .before .before .before .before .before .before .before .before .before .before .if1 .left) in z)
 
-loop-less : tie.Need-loop-less Inv-loop μ-loop
-loop-less c = let l = c .before .before .before .before .before .before .before .before .before .before .before .before .before .before .before .before .before .before .loop in omega (arith, c .before .before .before .before .before .before .before .before .before .before .before .before .before .before .before .line-end .ensures)
+lines-less : tie.Need-lines-less Inv-loop μ-loop Inv-lines μ-lines
+lines-less c = omega (arith, c .before .before .before .before .before .before .before .before .before .before .before .before .before .before .line-end .ensures, c .before .before .before .before .before .before .before .before .before .before .before .before .before .before .before .before .lines-test .taken)
 
-loop-again : tie.Need-loop-again Inv-loop μ-loop
-loop-again c = let a = c .before .before .before .before .before .before .before .before .before .before .before .before .before .before .before .before .before .before .before .before .before .before .before .args in let l = c .before .before .before .before .before .before .before .before .before .before .before .before .before .before .before .before .before .before .loop in let on = onward (c .before) in (
-  on .within,
-  on .fits,
-  c .before .before .before .before .before .before .before .before .play .kept .1 .1 .0 ∙ l .inv .2,
-  c .before .before .before .before .before .before .before .before .play .kept .1 .1 .1 .0 ∙ l .inv .3,
-  c .before .before .before .before .before .before .before .before .play .kept .1 .1 .1 .1 .0 ∙ l .inv .4,
-  heard-next (programOf (a .session) (a .store .now) (a .log .now)) (a .buf .now) (take (c .before .before .before .before .before .before .before .before .play .result .end) (c .before .before .before .before .before .before .before .before .play .last .1 .1 .1 .1 .0)) (c .before .before .before .before .before .before .before .before .play .result .session) (c .before .before .before .before .before .before .before .before .play .last .1 .1 .0) (c .before .before .before .before .before .before .before .before .play .last .1 .1 .1 .0) (drop (c .before .before .before .before .before .before .before .before .before .before .before .before .before .before .before .line-end .result + 1) (a .buf .now)) _ (c .if3 .left) (on .heard),
-)
+lines-again : tie.Need-lines-again Inv-loop μ-loop Inv-lines μ-lines
+lines-again c = 
+    let l = c .before .before .before .before .before .before .before .before .before .before .before .before .before .before .before .before .before .lines in
+    let s = sessionOf (l .live) (l .words) (l .bench) in
+    let calm = subst (CalmBy (l .live) (worldOf s (l .store) (l .log)) (c .before .before .before .before .before .before .before .before .before .before .before .parse .result)) (c .before .before .before .before .before .stop .given .1) (c .before .before .before .before .before .before .before .calm .ensures (take (l .words) (l .store)) (l .log) (valid-of s (l .store) (l .log) (l .inv .0 .reach))) in (
+      standing-on _ _ s (l .store) (l .log) (l .out) (l .used) (l .wrote) _ _ _ _ _ _ (l .inv .0) (c .before .before .before .before .before .before .before .before .before .before .before .before .before .before .line-end .ensures) (c .before .before .before .before .before .before .before .before .before .before .before .before .before .if2 .left) (let z : l .wrote + 72 ≤ length (l .out) = omega (arith, l .inv .0 .fits, l .inv .3, c .before .before .before .before .before .before .before .before .before .before .before .before .before .before .before .if1 .left) in z) (c .before .before .before .before .before .before .before .before .before .before .before .parse .ensures)
+      (calm-by s (l .store) (l .log) (c .before .before .before .before .before .before .before .before .before .before .before .parse .result) (c .before .before .before .before .before .stop .given .0 .0) _ _ _ _ calm (c .before .before .show .ensures)) (refl),
+      l .inv .1,
+      l .inv .2,
+      c .before .before .show .kept .1 .0 ∙ l .inv .3,
+    )
 
-same-length-10 : tie.Need-same-length-10 Inv-loop μ-loop
-same-length-10 c = c .before .loop .inv .2
+enum-told-2 : tie.Need-enum-told-2 Inv-loop μ-loop Inv-lines μ-lines
+enum-told-2 c = search needs
 
-same-length-11 : tie.Need-same-length-11 Inv-loop μ-loop
-same-length-11 c = c .before .loop .inv .3
+session-of-requires-3 : tie.Need-session-of-requires-3 Inv-loop μ-loop Inv-lines μ-lines
+session-of-requires-3 c κs = search needs
 
-same-length-12 : tie.Need-same-length-12 Inv-loop μ-loop
-same-length-12 c = c .before .loop .inv .4
+play-requires : tie.Need-play-requires Inv-loop μ-loop Inv-lines μ-lines
+play-requires c κs = 
+    let l = c .before .before .before .before .before .before .before .before .before .before .before .before .before .before .before .before .lines in
+    let s = sessionOf (l .live) (l .words) (l .bench) in
+    ((let z : l .wrote + 72 ≤ length (l .out) = omega (arith, l .inv .0 .fits, l .inv .3, c .before .before .before .before .before .before .before .before .before .before .before .before .before .before .if1 .left) in z), ap (λ (x : Session). askedOf (x .live) (c .before .before .before .before .before .before .before .before .before .before .parse .result)) (c .before .before .before .session-of3 .ensures) ∙ sym (c .before .before .before .before .before .before .before .before .before .ask .ensures) ∙ c .before .before .before .before .before .before .before .enum-told .given .1)
 
-returns-4 : tie.Need-returns-4 Inv-loop μ-loop
-returns-4 c = let l = c .before .loop in let s = c .before .before .before .before .before .before .args .buf .now in fed-on _ _ _ _ _ _ _ _ (l .inv .0) (l .inv .1) _ (l .inv .5) (λ e. nothing-open s (l .used) (omega arith)) (λ e. never (sym e))
+same-length-7 : tie.Need-same-length-7 Inv-loop μ-loop Inv-lines μ-lines
+same-length-7 c = c .before .before .before .before .before .before .before .before .before .before .play .kept .1 .1 .0 ∙ c .before .before .before .before .before .before .before .before .before .before .before .before .before .before .before .before .before .before .before .before .before .before .before .before .before .before .before .lines .inv .1
+
+same-length-8 : tie.Need-same-length-8 Inv-loop μ-loop Inv-lines μ-lines
+same-length-8 c = c .before .before .before .before .before .before .before .before .before .before .play .kept .1 .1 .1 .0 ∙ c .before .before .before .before .before .before .before .before .before .before .before .before .before .before .before .before .before .before .before .before .before .before .before .before .before .before .before .lines .inv .2
+
+same-length-9 : tie.Need-same-length-9 Inv-loop μ-loop Inv-lines μ-lines
+same-length-9 c = c .before .before .before .before .before .before .before .before .before .before .play .kept .1 .1 .1 .1 .0 ∙ c .before .before .before .before .before .before .before .before .before .before .before .before .before .before .before .before .before .before .before .before .before .before .before .before .before .before .before .lines .inv .3
+
+returns-3 : tie.Need-returns-3 Inv-loop μ-loop Inv-lines μ-lines
+returns-3 c = 
+    let l = c .before .before .before .before .before .before .before .before .before .before .before .before .before .before .before .before .before .before .before .before .before .before .before .before .before .before .before .lines in
+    let s = sessionOf (l .live) (l .words) (l .bench) in
+    (standing-over _ _ s (l .store) (l .log) (l .out) (l .used) (l .wrote) _ _ _ _ _ _ (l .inv .0) (c .before .before .before .before .before .before .before .before .before .before .before .before .before .before .before .before .before .before .before .before .before .before .before .before .line-end .ensures) (c .before .before .before .before .before .before .before .before .before .before .before .before .before .before .before .before .before .before .before .before .before .before .before .if2 .left) (let z : l .wrote + 72 ≤ length (l .out) = omega (arith, l .inv .0 .fits, l .inv .3, c .before .before .before .before .before .before .before .before .before .before .before .before .before .before .before .before .before .before .before .before .before .before .before .before .before .if1 .left) in z) (c .before .before .before .before .before .before .before .before .before .before .before .before .before .before .before .before .before .before .before .before .before .parse .ensures)
+      (subst (λ (x : Session). PlayedBy (respond (programOf x (l .store) (l .log)) (c .before .before .before .before .before .before .before .before .before .before .before .before .before .before .before .before .before .before .before .before .before .parse .result)) (c .before .before .before .before .before .before .before .before .before .before .play .result) (c .before .before .before .before .before .before .before .before .before .before .play .last .1 .1 .0) (c .before .before .before .before .before .before .before .before .before .before .play .last .1 .1 .1 .0) (l .out) (l .wrote) (c .before .before .before .before .before .before .before .before .before .before .play .last .1 .1 .1 .1 .0)) (c .before .before .before .before .before .before .before .before .before .before .before .before .before .before .session-of3 .ensures) (c .before .before .before .before .before .before .before .before .before .before .play .ensures)) (c .if3 .taken), reach-over (c .before .before .before .before .before .before .before .before .before .before .play .result .session) (c .before .before .before .before .before .before .before .before .before .before .play .last .1 .1 .0) (c .before .before .before .before .before .before .before .before .before .before .play .last .1 .1 .1 .0))
+
+lines-less-2 : tie.Need-lines-less-2 Inv-loop μ-loop Inv-lines μ-lines
+lines-less-2 c = omega (arith, c .before .before .before .before .before .before .before .before .before .before .before .before .before .before .before .before .before .before .before .before .before .before .before .before .line-end .ensures, c .before .before .before .before .before .before .before .before .before .before .before .before .before .before .before .before .before .before .before .before .before .before .before .before .before .before .lines-test .taken)
+
+lines-again-2 : tie.Need-lines-again-2 Inv-loop μ-loop Inv-lines μ-lines
+lines-again-2 c = 
+    let l = c .before .before .before .before .before .before .before .before .before .before .before .before .before .before .before .before .before .before .before .before .before .before .before .before .before .before .before .lines in
+    let s = sessionOf (l .live) (l .words) (l .bench) in(
+      standing-on _ _ s (l .store) (l .log) (l .out) (l .used) (l .wrote) _ _ _ _ _ _ (l .inv .0) (c .before .before .before .before .before .before .before .before .before .before .before .before .before .before .before .before .before .before .before .before .before .before .before .before .line-end .ensures) (c .before .before .before .before .before .before .before .before .before .before .before .before .before .before .before .before .before .before .before .before .before .before .before .if2 .left) (let z : l .wrote + 72 ≤ length (l .out) = omega (arith, l .inv .0 .fits, l .inv .3, c .before .before .before .before .before .before .before .before .before .before .before .before .before .before .before .before .before .before .before .before .before .before .before .before .before .if1 .left) in z) (c .before .before .before .before .before .before .before .before .before .before .before .before .before .before .before .before .before .before .before .before .before .parse .ensures)
+      (subst (λ (x : Session). PlayedBy (respond (programOf x (l .store) (l .log)) (c .before .before .before .before .before .before .before .before .before .before .before .before .before .before .before .before .before .before .before .before .before .parse .result)) (c .before .before .before .before .before .before .before .before .before .before .play .result) (c .before .before .before .before .before .before .before .before .before .before .play .last .1 .1 .0) (c .before .before .before .before .before .before .before .before .before .before .play .last .1 .1 .1 .0) (l .out) (l .wrote) (c .before .before .before .before .before .before .before .before .before .before .play .last .1 .1 .1 .1 .0)) (c .before .before .before .before .before .before .before .before .before .before .before .before .before .before .session-of3 .ensures) (c .before .before .before .before .before .before .before .before .before .before .play .ensures)) (c .if3 .left),
+      c .before .before .before .before .before .before .before .before .before .before .play .kept .1 .1 .0 ∙ l .inv .1,
+      c .before .before .before .before .before .before .before .before .before .before .play .kept .1 .1 .1 .0 ∙ l .inv .2,
+      c .before .before .before .before .before .before .before .before .before .before .play .kept .1 .1 .1 .1 .0 ∙ l .inv .3,
+    )
+
+place-of-requires : tie.Need-place-of-requires Inv-loop μ-loop Inv-lines μ-lines
+place-of-requires c κs = search needs
+
+span-requires : tie.Need-span-requires Inv-loop μ-loop Inv-lines μ-lines
+span-requires c κs = search needs
+
+loop-holds : tie.Need-loop-holds Inv-loop μ-loop Inv-lines μ-lines
+loop-holds c = 
+    let l = c .before .before .before .before .before .before .before .before .before .before .before .before .before .lines in
+    let s = sessionOf (l .live) (l .words) (l .bench) in
+    let v = asked-live (l .live) (c .before .before .before .before .before .before .before .parse .result) (c .before .before .before .before .asked .given .0 .0) (c .before .before .before .before .asked .given .0 .1 .0) (sym (c .before .before .before .before .before .before .ask .ensures) ∙ c .before .before .before .before .asked .given .1) in
+    (stepping-start s (l .store) (l .log) _ _ (l .out) (l .wrote) v, reached-of s (l .store) (l .log) v (l .inv .0 .reach), refl, refl, refl)
+
+lines-less-3 : tie.Need-lines-less-3 Inv-loop μ-loop Inv-lines μ-lines
+lines-less-3 c = omega (arith, c .before .before .before .before .before .before .before .before .before .before .before .before .line-end .ensures, c .before .before .before .before .before .before .before .before .before .before .before .before .before .before .lines-test .taken)
+
+lines-again-3 : tie.Need-lines-again-3 Inv-loop μ-loop Inv-lines μ-lines
+lines-again-3 c = 
+    let l = c .before .before .before .before .before .before .before .before .before .before .before .before .before .before .before .lines in
+    let s = sessionOf (l .live) (l .words) (l .bench) in
+    let k = c .before .loop in (
+      standing-on _ _ s (l .store) (l .log) (l .out) (l .used) (l .wrote) _ _ _ _ _ _ (l .inv .0) (c .before .before .before .before .before .before .before .before .before .before .before .before .line-end .ensures) (c .before .before .before .before .before .before .before .before .before .before .before .if2 .left) (let z : l .wrote + 72 ≤ length (l .out) = omega (arith, l .inv .0 .fits, l .inv .3, c .before .before .before .before .before .before .before .before .before .before .before .before .before .if1 .left) in z) (c .before .before .before .before .before .before .before .before .before .parse .ensures)
+      (steps-by s _ _ _ _ _ _ _ _ _ _ _ (sym (c .before .before .before .before .before .before .before .before .ask .ensures) ∙ c .before .before .before .before .before .before .asked .given .1) (stepping-over _ _ _ _ _ _ (k .left) _ _ _ _ (k .inv .0) (omega (arith, c .loop-test .left)))) (refl),
+      k .inv .2 ∙ l .inv .1,
+      k .inv .3 ∙ l .inv .2,
+      k .inv .4 ∙ l .inv .3,
+    )
+
+mul-own : tie.Need-mul-own Inv-loop μ-loop Inv-lines μ-lines
+mul-own c = search needs
+
+element-copy-out-own : tie.Need-element-copy-out-own Inv-loop μ-loop Inv-lines μ-lines
+element-copy-out-own c = omega (arith, c .before .before .before .before .place-of .ensures .0)
+
+slice-reshare-prefix-look : tie.Need-slice-reshare-prefix-look Inv-loop μ-loop Inv-lines μ-lines
+slice-reshare-prefix-look c = omega (arith, c .before .before .before .span .ensures, c .before .before .loop .inv .2)
+
+slice-aggregate-look : tie.Need-slice-aggregate-look Inv-loop μ-loop Inv-lines μ-lines
+slice-aggregate-look c = sym (length-take-le _ _ (omega (arith, c .before .before .before .before .span .ensures, c .before .before .before .loop .inv .2)))
+
+look-requires : tie.Need-look-requires Inv-loop μ-loop Inv-lines μ-lines
+look-requires c κs = 
+    let l = c .before .before .before .before .before .before .before .before .before .before .before .before .before .before .before .before .before .before .lines in
+    let s = sessionOf (l .live) (l .words) (l .bench) in
+    let k = c .before .before .before .before .loop in
+    let t = sessionOf (l .live) (l .words) (k .bench) in
+    let e = c .before .before .before .before .before .span .ensures ∙ ap (min (l .words)) (sym (k .inv .2)) in
+    (valid-front (k .bench) (l .words) _ (k .store) (k .log) e (k .inv .1), λ h. ap (lineAt (k .bench .workers)) (c .before .before .before .before .before .before .before .place-of .ensures .1 h))
+
+enum-known-turn : tie.Need-enum-known-turn Inv-loop μ-loop Inv-lines μ-lines
+enum-known-turn c = search needs
+
+show-requires-2 : tie.Need-show-requires-2 Inv-loop μ-loop Inv-lines μ-lines
+show-requires-2 c κs = 
+    let l = c .before .before .before .before .before .before .before .before .before .before .before .before .before .before .before .before .before .before .before .before .before .before .before .lines in
+    let s = sessionOf (l .live) (l .words) (l .bench) in
+    let k = c .before .before .before .before .before .before .before .before .before .loop in
+    let t = sessionOf (l .live) (l .words) (k .bench) in
+    let e = c .before .before .before .before .before .before .before .before .before .before .span .ensures ∙ ap (min (l .words)) (sym (k .inv .2)) in
+    let look = subst (TurnOf (worldOf t (k .store) (k .log)) (c .before .before .before .before .before .before .before .before .before .before .before .before .before .before .asked .given .0 .0)) (c .before .before .turn .given .1) (turn-front (k .bench) (l .words) _ (k .store) (k .log) (c .before .before .before .before .before .before .before .before .before .before .before .before .before .before .asked .given .0 .0) (c .before .before .before .before .look .result) e (c .before .before .before .before .look .ensures)) in
+    stepping-room _ _ _ _ _ _ (k .left) _ _ _ _ (k .inv .0) _ (let z : l .wrote + 72 ≤ length (l .out) = omega (arith, l .inv .0 .fits, l .inv .3, c .before .before .before .before .before .before .before .before .before .before .before .before .before .before .before .before .before .before .before .before .before .if1 .left) in z) (c .before .before .before .before .before .before .before .before .loop-test .taken) (ap (λ (d : Outcome). d .answer) (sym look))
+
+lines-less-4 : tie.Need-lines-less-4 Inv-loop μ-loop Inv-lines μ-lines
+lines-less-4 c = omega (arith, c .before .before .before .before .before .before .before .before .before .before .before .before .before .before .before .before .before .before .before .before .before .before .before .line-end .ensures, c .before .before .before .before .before .before .before .before .before .before .before .before .before .before .before .before .before .before .before .before .before .before .before .before .before .lines-test .taken)
+
+lines-again-4 : tie.Need-lines-again-4 Inv-loop μ-loop Inv-lines μ-lines
+lines-again-4 c = 
+    let l = c .before .before .before .before .before .before .before .before .before .before .before .before .before .before .before .before .before .before .before .before .before .before .before .before .before .before .lines in
+    let s = sessionOf (l .live) (l .words) (l .bench) in
+    let k = c .before .before .before .before .before .before .before .before .before .before .before .before .loop in
+    let t = sessionOf (l .live) (l .words) (k .bench) in
+    let e = c .before .before .before .before .before .before .before .before .before .before .before .before .before .span .ensures ∙ ap (min (l .words)) (sym (k .inv .2)) in
+    let look = subst (TurnOf (worldOf t (k .store) (k .log)) (c .before .before .before .before .before .before .before .before .before .before .before .before .before .before .before .before .before .asked .given .0 .0)) (c .before .before .before .before .before .turn .given .1) (turn-front (k .bench) (l .words) _ (k .store) (k .log) (c .before .before .before .before .before .before .before .before .before .before .before .before .before .before .before .before .before .asked .given .0 .0) (c .before .before .before .before .before .before .before .look .result) e (c .before .before .before .before .before .before .before .look .ensures)) in(
+      standing-on _ _ s (l .store) (l .log) (l .out) (l .used) (l .wrote) _ _ _ _ _ _ (l .inv .0) (c .before .before .before .before .before .before .before .before .before .before .before .before .before .before .before .before .before .before .before .before .before .before .before .line-end .ensures) (c .before .before .before .before .before .before .before .before .before .before .before .before .before .before .before .before .before .before .before .before .before .before .if2 .left) (let z : l .wrote + 72 ≤ length (l .out) = omega (arith, l .inv .0 .fits, l .inv .3, c .before .before .before .before .before .before .before .before .before .before .before .before .before .before .before .before .before .before .before .before .before .before .before .before .if1 .left) in z) (c .before .before .before .before .before .before .before .before .before .before .before .before .before .before .before .before .before .before .before .before .parse .ensures)
+      (steps-by s _ _ _ _ _ _ _ _ _ _ _ (sym (c .before .before .before .before .before .before .before .before .before .before .before .before .before .before .before .before .before .before .before .ask .ensures) ∙ c .before .before .before .before .before .before .before .before .before .before .before .before .before .before .before .before .before .asked .given .1) (stepping-stops _ _ _ _ _ _ (k .left) _ _ _ _ (k .inv .0) (c .before .before .before .before .before .before .before .before .before .before .before .loop-test .taken) t _ (k .store) (k .log) (sym look) (k .inv .0 .live) _ _ (c .before .before .show2 .ensures) refl)) (refl),
+      k .inv .2 ∙ l .inv .1,
+      k .inv .3 ∙ l .inv .2,
+      c .before .before .show2 .kept .1 .0 ∙ k .inv .4 ∙ l .inv .3,
+    )
+
+enum-known-turn-2 : tie.Need-enum-known-turn-2 Inv-loop μ-loop Inv-lines μ-lines
+enum-known-turn-2 c = search needs
+
+enum-known-act : tie.Need-enum-known-act Inv-loop μ-loop Inv-lines μ-lines
+enum-known-act c = search needs
+
+do-act-requires : tie.Need-do-act-requires Inv-loop μ-loop Inv-lines μ-lines
+do-act-requires c κs = 
+    let l = c .before .before .before .before .before .before .before .before .before .before .before .before .before .before .before .before .before .before .before .before .before .before .before .before .before .lines in
+    let s = sessionOf (l .live) (l .words) (l .bench) in
+    let k = c .before .before .before .before .before .before .before .before .before .before .before .loop in
+    let t = sessionOf (l .live) (l .words) (k .bench) in
+    let e = c .before .before .before .before .before .before .before .before .before .before .before .before .span .ensures ∙ ap (min (l .words)) (sym (k .inv .2)) in
+    let look = subst (TurnOf (worldOf t (k .store) (k .log)) (c .before .before .before .before .before .before .before .before .before .before .before .before .before .before .before .before .asked .given .0 .0)) (c .before .before .before .before .turn2 .given .1) (turn-front (k .bench) (l .words) _ (k .store) (k .log) (c .before .before .before .before .before .before .before .before .before .before .before .before .before .before .before .before .asked .given .0 .0) (c .before .before .before .before .before .before .look .result) e (c .before .before .before .before .before .before .look .ensures)) in
+    ((look .0, look .1), look .2)
+
+show-requires-3 : tie.Need-show-requires-3 Inv-loop μ-loop Inv-lines μ-lines
+show-requires-3 c κs = 
+    let l = c .before .before .before .before .before .before .before .before .before .before .before .before .before .before .before .before .before .before .before .before .before .before .before .before .before .before .before .before .before .before .before .before .lines in
+    let s = sessionOf (l .live) (l .words) (l .bench) in
+    let k = c .before .before .before .before .before .before .before .before .before .before .before .before .before .before .before .before .before .before .loop in
+    let t = sessionOf (l .live) (l .words) (k .bench) in
+    let e = c .before .before .before .before .before .before .before .before .before .before .before .before .before .before .before .before .before .before .before .span .ensures ∙ ap (min (l .words)) (sym (k .inv .2)) in
+    let look = subst (TurnOf (worldOf t (k .store) (k .log)) (c .before .before .before .before .before .before .before .before .before .before .before .before .before .before .before .before .before .before .before .before .before .before .before .asked .given .0 .0)) (c .before .before .before .before .before .before .before .before .before .before .before .turn2 .given .1) (turn-front (k .bench) (l .words) _ (k .store) (k .log) (c .before .before .before .before .before .before .before .before .before .before .before .before .before .before .before .before .before .before .before .before .before .before .before .asked .given .0 .0) (c .before .before .before .before .before .before .before .before .before .before .before .before .before .look .result) e (c .before .before .before .before .before .before .before .before .before .before .before .before .before .look .ensures)) in
+    stepping-room _ _ _ _ _ _ (k .left) _ _ _ _ (k .inv .0) (c .before .before .before .before .before .before .do-act .result .answer) (let z : l .wrote + 72 ≤ length (l .out) = omega (arith, l .inv .0 .fits, l .inv .3, c .before .before .before .before .before .before .before .before .before .before .before .before .before .before .before .before .before .before .before .before .before .before .before .before .before .before .before .before .before .before .if1 .left) in z) (c .before .before .before .before .before .before .before .before .before .before .before .before .before .before .before .before .before .loop-test .taken) (ap (λ (d : Outcome). d .answer) (c .before .before .before .before .before .before .do-act .ensures ∙ sym (look .3)))
+
+judge-requires : tie.Need-judge-requires Inv-loop μ-loop Inv-lines μ-lines
+judge-requires c κs = search needs
+
+enum-told-3 : tie.Need-enum-told-3 Inv-loop μ-loop Inv-lines μ-lines
+enum-told-3 c = search needs
+
+enum-told-4 : tie.Need-enum-told-4 Inv-loop μ-loop Inv-lines μ-lines
+enum-told-4 c = search needs
+
+lines-less-5 : tie.Need-lines-less-5 Inv-loop μ-loop Inv-lines μ-lines
+lines-less-5 c = omega (arith, c .before .before .before .before .before .before .before .before .before .before .before .before .before .before .before .before .before .before .before .before .before .before .before .before .before .before .before .before .before .before .before .before .before .before .before .line-end .ensures, c .before .before .before .before .before .before .before .before .before .before .before .before .before .before .before .before .before .before .before .before .before .before .before .before .before .before .before .before .before .before .before .before .before .before .before .before .before .lines-test .taken)
+
+lines-again-5 : tie.Need-lines-again-5 Inv-loop μ-loop Inv-lines μ-lines
+lines-again-5 c = 
+    let l = c .before .before .before .before .before .before .before .before .before .before .before .before .before .before .before .before .before .before .before .before .before .before .before .before .before .before .before .before .before .before .before .before .before .before .before .before .before .before .lines in
+    let s = sessionOf (l .live) (l .words) (l .bench) in
+    let k = c .before .before .before .before .before .before .before .before .before .before .before .before .before .before .before .before .before .before .before .before .before .before .before .before .loop in
+    let t = sessionOf (l .live) (l .words) (k .bench) in
+    let e = c .before .before .before .before .before .before .before .before .before .before .before .before .before .before .before .before .before .before .before .before .before .before .before .before .before .span .ensures ∙ ap (min (l .words)) (sym (k .inv .2)) in
+    let look = subst (TurnOf (worldOf t (k .store) (k .log)) (c .before .before .before .before .before .before .before .before .before .before .before .before .before .before .before .before .before .before .before .before .before .before .before .before .before .before .before .before .before .asked .given .0 .0)) (c .before .before .before .before .before .before .before .before .before .before .before .before .before .before .before .before .before .turn2 .given .1) (turn-front (k .bench) (l .words) _ (k .store) (k .log) (c .before .before .before .before .before .before .before .before .before .before .before .before .before .before .before .before .before .before .before .before .before .before .before .before .before .before .before .before .before .asked .given .0 .0) (c .before .before .before .before .before .before .before .before .before .before .before .before .before .before .before .before .before .before .before .look .result) e (c .before .before .before .before .before .before .before .before .before .before .before .before .before .before .before .before .before .before .before .look .ensures)) in
+    let next = sessionOf (l .live) (l .words) (c .before .before .before .before .before .before .before .before .before .before .before .before .do-act .result .bench) in
+    let by = c .before .before .before .before .before .before .before .before .before .before .before .before .do-act .ensures ∙ sym (look .3) in(
+      standing-on _ _ s (l .store) (l .log) (l .out) (l .used) (l .wrote) _ _ _ _ _ _ (l .inv .0) (c .before .before .before .before .before .before .before .before .before .before .before .before .before .before .before .before .before .before .before .before .before .before .before .before .before .before .before .before .before .before .before .before .before .before .before .line-end .ensures) (c .before .before .before .before .before .before .before .before .before .before .before .before .before .before .before .before .before .before .before .before .before .before .before .before .before .before .before .before .before .before .before .before .before .before .if2 .left) (let z : l .wrote + 72 ≤ length (l .out) = omega (arith, l .inv .0 .fits, l .inv .3, c .before .before .before .before .before .before .before .before .before .before .before .before .before .before .before .before .before .before .before .before .before .before .before .before .before .before .before .before .before .before .before .before .before .before .before .before .if1 .left) in z) (c .before .before .before .before .before .before .before .before .before .before .before .before .before .before .before .before .before .before .before .before .before .before .before .before .before .before .before .before .before .before .before .before .parse .ensures)
+      (steps-by s _ _ _ _ _ _ _ _ _ _ _ (sym (c .before .before .before .before .before .before .before .before .before .before .before .before .before .before .before .before .before .before .before .before .before .before .before .before .before .before .before .before .before .before .before .ask .ensures) ∙ c .before .before .before .before .before .before .before .before .before .before .before .before .before .before .before .before .before .before .before .before .before .before .before .before .before .before .before .before .before .asked .given .1) (stepping-stops _ _ _ _ _ _ (k .left) _ _ _ _ (k .inv .0) (c .before .before .before .before .before .before .before .before .before .before .before .before .before .before .before .before .before .before .before .before .before .before .before .loop-test .taken) next (c .before .before .before .before .before .before .before .before .before .before .before .before .do-act .result .answer) _ _ by (k .inv .0 .live) _ _ (c .before .before .before .before .before .show3 .ensures) (judged-stopped (c .before .before .before .before .before .before .before .before .before .before .before .before .do-act .result .answer) (sym (c .before .before .judge .ensures) ∙ c .enum-told4 .given .1)))) (refl),
+      c .before .before .before .before .before .before .before .before .before .before .before .before .do-act .kept .1 .1 .1 .1 .0 ∙ k .inv .2 ∙ l .inv .1,
+      c .before .before .before .before .before .before .before .before .before .before .before .before .do-act .kept .1 .1 .1 .1 .1 .0 ∙ k .inv .3 ∙ l .inv .2,
+      c .before .before .before .before .before .show3 .kept .1 .0 ∙ k .inv .4 ∙ l .inv .3,
+    )
+
+sub-left : tie.Need-sub-left Inv-loop μ-loop Inv-lines μ-lines
+sub-left c = omega (arith, c .before .before .before .before .before .before .before .before .before .before .before .before .before .before .before .before .before .before .before .before .before .before .before .loop-test .taken)
+
+loop-less : tie.Need-loop-less Inv-loop μ-loop Inv-lines μ-lines
+loop-less c = omega (arith, c .before .before .before .before .before .before .before .before .before .before .before .before .before .before .before .before .before .before .before .before .before .before .before .loop-test .taken)
+
+loop-again : tie.Need-loop-again Inv-loop μ-loop Inv-lines μ-lines
+loop-again c = 
+    let l = c .before .before .before .before .before .before .before .before .before .before .before .before .before .before .before .before .before .before .before .before .before .before .before .before .before .before .before .before .before .before .before .before .before .before .before .before .before .before .lines in
+    let s = sessionOf (l .live) (l .words) (l .bench) in
+    let k = c .before .before .before .before .before .before .before .before .before .before .before .before .before .before .before .before .before .before .before .before .before .before .before .before .loop in
+    let t = sessionOf (l .live) (l .words) (k .bench) in
+    let e = c .before .before .before .before .before .before .before .before .before .before .before .before .before .before .before .before .before .before .before .before .before .before .before .before .before .span .ensures ∙ ap (min (l .words)) (sym (k .inv .2)) in
+    let look = subst (TurnOf (worldOf t (k .store) (k .log)) (c .before .before .before .before .before .before .before .before .before .before .before .before .before .before .before .before .before .before .before .before .before .before .before .before .before .before .before .before .before .asked .given .0 .0)) (c .before .before .before .before .before .before .before .before .before .before .before .before .before .before .before .before .before .turn2 .given .1) (turn-front (k .bench) (l .words) _ (k .store) (k .log) (c .before .before .before .before .before .before .before .before .before .before .before .before .before .before .before .before .before .before .before .before .before .before .before .before .before .before .before .before .before .asked .given .0 .0) (c .before .before .before .before .before .before .before .before .before .before .before .before .before .before .before .before .before .before .before .look .result) e (c .before .before .before .before .before .before .before .before .before .before .before .before .before .before .before .before .before .before .before .look .ensures)) in
+    let next = sessionOf (l .live) (l .words) (c .before .before .before .before .before .before .before .before .before .before .before .before .do-act .result .bench) in
+    let by = c .before .before .before .before .before .before .before .before .before .before .before .before .do-act .ensures ∙ sym (look .3) in(
+      stepping-on _ _ _ _ _ _ (k .left) _ _ _ _ (k .inv .0) (c .before .before .before .before .before .before .before .before .before .before .before .before .before .before .before .before .before .before .before .before .before .before .before .loop-test .taken) next (c .before .before .before .before .before .before .before .before .before .before .before .before .do-act .result .answer) _ _ by (k .inv .0 .live) _ _ (c .before .before .before .before .before .show3 .ensures) (judged-made (c .before .before .before .before .before .before .before .before .before .before .before .before .do-act .result .answer) (sym (c .before .before .judge .ensures) ∙ c .enum-told3 .given .1)),
+      reached-step (worldOf t (k .store) (k .log)) _ _ _ by (k .inv .1),
+      c .before .before .before .before .before .before .before .before .before .before .before .before .do-act .kept .1 .1 .1 .1 .0 ∙ k .inv .2,
+      c .before .before .before .before .before .before .before .before .before .before .before .before .do-act .kept .1 .1 .1 .1 .1 .0 ∙ k .inv .3,
+      c .before .before .before .before .before .show3 .kept .1 .0 ∙ k .inv .4,
+    )
+
+count-restart-requires : tie.Need-count-restart-requires Inv-loop μ-loop Inv-lines μ-lines
+count-restart-requires c κs = search needs
+
+mul-t81 : tie.Need-mul-t81 Inv-loop μ-loop Inv-lines μ-lines
+mul-t81 c = search needs
+
+element-set-from-bench : tie.Need-element-set-from-bench Inv-loop μ-loop Inv-lines μ-lines
+element-set-from-bench c = search needs
+
+sub-left-2 : tie.Need-sub-left-2 Inv-loop μ-loop Inv-lines μ-lines
+sub-left-2 c = omega (arith, c .before .before .before .before .before .before .before .before .before .before .before .loop-test .taken)
+
+loop-less-2 : tie.Need-loop-less-2 Inv-loop μ-loop Inv-lines μ-lines
+loop-less-2 c = omega (arith, c .before .before .before .before .before .before .before .before .before .before .before .loop-test .taken)
+
+loop-again-2 : tie.Need-loop-again-2 Inv-loop μ-loop Inv-lines μ-lines
+unfolding enact
+loop-again-2 c = 
+    let l = c .before .before .before .before .before .before .before .before .before .before .before .before .before .before .before .before .before .before .before .before .before .before .before .before .before .before .lines in
+    let s = sessionOf (l .live) (l .words) (l .bench) in
+    let k = c .before .before .before .before .before .before .before .before .before .before .before .before .loop in
+    let t = sessionOf (l .live) (l .words) (k .bench) in
+    let e = c .before .before .before .before .before .before .before .before .before .before .before .before .before .span .ensures ∙ ap (min (l .words)) (sym (k .inv .2)) in
+    let look = subst (TurnOf (worldOf t (k .store) (k .log)) (c .before .before .before .before .before .before .before .before .before .before .before .before .before .before .before .before .before .asked .given .0 .0)) (c .before .before .before .before .before .turn2 .given .1) (turn-front (k .bench) (l .words) _ (k .store) (k .log) (c .before .before .before .before .before .before .before .before .before .before .before .before .before .before .before .before .before .asked .given .0 .0) (c .before .before .before .before .before .before .before .look .result) e (c .before .before .before .before .before .before .before .look .ensures)) in
+    let by = goes-by (k .bench) _ _ _ _ (take (l .words) (k .store)) (k .log) (c .before .before .before .before .before .before .before .before .before .before .before .before .before .before .before .place-of .ensures .1 (look .0)) (c .count-restart .ensures) (look .3 ∙ ap (λ (a : Act). commit (worldOf t (k .store) (k .log)) (c .before .before .before .before .before .before .before .before .before .before .before .before .before .before .before .before .before .asked .given .0 .0) (enact (k .bench .queue) (take (l .words) (k .store)) a)) (c .before .before .act .given .1)) in (
+      stepping-on _ _ _ _ _ _ (k .left) _ _ _ _ (k .inv .0) (c .before .before .before .before .before .before .before .before .before .before .before .loop-test .taken) _ GoesOn (k .store) (k .log) by (k .inv .0 .live) _ _ (shows-none (k .out) (k .wrote)) refl,
+      reached-step (worldOf t (k .store) (k .log)) _ _ _ by (k .inv .1),
+      k .inv .2,
+      k .inv .3,
+      k .inv .4,
+    )
+
+session-of-requires-4 : tie.Need-session-of-requires-4 Inv-loop μ-loop Inv-lines μ-lines
+session-of-requires-4 c κs = search needs
+
+same-length-10 : tie.Need-same-length-10 Inv-loop μ-loop Inv-lines μ-lines
+same-length-10 c = c .before .before .lines .inv .1
+
+same-length-11 : tie.Need-same-length-11 Inv-loop μ-loop Inv-lines μ-lines
+same-length-11 c = c .before .before .lines .inv .2
+
+same-length-12 : tie.Need-same-length-12 Inv-loop μ-loop Inv-lines μ-lines
+same-length-12 c = c .before .before .lines .inv .3
+
+returns-4 : tie.Need-returns-4 Inv-loop μ-loop Inv-lines μ-lines
+returns-4 c = 
+    let l = c .before .before .lines in
+    (
+      subst (λ (t : Session). FedBy (programOf (c .before .before .before .before .before .before .before .before .before .args .session) (c .before .before .before .before .before .before .before .before .before .args .store .now) (c .before .before .before .before .before .before .before .before .before .args .log .now)) (c .before .before .before .before .before .before .before .before .before .args .buf .now) (record { session = t; used = l .used; wrote = l .wrote; stops = false; full = false }) (l .store) (l .log) (l .out)) (sym (c .session-of4 .ensures))
+      (fed-on _ _ _ _ _ _ _ _ (l .inv .0 .within) (l .inv .0 .fits) _ (l .inv .0 .heard) (λ e. nothing-open (c .before .before .before .before .before .before .before .before .before .args .buf .now) (l .used) (omega (arith, c .before .lines-test .left))) (λ e. never (sym e))),
+      subst (λ (t : Session). Reachable (leftBy false t (l .store) (l .log))) (sym (c .session-of4 .ensures)) (reach-left (sessionOf (l .live) (l .words) (l .bench)) (l .store) (l .log) (l .inv .0 .reach)),
+    )
 
 pub feed-spec : {M : Type 1} → statement M
 feed-spec =
@@ -116,13 +405,17 @@ feed-spec =
     (tie.spec
     Inv-loop
     μ-loop
-    loop-holds
+    Inv-lines
+    μ-lines
+    lines-holds
     sub-if1
+    session-of-requires
     same-length
     same-length-2
     same-length-3
     returns
     line-end-requires
+    session-of-requires-2
     same-length-4
     same-length-5
     same-length-6
@@ -131,14 +424,57 @@ feed-spec =
     part-parse-start
     part-parse-end
     parse-requires
-    play-requires
     add-used
+    ask-requires
+    enum-known-asked
+    enum-told
+    calm-requires
+    enum-known-stop
+    show-requires
+    lines-less
+    lines-again
+    enum-told-2
+    session-of-requires-3
+    play-requires
     same-length-7
     same-length-8
     same-length-9
     returns-3
+    lines-less-2
+    lines-again-2
+    place-of-requires
+    span-requires
+    loop-holds
+    lines-less-3
+    lines-again-3
+    mul-own
+    element-copy-out-own
+    slice-reshare-prefix-look
+    slice-aggregate-look
+    look-requires
+    enum-known-turn
+    show-requires-2
+    lines-less-4
+    lines-again-4
+    enum-known-turn-2
+    enum-known-act
+    do-act-requires
+    show-requires-3
+    judge-requires
+    enum-told-3
+    enum-told-4
+    lines-less-5
+    lines-again-5
+    sub-left
     loop-less
     loop-again
+    count-restart-requires
+    mul-t81
+    element-set-from-bench
+    sub-left-2
+    loop-less-2
+    loop-again-2
+    session-of-requires-4
     same-length-10
     same-length-11
     same-length-12

@@ -1,10 +1,17 @@
 use borrow.Author.Needs.{needs}
+use mathlib.Core.Path.{_≡_, sym, ap, subst}
+use mathlib.Core.Bool.{Bool}
+use Rattle.model.specs.Listing.{Program, respond}
+use Rattle.listing.specs.Sessions.{PlayedBy, askedOf}
+use Rattle.listing.specs.declared.Asked.the-variants.{Other}
 use Rattle.listing.proofs.Replies.{program-live, program-waits}
 use Rattle.listing.proofs.play.Statement.{statement}
 use Rattle.listing.proofs.play.Tie as tie
 
 play-live-requires : tie.Need-play-live-requires
-play-live-requires c κs = (c .before .before .before .before .before .before .before .pre, c .before .before .before .if1 .taken)
+play-live-requires c κs = 
+    let a = c .before .before .before .before .before .before .before .args in
+    ((c .before .before .before .before .before .before .before .pre .0, c .before .before .before .if1 .taken), subst (λ (v : Bool). askedOf v (a .command) ≡ Other) (c .before .before .before .if1 .taken) (c .before .before .before .before .before .before .before .pre .1))
 
 same-length : tie.Need-same-length
 same-length c = search needs
@@ -19,7 +26,7 @@ returns : tie.Need-returns
 returns c = let a = c .before .before .before .before .before .before .before .before .before .before .before .before .before .before .args in rw (program-live (a .session) (a .store .now) (a .log .now) (c .before .before .before .before .before .before .before .before .before .before .if1 .taken)) (c .before .before .before .before .before .before .play-live .ensures)
 
 play-waiting-requires : tie.Need-play-waiting-requires
-play-waiting-requires c κs = (c .before .before .before .before .before .before .pre, c .before .before .if1 .left)
+play-waiting-requires c κs = (c .before .before .before .before .before .before .pre .0, c .before .before .if1 .left)
 
 same-length-4 : tie.Need-same-length-4
 same-length-4 c = search needs

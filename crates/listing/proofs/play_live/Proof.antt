@@ -1,6 +1,7 @@
 use borrow.Author.Needs.{needs}
+use mathlib.Core.Path.{_≡_}
 use Rattle.model.specs.Listing.{respond}
-use Rattle.listing.proofs.Replies.{bad-at, program-live}
+use Rattle.listing.proofs.Replies.{program-live, bad-at, asks-steps}
 use Rattle.listing.proofs.play_live.Statement.{statement}
 use Rattle.listing.proofs.play_live.Tie as tie
 
@@ -28,31 +29,32 @@ enum-known-command-2 c = search needs
 begin-requires-3 : tie.Need-begin-requires-3
 begin-requires-3 c κs = search needs
 
-enum-known-command-3 : tie.Need-enum-known-command-3
-enum-known-command-3 c = search needs
-
-steps-requires : tie.Need-steps-requires
-steps-requires c κs = search needs
-
 enum-told-3 : tie.Need-enum-told-3
 enum-told-3 c = search needs
 
-total-requires : tie.Need-total-requires
-total-requires c κs = search needs
+refuse-requires-2 : tie.Need-refuse-requires-2
+refuse-requires-2 c κs = search needs
 
 enum-told-4 : tie.Need-enum-told-4
 enum-told-4 c = search needs
 
-refuse-requires-2 : tie.Need-refuse-requires-2
-refuse-requires-2 c κs = search needs
+total-requires : tie.Need-total-requires
+total-requires c κs = search needs
+
+enum-told-5 : tie.Need-enum-told-5
+enum-told-5 c = search needs
+
+refuse-requires-3 : tie.Need-refuse-requires-3
+refuse-requires-3 c κs = search needs
 
 same-length : tie.Need-same-length
 same-length c = search needs
 
 returns : tie.Need-returns
 unfolding respond
-returns c = let a = c .before .before .before .before .before .before .before .before .before .args in
-    rw (c .before .before .before .before .enum-told .given .1) (bad-at _ _ _ _ _ _ (program-live (a .session) (a .store .now) (a .log .now) (c .before .before .before .before .before .before .before .before .before .pre .1)) (c .before .before .refuse .ensures (a .store .now) (a .log .now)))
+returns c = 
+    let a = c .before .before .before .before .before .before .before .before .before .args in
+    rw (c .before .before .before .before .enum-told .given .1) (bad-at _ _ _ _ _ _ (program-live (a .session) (a .store .now) (a .log .now) (c .before .before .before .before .before .before .before .before .before .pre .0 .1)) (c .before .before .refuse .ensures (a .store .now) (a .log .now)))
 
 same-length-2 : tie.Need-same-length-2
 same-length-2 c = search needs
@@ -96,36 +98,30 @@ returns-4 c = rw (c .before .before .before .before .before .before .before .com
 same-length-11 : tie.Need-same-length-11
 same-length-11 c = search needs
 
+returns-5 : tie.Need-returns-5
+returns-5 c = absurd (asks-steps _ _ _ (c .before .before .before .before .enum-told3 .given .1) (c .before .before .before .before .before .before .before .before .before .pre .1))
+
 same-length-12 : tie.Need-same-length-12
 same-length-12 c = search needs
 
 same-length-13 : tie.Need-same-length-13
 same-length-13 c = search needs
 
-returns-5 : tie.Need-returns-5
-unfolding respond
-returns-5 c = rw (c .before .before .before .before .before .before .before .before .before .before .before .command3 .given .1) (c .before .before .before .before .before .before .steps .ensures)
-
 same-length-14 : tie.Need-same-length-14
 same-length-14 c = search needs
+
+returns-6 : tie.Need-returns-6
+unfolding respond
+returns-6 c = rw (c .before .before .before .before .before .before .enum-told4 .given .1) (c .before .before .total .ensures)
 
 same-length-15 : tie.Need-same-length-15
 same-length-15 c = search needs
 
-same-length-16 : tie.Need-same-length-16
-same-length-16 c = search needs
-
-returns-6 : tie.Need-returns-6
-unfolding respond
-returns-6 c = rw (c .before .before .before .before .before .before .enum-told3 .given .1) (c .before .before .total .ensures)
-
-same-length-17 : tie.Need-same-length-17
-same-length-17 c = search needs
-
 returns-7 : tie.Need-returns-7
 unfolding respond
-returns-7 c = let a = c .before .before .before .before .before .before .before .before .before .args in
-    rw (c .before .before .before .before .enum-told4 .given .1) (bad-at _ _ _ _ _ _ (program-live (a .session) (a .store .now) (a .log .now) (c .before .before .before .before .before .before .before .before .before .pre .1)) (c .before .before .refuse2 .ensures (a .store .now) (a .log .now)))
+returns-7 c = 
+    let a = c .before .before .before .before .before .before .before .before .before .args in
+    rw (c .before .before .before .before .enum-told5 .given .1) (bad-at _ _ _ _ _ _ (program-live (a .session) (a .store .now) (a .log .now) (c .before .before .before .before .before .before .before .before .before .pre .0 .1)) (c .before .before .refuse3 .ensures (a .store .now) (a .log .now)))
 
 pub play-live-spec : {M : Type 1} → statement M
 play-live-spec =
@@ -139,12 +135,12 @@ play-live-spec =
     begin-requires-2
     enum-known-command-2
     begin-requires-3
-    enum-known-command-3
-    steps-requires
     enum-told-3
-    total-requires
-    enum-told-4
     refuse-requires-2
+    enum-told-4
+    total-requires
+    enum-told-5
+    refuse-requires-3
     same-length
     returns
     same-length-2
@@ -160,12 +156,10 @@ play-live-spec =
     same-length-10
     returns-4
     same-length-11
+    returns-5
     same-length-12
     same-length-13
-    returns-5
     same-length-14
-    same-length-15
-    same-length-16
     returns-6
-    same-length-17
+    same-length-15
     returns-7)

@@ -1,9 +1,10 @@
-use mathlib.Core.Path.{refl, sym, _∙_}
-use native.Mathlib.Omega.{arith}
 use borrow.Author.Needs.{needs}
-use borrow.Author.Tests.{lt-ltb, le-ltb}
+use mathlib.Core.Path.{_≡_, refl, sym, _∙_, subst}
+use native.Mathlib.Omega.{arith}
 use Rattle.model.specs.Calls.{lent, beginOf}
-use Rattle.limits.proofs.Chains.{if-true, if-false, passed, refused}
+use Rattle.limits.proofs.Chains.{if-false, passed, refused}
+use Rattle.machine.specs.declared.Stop.{Stop}
+use Rattle.machine.specs.Turns.{BeginStops}
 use Rattle.machine.proofs.Bounds.{bounds-of}
 use Rattle.machine.proofs.Replies.{same-left}
 use Rattle.machine.proofs.begin.Statement.{statement}
@@ -19,86 +20,37 @@ returns : tie.Need-returns
 unfolding beginOf
 returns c = same-left (c .refused .ensures) refl refl ∙ sym (if-false _ (refused (c .before .before .valid .ensures) (c .before .if1 .taken)))
 
+begin-stop-requires : tie.Need-begin-stop-requires
+begin-stop-requires c κs = bounds-of _ (passed (c .before .valid .ensures) (c .if1 .left)) .crew
+
+enum-known-stop : tie.Need-enum-known-stop
+enum-known-stop c = search needs
+
 refused-requires-2 : tie.Need-refused-requires-2
 refused-requires-2 c κs = search needs
 
 returns-2 : tie.Need-returns-2
-unfolding beginOf
-returns-2 c =
+returns-2 c = 
+    let W = lent (c .before .before .before .before .before .before .before .before .before .args .bench) (c .before .before .before .before .before .before .before .before .before .args .store .now) (c .before .before .before .before .before .before .before .before .before .args .log .now) in
     same-left (c .refused2 .ensures) refl refl
-    ∙ sym (if-true _ (passed (c .before .before .before .valid .ensures) (c .before .before .if1 .left)) ∙ if-false _ (le-ltb _ _ (c .before .if2 .taken)))
+    ∙ sym (subst (BeginStops W (c .before .before .before .before .before .before .before .before .before .args .worker) (c .before .before .before .before .before .before .before .before .before .args .operation)) (c .before .before .stop .given .1) (c .before .before .before .before .begin-stop .ensures _ _ (passed (c .before .before .before .before .before .before .valid .ensures) (c .before .before .before .before .before .if1 .left))))
 
-mul-own : tie.Need-mul-own
-mul-own c = search needs
-
-element-copy-out-own : tie.Need-element-copy-out-own
-element-copy-out-own c =
-    let v = bounds-of (lent (c .before .before .before .before .before .args .t1) (c .before .before .before .before .before .args .store .now) (c .before .before .before .before .before .args .log .now)) (passed (c .before .before .valid .ensures) (c .before .if1 .left)) in
-    omega arith
-
-right-hand-requires : tie.Need-right-hand-requires
-right-hand-requires c κs = search needs
-
-is-idle-requires : tie.Need-is-idle-requires
-is-idle-requires c κs = search needs
-
-numbers-left-requires : tie.Need-numbers-left-requires
-numbers-left-requires c κs = search needs
-
-refused-requires-3 : tie.Need-refused-requires-3
-refused-requires-3 c κs = search needs
-
-returns-3 : tie.Need-returns-3
-unfolding beginOf
-returns-3 c =
-    same-left (c .refused3 .ensures) refl refl
-    ∙ sym
-    (if-true _ (passed (c .before .before .before .before .before .before .before .before .valid .ensures) (c .before .before .before .before .before .before .before .if1 .left))
-    ∙ if-true _ (lt-ltb _ _ (c .before .before .before .before .before .before .if2 .left))
-    ∙ if-false _ (refused (c .before .before .before .before .right-hand .ensures) (c .before .if3 .taken)))
-
-refused-requires-4 : tie.Need-refused-requires-4
-refused-requires-4 c κs = search needs
-
-returns-4 : tie.Need-returns-4
-unfolding beginOf
-returns-4 c =
-    same-left (c .refused4 .ensures) refl refl
-    ∙ sym
-    (if-true _ (passed (c .before .before .before .before .before .before .before .before .before .valid .ensures) (c .before .before .before .before .before .before .before .before .if1 .left))
-    ∙ if-true _ (lt-ltb _ _ (c .before .before .before .before .before .before .before .if2 .left))
-    ∙ if-true _ (passed (c .before .before .before .before .before .right-hand .ensures) (c .before .before .if3 .left))
-    ∙ if-false _ (refused (c .before .before .before .before .is-idle .ensures) (c .before .if4 .taken)))
-
-refused-requires-5 : tie.Need-refused-requires-5
-refused-requires-5 c κs = search needs
-
-returns-5 : tie.Need-returns-5
-unfolding beginOf
-returns-5 c =
-    same-left (c .refused5 .ensures) refl refl
-    ∙ sym
-    (if-true _ (passed (c .before .before .before .before .before .before .before .before .before .before .valid .ensures) (c .before .before .before .before .before .before .before .before .before .if1 .left))
-    ∙ if-true _ (lt-ltb _ _ (c .before .before .before .before .before .before .before .before .if2 .left))
-    ∙ if-true _ (passed (c .before .before .before .before .before .before .right-hand .ensures) (c .before .before .before .if3 .left))
-    ∙ if-true _ (passed (c .before .before .before .before .before .is-idle .ensures) (c .before .before .if4 .left))
-    ∙ if-false _ (refused (c .before .before .before .before .numbers-left .ensures) (c .before .if5 .taken)))
+enum-told : tie.Need-enum-told
+enum-told c = search needs
 
 accept-requires : tie.Need-accept-requires
-accept-requires c κs =
-    let v = bounds-of (lent (c .before .before .before .before .before .before .before .before .before .before .before .before .args .t1) (c .before .before .before .before .before .before .before .before .before .before .before .before .args .store .now) (c .before .before .before .before .before .before .before .before .before .before .before .before .args .log .now)) (passed (c .before .before .before .before .before .before .before .before .before .valid .ensures) (c .before .before .before .before .before .before .before .before .if1 .left)) in
-    (omega arith, v .used)
+accept-requires c κs = 
+    let W = lent (c .before .before .before .before .before .before .before .args .bench) (c .before .before .before .before .before .before .before .args .store .now) (c .before .before .before .before .before .before .before .args .log .now) in
+    let v = passed (c .before .before .before .before .valid .ensures) (c .before .before .before .if1 .left) in
+    let b = bounds-of W v in
+    let s = subst (BeginStops W (c .before .before .before .before .before .before .before .args .worker) (c .before .before .before .before .before .before .before .args .operation)) (c .enum-told .given .1) (c .before .before .begin-stop .ensures _ _ v) in
+    (omega (arith, s .0), b .used)
 
-returns-6 : tie.Need-returns-6
-unfolding beginOf
-returns-6 c =
+returns-3 : tie.Need-returns-3
+returns-3 c = 
+    let W = lent (c .before .before .before .before .before .before .before .before .args .bench) (c .before .before .before .before .before .before .before .before .args .store .now) (c .before .before .before .before .before .before .before .before .args .log .now) in
     c .accept .ensures _ _
-    ∙ sym
-    (if-true _ (passed (c .before .before .before .before .before .before .before .before .before .before .valid .ensures) (c .before .before .before .before .before .before .before .before .before .if1 .left))
-    ∙ if-true _ (lt-ltb _ _ (c .before .before .before .before .before .before .before .before .if2 .left))
-    ∙ if-true _ (passed (c .before .before .before .before .before .before .right-hand .ensures) (c .before .before .before .if3 .left))
-    ∙ if-true _ (passed (c .before .before .before .before .before .is-idle .ensures) (c .before .before .if4 .left))
-    ∙ if-true _ (passed (c .before .before .before .before .numbers-left .ensures) (c .before .if5 .left)))
+    ∙ sym (subst (BeginStops W (c .before .before .before .before .before .before .before .before .args .worker) (c .before .before .before .before .before .before .before .before .args .operation)) (c .before .enum-told .given .1) (c .before .before .before .begin-stop .ensures _ _ (passed (c .before .before .before .before .before .valid .ensures) (c .before .before .before .before .if1 .left))) .1)
 
 pub begin-spec : {M : Type 1} → statement M
 begin-spec =
@@ -107,18 +59,10 @@ begin-spec =
     valid-requires
     refused-requires
     returns
+    begin-stop-requires
+    enum-known-stop
     refused-requires-2
     returns-2
-    mul-own
-    element-copy-out-own
-    right-hand-requires
-    is-idle-requires
-    numbers-left-requires
-    refused-requires-3
-    returns-3
-    refused-requires-4
-    returns-4
-    refused-requires-5
-    returns-5
+    enum-told
     accept-requires
-    returns-6)
+    returns-3)

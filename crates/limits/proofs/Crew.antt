@@ -1,0 +1,118 @@
+-- The first k workers are in order as far as each is.
+use mathlib.Core.Bool.{Bool, true, false}
+use mathlib.Core.List.{List}
+use mathlib.Core.Path.{_≡_, refl, sym, _∙_, ap}
+use Prim.Native.Nat.{ℕ, zero, suc, _≤_, _<_}
+use native.Mathlib.Omega.{arith}
+use lib.Dec.{eqb, ltb}
+use borrow.Author.Tests.{ne-eqb, lt-ltb, le-ltb}
+use Rattle.model.specs.declared.Kind.{Kind}
+use Rattle.model.specs.declared.Line.{Line}
+use Rattle.model.specs.declared.Line.the-variants.{
+  Idle,
+  PutRead,
+  PutTail,
+  PutTest,
+  PutNumber,
+  PutPayload,
+  PutFinish,
+  Claim,
+  Note,
+  Copy,
+  Publish,
+  TakeRead,
+  TakeTail,
+  TakeTest,
+  TakeNumber,
+  TakePayload,
+  TakeFinish,
+  StealRead,
+  StealTail,
+  StealTest,
+  StealNote,
+  StealNumber,
+  StealPayload,
+  StealNext,
+  StealCompare,
+}
+use Rattle.model.specs.declared.Queue.{Queue}
+use Rattle.model.specs.declared.Worker.{Worker}
+use Rattle.model.specs.Tests.{if_then_else_, _and_, _or_}
+use Rattle.model.specs.World.{lineAt, stage}
+use Rattle.model.specs.Limits.{lineOk, ownerOk, thievesOk}
+use Rattle.limits.specs.Parts.{memberOk, workersOk}
+use Rattle.limits.proofs.Chains.{holds, if-false, and-true, and-assoc}
+use Rattle.limits.proofs.Scan.{fails-by}
+
+-- only an idle worker's stage is 0
+idle : (l : Line) → stage l ≡ 0 → l ≡ Idle
+idle Idle e = refl
+idle (PutRead t) e = cc
+idle (PutTail t h) e = cc
+idle (PutTest t r) e = cc
+idle (PutNumber t r) e = cc
+idle (PutPayload t r) e = cc
+idle (PutFinish t r) e = cc
+idle (Claim t) e = cc
+idle (Note t) e = cc
+idle (Copy t h n k) e = cc
+idle (Publish t) e = cc
+idle TakeRead e = cc
+idle (TakeTail h) e = cc
+idle (TakeTest r) e = cc
+idle (TakeNumber r) e = cc
+idle (TakePayload r n) e = cc
+idle (TakeFinish r t) e = cc
+idle StealRead e = cc
+idle (StealTail h) e = cc
+idle (StealTest r) e = cc
+idle (StealNote r) e = cc
+idle (StealNumber r k) e = cc
+idle (StealPayload r k n) e = cc
+idle (StealNext r t) e = cc
+idle (StealCompare r x t) e = cc
+
+-- the tests of one worker, whatever each says
+same : {z : Bool} (t : Bool) {x y : Bool} → x ≡ z → y ≡ z → (if t then x else y) ≡ z
+unfolding if_then_else_
+same true e f = e
+same false e f = f
+
+by-hand : (t u b a c l d : Bool) → u ≡ true → b ≡ false → (if t then a and l else if u then (b or c) and l else d) ≡ ((if t then a else c) and l)
+unfolding if_then_else_ _or_
+by-hand true u b a c l d e f = refl
+by-hand false u b a c l d e f = rw (e, f)
+
+module _ (κ : Kind) (w : ℕ) (q : Queue) (n i : ℕ) where
+  rests : memberOk κ w q n i Idle ≡ true
+  unfolding _and_ _or_
+  rests = same (eqb i 0) refl (same (ltb i n) refl refl)
+
+  pub idle-in : (l : Line) → stage l ≡ 0 → memberOk κ w q n i l ≡ true
+  idle-in l e = ap (memberOk κ w q n i) (idle l e) ∙ rests
+
+  -- a busy worker
+  module _ (l : Line) (busy : stage l ≡ 0 → ⊥) where
+    pub outside : 0 < n → n ≤ i → memberOk κ w q n i l ≡ false
+    outside h k = if-false _ (ne-eqb i 0 (λ e. omega arith)) ∙ if-false _ (le-ltb i n k) ∙ ne-eqb (stage l) 0 busy
+
+    pub inside : i < n → memberOk κ w q n i l ≡ ((if eqb i 0 then ltb (stage l) 4 else ltb 3 (stage l)) and lineOk κ w q l)
+    inside h = by-hand (eqb i 0) (ltb i n) (eqb (stage l) 0) (ltb (stage l) 4) (ltb 3 (stage l)) _ _ (lt-ltb i n h) (ne-eqb (stage l) 0 busy)
+
+module _ (κ : Kind) (w : ℕ) (q : Queue) (n : ℕ) (l : List Worker) where
+  abbrev pub member : ℕ → Bool
+  member k = memberOk κ w q n k (lineAt l k)
+
+  pub turn : (k : ℕ) → workersOk κ w q n l (suc k) ≡ (workersOk κ w q n l k and member k)
+  unfolding if_then_else_
+  turn zero = and-true (ownerOk κ w q (lineAt l 0))
+  turn (suc k) =
+      and-assoc (ownerOk κ w q (lineAt l 0)) (thievesOk κ w q n l k) _
+      ∙ ap (λ (x : Bool). (ownerOk κ w q (lineAt l 0) and thievesOk κ w q n l k) and x)
+      (sym (if-false (ownerOk κ w q (lineAt l (suc k))) (ne-eqb (suc k) 0 (λ e. omega arith))))
+
+  pub next-worker : (x : Bool) (k : ℕ) → workersOk κ w q n l k ≡ true → member k ≡ x → workersOk κ w q n l (suc k) ≡ x
+  next-worker x k e f = turn k ∙ holds e ∙ f
+
+  pub no-workers : (k m : ℕ) → k ≤ m → workersOk κ w q n l k ≡ false → workersOk κ w q n l m ≡ false
+  no-workers k m h e = fails-by (workersOk κ w q n l) member turn k m h e

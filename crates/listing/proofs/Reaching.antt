@@ -1,0 +1,67 @@
+-- Lines lead on to where the program can stand.
+use Prim.Native.Nat.{ℕ, zero, suc}
+use mathlib.Core.Path.{_≡_, refl, sym, subst}
+use mathlib.Core.Bool.{Bool, true, false}
+use mathlib.Core.List.{List}
+use lib.ListN.{take}
+use Rattle.model.specs.declared.Operation.the-variants.{Put, Take, Steal}
+use Rattle.model.specs.declared.Command.{Command}
+use Rattle.model.specs.declared.Command.the-variants.{Open, BeginPut, BeginTake, BeginSteal, Steps, End, Bad}
+use Rattle.model.specs.declared.Answer.the-variants.{Accepted}
+use Rattle.model.specs.Tests.{if_then_else_}
+use Rattle.model.specs.World.{World, Outcome}
+use Rattle.model.specs.Calls.{freshOf, begin, step, stepOf}
+use Rattle.model.specs.Listing.{Program, waiting, playing, ended, Reply, isRefused, opened, respond, stepsOf}
+use Rattle.theorems.specs.Reached.{Reached}
+use Rattle.theorems.proofs.Reached.{reached-fresh, reached-call}
+use Rattle.listing.specs.Sessions.{Reachable}
+use Rattle.listing.proofs.Ways.{either, never}
+
+-- a fresh that is not refused is accepted
+abbrev Accepts : Outcome → Type 0
+Accepts d = isRefused (d .answer) ≡ false → d .answer ≡ Accepted
+
+fresh-accepts : (k w c n : ℕ) (m l : List ℕ) → Accepts (freshOf k w c n m l)
+unfolding freshOf
+fresh-accepts k w c n m l =
+    either Accepts _ _ _ (either Accepts _ _ _ (either Accepts _ _ _ (either Accepts _ _ _ (either Accepts _ _ _
+    (λ e. refl) (λ e. never e)) (λ e. never e)) (λ e. never e)) (λ e. never e)) (λ e. never e)
+
+opened-reach : (m l : List ℕ) (d : Outcome) → (isRefused (d .answer) ≡ false → Reached (d .world)) → Reachable (opened (waiting m l) d .program)
+unfolding if_then_else_
+opened-reach m l d h = go (isRefused (d .answer)) refl
+  where
+    go : (b : Bool) → isRefused (d .answer) ≡ b → Reachable (if b then waiting m l else playing (d .world))
+    go true e = tt
+    go false e = h e
+
+steps-reach : (m : ℕ) (W : World) (i : ℕ) → Reached W → Reachable (stepsOf W i m .program)
+unfolding stepsOf
+steps-reach zero W i r = r
+steps-reach (suc m) W i r =
+    let next : Reached (stepOf W i .world) = reached-call r (step i) in
+    either (λ (x : Reply). Reachable (x .program)) (isRefused (stepOf W i .answer)) _ _ next (steps-reach m (stepOf W i .world) i next)
+
+pub respond-reach : (P : Program) (c : Command) → Reachable P → Reachable (respond P c .program)
+unfolding respond
+respond-reach (waiting m l) (Open k w c n s) r = opened-reach m l (freshOf k w c n (take s m) l) (λ e. reached-fresh k w c n (take s m) l (fresh-accepts k w c n (take s m) l e))
+respond-reach (waiting m l) (BeginPut p) r = tt
+respond-reach (waiting m l) BeginTake r = tt
+respond-reach (waiting m l) (BeginSteal i) r = tt
+respond-reach (waiting m l) (Steps i n) r = tt
+respond-reach (waiting m l) End r = tt
+respond-reach (waiting m l) Bad r = tt
+respond-reach (playing W) (Open k w c n s) r = r
+respond-reach (playing W) (BeginPut p) r = reached-call r (begin 0 (Put p))
+respond-reach (playing W) BeginTake r = reached-call r (begin 0 Take)
+respond-reach (playing W) (BeginSteal i) r = reached-call r (begin i Steal)
+respond-reach (playing W) (Steps i n) r = steps-reach n W i r
+respond-reach (playing W) End r = tt
+respond-reach (playing W) Bad r = r
+respond-reach ended (Open k w c n s) r = tt
+respond-reach ended (BeginPut p) r = tt
+respond-reach ended BeginTake r = tt
+respond-reach ended (BeginSteal i) r = tt
+respond-reach ended (Steps i n) r = tt
+respond-reach ended End r = tt
+respond-reach ended Bad r = tt

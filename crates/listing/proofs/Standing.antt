@@ -1,0 +1,156 @@
+-- Where feeding stands between two lines, and what each way to play a line makes of it.
+use Prim.Native.Nat.{ℕ, _+_, _-_, _≤_, _<_, min}
+use native.Mathlib.Omega.{arith}
+use mathlib.Core.Path.{_≡_, refl, ap, sym, subst, _∙_}
+use mathlib.Core.Bool.{Bool, true, false}
+use mathlib.Core.List.{List}
+use lib.ListN.{length, take, drop, set}
+use Rattle.model.specs.declared.Line.{Line}
+use Rattle.model.specs.declared.Bench.{Bench}
+use Rattle.model.specs.declared.Refusal.{Refusal}
+use Rattle.model.specs.declared.Command.{Command}
+use Rattle.model.specs.declared.Command.the-variants.{Open, BeginPut, BeginTake, BeginSteal, Steps, End, Bad}
+use Rattle.model.specs.declared.Answer.{Answer}
+use Rattle.model.specs.declared.Answer.the-variants.{GoesOn, Refused}
+use Rattle.model.specs.Tests.{if_then_else_}
+use Rattle.model.specs.World.{World, Outcome}
+use Rattle.model.specs.Limits.{validOf}
+use Rattle.model.specs.Lines.{eff}
+use Rattle.model.specs.Calls.{lent, restarted, step, commit, stepOf}
+use Rattle.model.specs.Listing.{Program, playing, printed, respond, stepsOf, Reply}
+use Rattle.theorems.specs.Reached.{Reached}
+use Rattle.theorems.proofs.Reached.{reached-call, reached-valid}
+use Rattle.machine.specs.declared.Stop.the-variants.{Why}
+use Rattle.machine.specs.declared.Turn.{Turn}
+use Rattle.machine.specs.Turns.{TurnOf}
+use Rattle.machine.proofs.Commits.{goes-on}
+use Rattle.machine.proofs.Bounds.{bounds-of}
+use Rattle.text.specs.Numbers.{Placed}
+use Rattle.text.specs.Commands.{commandOf}
+use Rattle.listing.specs.declared.Session.{Session}
+use Rattle.listing.specs.declared.Asked.the-variants.{Other, Step}
+use Rattle.listing.specs.declared.Played.{Played}
+use Rattle.listing.specs.Shown.{shownAll}
+use Rattle.listing.specs.Listing.{front}
+use Rattle.listing.specs.Sessions.{worldOf, programOf, leftBy, askedOf, CalmBy, Reachable, PlayedBy, FedBy}
+use Rattle.listing.proofs.Fronts.{lent-front}
+use Rattle.listing.proofs.Ways.{never}
+use Rattle.listing.proofs.Shows.{answer-most}
+use Rattle.listing.proofs.Replies.{played, program-live, left-on}
+use Rattle.listing.proofs.Feeding.{Heard, Onward, line-on, heard-next, fed-over}
+use Rattle.listing.proofs.Reaching.{respond-reach}
+
+-- what was written, and then the listing of the rest from where the program stands, is the listing of all
+pub record Standing (P : Program) (buf : List ℕ) (s : Session) (m l out : List ℕ) (used wrote : ℕ) : Type 0 where
+  pub within : used ≤ length buf
+  pub fits : wrote ≤ length out
+  pub heard : Heard P buf (take wrote out) (programOf s m l) (drop used buf)
+  pub reach : Reachable (programOf s m l)
+
+pub standing-start : (s : Session) (buf m l out : List ℕ) → Reachable (programOf s m l) → Standing (programOf s m l) buf s m l out 0 0
+standing-start s buf m l out r = record { within = omega arith; fits = omega arith; heard = λ z. refl; reach = r }
+
+pub reach-left : (s : Session) (m l : List ℕ) → Reachable (programOf s m l) → Reachable (leftBy false s m l)
+reach-left s m l r = subst Reachable (sym (left-on false s m l refl)) r
+
+pub reach-over : (s : Session) (m l : List ℕ) → Reachable (leftBy true s m l)
+unfolding if_then_else_
+reach-over s m l = tt
+
+-- a line was played, and did not end the program, or did
+module _ (P : Program) (buf : List ℕ) (s : Session) (m l out : List ℕ) (used wrote end : ℕ) (c : Command) (p : Played) (m′ l′ out′ : List ℕ)
+    (h : Standing P buf s m l out used wrote) (e : end ≡ used + length (front (drop used buf))) (n : end ≡ length buf → ⊥) (room : wrote + 72 ≤ length out)
+    (says : c ≡ commandOf (take (end - used) (drop used buf))) (by : PlayedBy (respond (programOf s m l) c) p m′ l′ out wrote out′) where
+  on : Onward P buf (end + 1) p m′ l′ out′
+  on = line-on P buf out (programOf s m l) used wrote end c p m′ l′ out′ (h .heard) (h .within) e n room says by
+
+  reaches : Reachable (leftBy (p .stops) (p .session) m′ l′)
+  reaches = subst Reachable (sym (by .program)) (respond-reach (programOf s m l) c (h .reach))
+
+  pub standing-on : p .stops ≡ false → Standing P buf (p .session) m′ l′ out′ (end + 1) (p .end)
+  standing-on q = record {
+    within = on .within;
+    fits = on .fits;
+    heard = heard-next P buf (take (p .end) out′) (p .session) m′ l′ (drop (end + 1) buf) (p .stops) q (on .heard);
+    reach = subst Reachable (left-on (p .stops) (p .session) m′ l′ q) reaches;
+  }
+
+  pub standing-over : p .stops ≡ true → FedBy P buf (record { session = p .session; used = end + 1; wrote = p .end; stops = true; full = false }) m′ l′ out′
+  standing-over q = fed-over P buf (p .session) m′ l′ out′ (end + 1) (p .end) (on .within) (on .fits) (p .stops) q (on .heard)
+
+-- a line refused at once
+pub calm-by : (s : Session) (m l : List ℕ) (c : Command) (r : Refusal) (before : List ℕ) (at e : ℕ) (after : List ℕ) → CalmBy (s .live) (worldOf s m l) c (Why r) → Placed before at (shownAll (printed (Refused r))) e after →
+    PlayedBy (respond (programOf s m l) c) (played s e) m l before at after
+calm-by s m l c r before at e after (v, q) t =
+    let known : respond (programOf s m l) c ≡ record { program = playing (worldOf s m l); output = printed (Refused r) } = ap (λ (P : Program). respond P c) (program-live s m l v) ∙ q in record {
+      program = left-on false s m l refl ∙ program-live s m l v ∙ ap (λ (x : Reply). x .program) (sym known);
+      text = subst (λ (x : Reply). Placed before at (shownAll (x .output)) e after) (sym known) t;
+    }
+
+-- a refusal's text fits where a line's does
+pub refusal-room : (r : Refusal) (at n : ℕ) → at + 72 ≤ n → at + length (shownAll (printed (Refused r))) ≤ n
+refusal-room r at n h = omega (arith, answer-most (Refused r))
+
+-- a line that asks for steps
+asked-steps : (v : Bool) (c : Command) (i n : ℕ) → askedOf v c ≡ Step i n → (v ≡ true) × (c ≡ Steps i n)
+unfolding if_then_else_
+asked-steps v (Open k w z x s) i n e = absurd (let z : _≡_ {A = ℕ} 0 1 = cc in let y : ⊥ = omega arith in y)
+asked-steps v (BeginPut p) i n e = absurd (let z : _≡_ {A = ℕ} 0 1 = cc in let y : ⊥ = omega arith in y)
+asked-steps v BeginTake i n e = absurd (let z : _≡_ {A = ℕ} 0 1 = cc in let y : ⊥ = omega arith in y)
+asked-steps v (BeginSteal k) i n e = absurd (let z : _≡_ {A = ℕ} 0 1 = cc in let y : ⊥ = omega arith in y)
+asked-steps true (Steps k x) i n e = (refl, cc)
+asked-steps false (Steps k x) i n e = absurd (let z : _≡_ {A = ℕ} 0 1 = cc in let y : ⊥ = omega arith in y)
+asked-steps v End i n e = absurd (let z : _≡_ {A = ℕ} 0 1 = cc in let y : ⊥ = omega arith in y)
+asked-steps v Bad i n e = absurd (let z : _≡_ {A = ℕ} 0 1 = cc in let y : ⊥ = omega arith in y)
+
+pub asked-live : (v : Bool) (c : Command) (i n : ℕ) → askedOf v c ≡ Step i n → v ≡ true
+asked-live v c i n e = asked-steps v c i n e .0
+
+pub steps-by : (s : Session) (m l : List ℕ) (c : Command) (i n : ℕ) (p : Played) (m′ l′ before : List ℕ) (at : ℕ) (after : List ℕ) → askedOf (s .live) c ≡ Step i n →
+    PlayedBy (stepsOf (worldOf s m l) i n) p m′ l′ before at after → PlayedBy (respond (programOf s m l) c) p m′ l′ before at after
+unfolding respond
+steps-by s m l c i n p m′ l′ before at after e by =
+    let a = asked-steps (s .live) c i n e in
+    let same : respond (programOf s m l) c ≡ stepsOf (worldOf s m l) i n = ap (λ (P : Program). respond P c) (program-live s m l (a .0)) ∙ ap (respond (playing (worldOf s m l))) (a .1) in
+    subst (λ (R : Reply). PlayedBy R p m′ l′ before at after) (sym same) by
+
+-- while a bench is played it is reached, so within the limits
+pub reached-of : (s : Session) (m l : List ℕ) → s .live ≡ true → Reachable (programOf s m l) → Reached (worldOf s m l)
+reached-of s m l v r = subst Reachable (program-live s m l v) r
+
+pub valid-of : (s : Session) (m l : List ℕ) → Reachable (programOf s m l) → s .live ≡ true → validOf (worldOf s m l) ≡ true
+valid-of s m l r v = reached-valid (reached-of s m l v r)
+
+pub crew-of : (s : Session) (m l : List ℕ) → Reachable (programOf s m l) → s .live ≡ true → s .bench .state .crew ≤ 8
+crew-of s m l r v = bounds-of (worldOf s m l) (valid-of s m l r v) .crew
+
+pub valid-front : (b : Bench) (w n : ℕ) (m l : List ℕ) → n ≡ min w (length m) → Reached (lent b (take w m) l) → validOf (lent b (take n m) l) ≡ true
+valid-front b w n m l e r = subst (λ (x : List ℕ). validOf (lent b x l) ≡ true) (sym (lent-front w n m e)) (reached-valid r)
+
+-- a look at the words that were lent
+pub turn-front : (b : Bench) (w n : ℕ) (m l : List ℕ) (i : ℕ) (t : Turn) → n ≡ min w (length m) → TurnOf (lent b (take n m) l) i t → TurnOf (lent b (take w m) l) i t
+turn-front b w n m l i t e h = subst (λ (x : List ℕ). TurnOf (lent b x l) i t) (lent-front w n m e) h
+
+-- a step leads on to what is reached
+pub reached-step : (W X : World) (i : ℕ) (a : Answer) → record { world = X; answer = a } ≡ stepOf W i → Reached W → Reached X
+reached-step W X i a e r = subst (λ (d : Outcome). Reached (d .world)) (sym e) (reached-call r (step i))
+
+-- a step that goes on, made in place: worker i's record, at place k, and the restarts
+pub goes-by : (b : Bench) (i k n : ℕ) (x : Line) (m l : List ℕ) → k ≡ i → n ≡ restarted (b .restarts) x → stepOf (lent b m l) i ≡ commit (lent b m l) i (eff (b .queue) m x GoesOn) →
+    record {
+      world =
+          lent
+          (record {
+             kind = b .kind;
+             width = b .width;
+             crew = b .crew;
+             queue = b .queue;
+             used = b .used;
+             restarts = n;
+             written = b .written;
+             workers = set (b .workers) k (record { line = x });
+           })
+          m l;
+      answer = GoesOn;
+    } ≡ stepOf (lent b m l) i
+goes-by b i k n x m l e f h = rw (e, f) (sym (h ∙ goes-on b i (b .queue) m l m x))

@@ -1,0 +1,73 @@
+use borrow.Author.Needs.{needs}
+use mathlib.Core.Path.{sym, _∙_}
+use native.Mathlib.Omega.{arith}
+use borrow.Author.Tests.{lt-ltb, le-ltb}
+use Rattle.model.specs.Calls.{beginOf}
+use Rattle.limits.proofs.Chains.{if-true, if-false, passed, refused}
+use Rattle.machine.proofs.begin_stop.Statement.{statement}
+use Rattle.machine.proofs.begin_stop.Tie as tie
+
+returns : tie.Need-returns
+unfolding beginOf
+returns c = λ m l v. if-true _ v ∙ if-false _ (le-ltb _ _ (c .if1 .taken))
+
+right-hand-requires : tie.Need-right-hand-requires
+right-hand-requires c κs = search needs
+
+returns-2 : tie.Need-returns-2
+unfolding beginOf
+returns-2 c = λ m l v.
+    if-true _ v ∙ if-true _ (lt-ltb _ _ (c .before .before .if1 .left))
+    ∙ if-false _ (refused (c .before .right-hand .ensures) (c .if2 .taken))
+
+mul-own : tie.Need-mul-own
+mul-own c = search needs
+
+element-copy-out-own : tie.Need-element-copy-out-own
+element-copy-out-own c = search needs
+
+is-idle-requires : tie.Need-is-idle-requires
+is-idle-requires c κs = search needs
+
+returns-3 : tie.Need-returns-3
+unfolding beginOf
+returns-3 c = λ m l v.
+    if-true _ v ∙ if-true _ (lt-ltb _ _ (c .before .before .before .before .before .if1 .left))
+    ∙ if-true _ (passed (c .before .before .before .before .right-hand .ensures) (c .before .before .before .if2 .left))
+    ∙ if-false _ (refused (c .before .is-idle .ensures) (c .if3 .taken))
+
+numbers-left-requires : tie.Need-numbers-left-requires
+numbers-left-requires c κs = search needs
+
+returns-4 : tie.Need-returns-4
+unfolding beginOf
+returns-4 c = λ m l v.
+    if-true _ v ∙ if-true _ (lt-ltb _ _ (c .before .before .before .before .before .before .before .if1 .left))
+    ∙ if-true _ (passed (c .before .before .before .before .before .before .right-hand .ensures) (c .before .before .before .before .before .if2 .left))
+    ∙ if-true _ (passed (c .before .before .before .is-idle .ensures) (c .before .before .if3 .left))
+    ∙ if-false _ (refused (c .before .numbers-left .ensures) (c .if4 .taken))
+
+returns-5 : tie.Need-returns-5
+unfolding beginOf
+returns-5 c = λ m l v. (
+  c .before .before .before .before .before .before .before .if1 .left,
+  if-true _ v ∙ if-true _ (lt-ltb _ _ (c .before .before .before .before .before .before .before .if1 .left))
+  ∙ if-true _ (passed (c .before .before .before .before .before .before .right-hand .ensures) (c .before .before .before .before .before .if2 .left))
+  ∙ if-true _ (passed (c .before .before .before .is-idle .ensures) (c .before .before .if3 .left))
+  ∙ if-true _ (passed (c .before .numbers-left .ensures) (c .if4 .left)),
+)
+
+pub begin-stop-spec : {M : Type 1} → statement M
+begin-stop-spec =
+    tie.close
+    (tie.spec
+    returns
+    right-hand-requires
+    returns-2
+    mul-own
+    element-copy-out-own
+    is-idle-requires
+    returns-3
+    numbers-left-requires
+    returns-4
+    returns-5)

@@ -1,0 +1,59 @@
+use borrow.Author.Needs.{needs}
+use mathlib.Core.Path.{_≡_, sym, ap, _∙_, subst}
+use native.Mathlib.Omega.{arith}
+use Prim.Native.Nat.{_<_}
+use lib.ListN.{length}
+use borrow.Author.Tests.{lt-ltb, le-ltb}
+use Rattle.model.specs.World.{World, isIdle}
+use Rattle.model.specs.Lines.{lineStep}
+use Rattle.model.specs.Calls.{lent, commit, stepOf}
+use Rattle.lines.specs.Act.{Ready}
+use Rattle.lines.proofs.FromLimits.{ground-of-valid, ready-of-valid}
+use Rattle.limits.proofs.Chains.{if-true, if-false, mapped-length}
+use Rattle.machine.proofs.Bounds.{bounds-of}
+use Rattle.machine.proofs.look.Statement.{statement}
+use Rattle.machine.proofs.look.Tie as tie
+
+eleven : (c : tie.Start) → length (c .args .bench .queue .arrays) ≡ 11
+eleven c = search (needs, mapped-length)
+
+returns : tie.Need-returns
+unfolding stepOf
+returns c = if-true _ (c .before .before .before .before .pre .0) ∙ if-false _ (le-ltb _ _ (c .if1 .taken))
+
+is-idle-requires : tie.Need-is-idle-requires
+is-idle-requires c κs = search needs
+
+returns-2 : tie.Need-returns-2
+unfolding stepOf
+returns-2 c = 
+    let v = c .before .before .before .before .before .before .pre .0 in
+    let b = bounds-of _ v in
+    let at = c .before .before .before .before .before .before .pre .1 (let z : c .before .before .before .before .before .before .args .worker < 8 = omega (arith, b .crew, c .before .before .if1 .left) in z) in
+    if-true _ v ∙ if-true _ (lt-ltb _ _ (c .before .before .if1 .left)) ∙ if-true _ (ap isIdle (sym at) ∙ sym (c .before .is-idle .ensures) ∙ c .if2 .taken)
+
+decide-requires : tie.Need-decide-requires
+decide-requires c κs = 
+    let W : World = lent (c .before .before .before .before .before .before .before .args .bench) (c .before .before .before .before .before .before .before .args .store .now) (c .before .before .before .before .before .before .before .args .log .now) in
+    let v = c .before .before .before .before .before .before .before .pre .0 in
+    let b = bounds-of W v in
+    let at = c .before .before .before .before .before .before .before .pre .1 (let z : c .before .before .before .before .before .before .before .args .worker < 8 = omega (arith, b .crew, c .before .before .before .if1 .left) in z) in
+    (ground-of-valid W v (eleven (c .before .before .before .before .before .before .before)), subst (Ready (W .bench .kind) (W .bench .queue) (length (W .store))) (sym at) (ready-of-valid W v (c .before .before .before .before .before .before .before .args .worker) (c .before .before .before .if1 .left)))
+
+returns-3 : tie.Need-returns-3
+unfolding stepOf
+returns-3 c = 
+    let W : World = lent (c .before .before .before .before .before .before .before .before .args .bench) (c .before .before .before .before .before .before .before .before .args .store .now) (c .before .before .before .before .before .before .before .before .args .log .now) in
+    let v = c .before .before .before .before .before .before .before .before .pre .0 in
+    let b = bounds-of W v in
+    let small = (let z : c .before .before .before .before .before .before .before .before .args .worker < 8 = omega (arith, b .crew, c .before .before .before .before .if1 .left) in z) in
+    let at = c .before .before .before .before .before .before .before .before .pre .1 small in (
+      small,
+      ground-of-valid W v (eleven (c .before .before .before .before .before .before .before .before)) .listed,
+      c .decide .ensures .1,
+      if-true _ v ∙ if-true _ (lt-ltb _ _ (c .before .before .before .before .if1 .left)) ∙ if-false _ (ap isIdle (sym at) ∙ sym (c .before .before .before .is-idle .ensures) ∙ c .before .before .if2 .left)
+      ∙ ap (commit W (c .before .before .before .before .before .before .before .before .args .worker)) (ap (lineStep (W .bench .kind) (W .bench .width) (W .bench .queue) (W .store) (c .before .before .before .before .before .before .before .before .args .worker)) (sym at) ∙ sym (c .decide .ensures .0)),
+    )
+
+pub look-spec : {M : Type 1} → statement M
+look-spec = tie.close (tie.spec returns is-idle-requires returns-2 decide-requires returns-3)
