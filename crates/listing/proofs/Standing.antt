@@ -23,7 +23,6 @@ use Rattle.theorems.proofs.Reached.{reached-call, reached-valid}
 use Rattle.machine.specs.declared.Stop.the-variants.{Why}
 use Rattle.machine.specs.declared.Turn.{Turn}
 use Rattle.machine.specs.Turns.{TurnOf}
-use Rattle.machine.proofs.Commits.{goes-on}
 use Rattle.machine.proofs.Bounds.{bounds-of}
 use Rattle.text.specs.Numbers.{Placed}
 use Rattle.text.specs.Commands.{commandOf}
@@ -134,23 +133,3 @@ turn-front b w n m l i t e h = subst (λ (x : List ℕ). TurnOf (lent b x l) i t
 -- a step leads on to what is reached
 pub reached-step : (W X : World) (i : ℕ) (a : Answer) → record { world = X; answer = a } ≡ stepOf W i → Reached W → Reached X
 reached-step W X i a e r = subst (λ (d : Outcome). Reached (d .world)) (sym e) (reached-call r (step i))
-
--- a step that goes on, made in place: worker i's record, at place k, and the restarts
-pub goes-by : (b : Bench) (i k n : ℕ) (x : Line) (m l : List ℕ) → k ≡ i → n ≡ restarted (b .restarts) x → stepOf (lent b m l) i ≡ commit (lent b m l) i (eff (b .queue) m x GoesOn) →
-    record {
-      world =
-          lent
-          (record {
-             kind = b .kind;
-             width = b .width;
-             crew = b .crew;
-             queue = b .queue;
-             used = b .used;
-             restarts = n;
-             written = b .written;
-             workers = set (b .workers) k (record { line = x });
-           })
-          m l;
-      answer = GoesOn;
-    } ≡ stepOf (lent b m l) i
-goes-by b i k n x m l e f h = rw (e, f) (sym (h ∙ goes-on b i (b .queue) m l m x))

@@ -518,16 +518,6 @@ fn session_of(live: bool, words: u32, bench: model::Bench) -> Session
     }
 }
 
-// A worker's place among the eight records; of a number that no worker has, the last.
-fn place_of(worker: u32) -> usize
-    ensures { λ r. ⌜ (r ≤ 7) × (worker < 8 → r ≡ worker) ⌝ }
-{
-    if worker < 8 {
-        return worker as usize;
-    }
-    7
-}
-
 // Plays the lines of the buffer that end in a newline, as long as the output has room for another line's text. `step I M` is
 // M steps, stopping at the first refusal. The bench stays in place where it can: a step that changes a worker's record alone
 // replaces that record, and a line refused at once leaves it alone. A bench that a `queue` of this program made is never
@@ -595,7 +585,7 @@ pub fn feed(session: Session, buf: &[u8], store: &mut [u32], log: &mut [u32], ou
             }
             continue;
         };
-        let i = place_of(worker);
+        let i = machine::place_of(worker);
         let n = span(words, store);
         let mut left = times;
         while 0 < left {

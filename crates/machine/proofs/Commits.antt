@@ -1,11 +1,11 @@
 -- What committing a line's effect comes to, by how the line goes.
 use mathlib.Core.Bool.{Bool, true, false, not}
 use mathlib.Core.List.{List}
-use mathlib.Core.Path.{_≡_, refl, sym}
+use mathlib.Core.Path.{_≡_, refl, sym, _∙_}
 use Prim.Native.Nat.{ℕ, _+_, _≤_}
 use native.Mathlib.Omega.{arith}
 use lib.Dec.{leb}
-use lib.ListN.{length}
+use lib.ListN.{length, set}
 use borrow.Author.Tests.{leb-true, leb-false, lt-ltb, le-ltb}
 use Rattle.model.specs.declared.Line.{Line}
 use Rattle.model.specs.declared.Line.the-variants.{Idle}
@@ -18,7 +18,7 @@ use Rattle.model.specs.Tests.{if_then_else_, _and_, _or_}
 use Rattle.model.specs.Answers.{ends, entryOf, writeEntry}
 use Rattle.model.specs.Lines.{eff}
 use Rattle.model.specs.World.{Outcome, refuse}
-use Rattle.model.specs.Calls.{lent, logFull, commit}
+use Rattle.model.specs.Calls.{lent, restarted, logFull, commit, stepOf}
 use Rattle.state.specs.Pieces.{moved}
 
 -- the code asks whether an entry fits, the definition whether it does not
@@ -58,3 +58,23 @@ module _ (b : Bench) (i : ℕ) (q : Queue) (m l : List ℕ) where
         ≡ after m (writeEntry l (b .written) (entryOf a)) Idle (b .written + 4) a
     unfolding if_then_else_ _and_
     logs e f = rw (e, f)
+
+-- a step that goes on, made in place: worker i's record, at place k, and the restarts
+pub goes-by : (b : Bench) (i k n : ℕ) (x : Line) (m l : List ℕ) → k ≡ i → n ≡ restarted (b .restarts) x → stepOf (lent b m l) i ≡ commit (lent b m l) i (eff (b .queue) m x GoesOn) →
+    record {
+      world =
+          lent
+          (record {
+             kind = b .kind;
+             width = b .width;
+             crew = b .crew;
+             queue = b .queue;
+             used = b .used;
+             restarts = n;
+             written = b .written;
+             workers = set (b .workers) k (record { line = x });
+           })
+          m l;
+      answer = GoesOn;
+    } ≡ stepOf (lent b m l) i
+goes-by b i k n x m l e f h = rw (e, f) (sym (h ∙ goes-on b i (b .queue) m l m x))

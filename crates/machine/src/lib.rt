@@ -1,5 +1,5 @@
-// The calls on a bench: fresh, begin, step, and the log's front. This is the only code that writes a
-// store or a log, and it writes only once the whole outcome of the call is known.
+// The calls on a bench: fresh, begin, and a step's two halves: what it does (look), and doing it (apply). This is the only code
+// that writes a store or a log, and it writes only once the whole outcome of the call is known.
 ghost use mathlib.Core.Path.{_≡_};
 ghost use mathlib.Core.Bool.{true};
 ghost use mathlib.Core.List.{List};
@@ -267,16 +267,14 @@ pub fn apply(bench: Bench, worker: u32, act: Act, store: &mut [u32], log: &mut [
     }
 }
 
-// The line that a worker is at; of a number that no worker has, none that counts.
-fn line_of(bench: Bench, worker: u32) -> Line
-    ensures { λ r. ⌜ (worker < 8 → r ≡ lineAt (bench .workers) worker) ⌝ }
+// A worker's place among the eight records; of a number that no worker has, the last.
+pub fn place_of(worker: u32) -> usize
+    ensures { λ r. ⌜ (r ≤ 7) × (worker < 8 → r ≡ worker) ⌝ }
 {
     if worker < 8 {
-        let i = worker as usize;
-        let own = bench.workers[i];
-        return own.line;
+        return worker as usize;
     }
-    Line::Idle
+    7
 }
 
 // The step of a worker that is at `line`, in a state within the limits, looked at and not made. A caller that keeps its bench
@@ -300,18 +298,4 @@ pub fn look(bench: Bench, worker: u32, line: Line, store: &[u32], log: &[u32]) -
     let queue = bench.queue;
     let act = lines::decide(kind, bench.width, queue, store, worker, line);
     Turn::Acts { act }
-}
-
-pub fn step(bench: Bench, worker: u32, store: &mut [u32], log: &mut [u32]) -> Reply
-    ensures { λ r. ⌜ left r (now (store .exit)) (now (log .exit)) ≡ stepOf (lent bench (now (store .entry)) (now (log .entry))) worker ⌝ }
-{
-    if !limits::valid(bench, store, log) {
-        return refused(bench, Refusal::ForeignState);
-    }
-    let line = line_of(bench, worker);
-    let turn = look(bench, worker, line, store, log);
-    match turn {
-        Turn::Refused { why } => refused(bench, why),
-        Turn::Acts { act } => apply(bench, worker, act, store, log),
-    }
 }

@@ -6,10 +6,15 @@ ghost use mathlib.Core.Path.{_≡_};
 ghost use mathlib.Core.List.{List};
 ghost use Prim.Native.Nat.{ℕ, _≤_};
 ghost use lib.ListN.{length};
+ghost use Rattle.model.specs.declared.Answer.the-variants.{Refused};
 ghost use Rattle.model.specs.Calls.{lent, freshOf, beginOf, stepOf, frontOf};
 ghost use Rattle.queues.specs.Left.{left};
+use lines::Act;
+use machine::Turn;
 use model::Answer;
 use model::Operation;
+use model::Refusal;
+use model::Worker;
 
 pub struct Bench {
     pub state: model::Bench,
@@ -19,6 +24,17 @@ pub struct Bench {
 pub struct Reply {
     pub bench: Bench,
     pub answer: Answer,
+}
+
+// A refusal hands the bench back as it came in.
+fn refused(bench: Bench, why: Refusal) -> Reply
+    ensures { λ r. ⌜ r ≡ record { bench = bench; answer = Refused why } ⌝ }
+{
+    let answer = Answer::Refused { why: why };
+    Reply {
+        bench: bench,
+        answer: answer,
+    }
 }
 
 impl Bench {
@@ -54,12 +70,34 @@ impl Bench {
     pub fn step(self, worker: u32, store: &mut [u32], log: &mut [u32]) -> Reply
         ensures { λ r. ⌜ left r (now (store .exit)) (now (log .exit)) ≡ stepOf (lent (self .state) (now (store .entry)) (now (log .entry))) worker ⌝ }
     {
-        let stepped = machine::step(self.state, worker, store, log);
-        let state = stepped.bench;
-        let answer = stepped.answer;
-        Reply {
-            bench: Bench { state: state },
-            answer: answer,
+        let mut next = self.state;
+        if !limits::valid(next, store, log) {
+            return refused(self, Refusal::ForeignState);
+        }
+        let i = machine::place_of(worker);
+        let own = next.workers[i];
+        let line = own.line;
+        let turn = machine::look(next, worker, line, store, log);
+        match turn {
+            Turn::Refused { why } => refused(self, why),
+            Turn::Acts { act } => {
+                let Act::Goes { line: to } = act else {
+                    let done = machine::apply(next, worker, act, store, log);
+                    let after = done.bench;
+                    let answer = done.answer;
+                    return Reply {
+                        bench: Bench { state: after },
+                        answer: answer,
+                    };
+                };
+                // The commonest step changes the worker's record alone: it is replaced in place.
+                next.restarts = state::count_restart(next.restarts, to);
+                next.workers[i] = Worker { line: to };
+                Reply {
+                    bench: Bench { state: next },
+                    answer: Answer::GoesOn,
+                }
+            }
         }
     }
 

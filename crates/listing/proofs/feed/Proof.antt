@@ -15,6 +15,7 @@ use Rattle.listing.specs.declared.Session.{Session}
 use Rattle.lines.specs.declared.Act.{Act}
 use Rattle.lines.specs.Act.{enact}
 use Rattle.machine.specs.Turns.{TurnOf}
+use Rattle.machine.proofs.Commits.{goes-by}
 use Rattle.listing.specs.Listing as spec
 use Rattle.listing.specs.Sessions.{worldOf, programOf, leftBy, sessionOf, askedOf, CalmBy, Reachable, PlayedBy, FedBy}
 use Rattle.listing.proofs.Ways.{never}
@@ -23,7 +24,7 @@ use Rattle.listing.proofs.Shows.{answer-most, shows-none}
 use Rattle.listing.proofs.Replies.{played, judged-made, judged-stopped}
 use Rattle.listing.proofs.Stepping.{Stepping, stepping-start, stepping-room, stepping-over, stepping-stops, stepping-on}
 use Rattle.listing.proofs.Feeding.{fed-on, nothing-open}
-use Rattle.listing.proofs.Standing.{Standing, standing-start, standing-on, standing-over, calm-by, asked-live, steps-by, reached-of, crew-of, valid-front, turn-front, reached-step, goes-by, reach-left, reach-over, valid-of, refusal-room}
+use Rattle.listing.proofs.Standing.{Standing, standing-start, standing-on, standing-over, calm-by, asked-live, steps-by, reached-of, crew-of, valid-front, turn-front, reached-step, reach-left, reach-over, valid-of, refusal-room}
 use Rattle.listing.proofs.feed.Statement.{statement}
 use Rattle.listing.proofs.feed.Tie as tie
 

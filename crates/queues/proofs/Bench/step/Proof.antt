@@ -1,0 +1,140 @@
+use borrow.Author.Needs.{needs}
+use mathlib.Core.Path.{_≡_, refl, sym, ap, _∙_, subst}
+use mathlib.Core.List.{List}
+use Prim.Native.Nat.{ℕ}
+use Rattle.model.specs.World.{World, lineAt}
+use Rattle.model.specs.Calls.{lent, commit, stepOf}
+use Rattle.lines.specs.declared.Act.{Act}
+use Rattle.lines.specs.Act.{enact}
+use Rattle.limits.proofs.Chains.{if-false, passed, refused}
+use Rattle.machine.specs.Turns.{TurnOf}
+use Rattle.machine.proofs.Commits.{goes-by}
+use Rattle.queues.specs.declared.Reply.{Reply}
+use Rattle.queues.specs.Left.{left}
+use Rattle.queues.proofs.Bench.step.Statement.{statement}
+use Rattle.queues.proofs.Bench.step.Tie as tie
+
+valid-requires : tie.Need-valid-requires
+valid-requires c κs = search needs
+
+refused-requires : tie.Need-refused-requires
+refused-requires c κs = search needs
+
+same-length : tie.Need-same-length
+same-length c = search needs
+
+same-length-2 : tie.Need-same-length-2
+same-length-2 c = search needs
+
+returns : tie.Need-returns
+unfolding stepOf
+returns c = 
+    ap (λ (r : Reply). left r (c .before .before .before .before .before .before .before .before .args .store .now) (c .before .before .before .before .before .before .before .before .args .log .now)) (c .refused .ensures)
+    ∙ sym (if-false _ (refused (c .before .before .valid .ensures) (c .before .if1 .taken)))
+
+place-of-requires : tie.Need-place-of-requires
+place-of-requires c κs = search needs
+
+mul-own : tie.Need-mul-own
+mul-own c = search needs
+
+element-copy-out-own : tie.Need-element-copy-out-own
+element-copy-out-own c = search needs
+
+look-requires : tie.Need-look-requires
+look-requires c κs = (passed (c .before .before .before .before .before .valid .ensures) (c .before .before .before .before .if1 .left), λ h. ap (lineAt (c .before .before .before .before .before .before .before .before .before .before .before .args .self .state .workers)) (c .before .before .before .place-of .ensures .1 h))
+
+enum-known-turn : tie.Need-enum-known-turn
+enum-known-turn c = search needs
+
+refused-requires-2 : tie.Need-refused-requires-2
+refused-requires-2 c κs = search needs
+
+enum-known-turn-2 : tie.Need-enum-known-turn-2
+enum-known-turn-2 c = search needs
+
+enum-known-act : tie.Need-enum-known-act
+enum-known-act c = search needs
+
+apply-requires : tie.Need-apply-requires
+apply-requires c κs = 
+    let W : World = lent (c .before .before .before .before .before .before .before .before .before .before .before .before .before .before .before .before .before .before .args .self .state) (c .before .before .before .before .before .before .before .before .before .before .before .before .before .before .before .before .before .before .args .store .now) (c .before .before .before .before .before .before .before .before .before .before .before .before .before .before .before .before .before .before .args .log .now) in
+    let t = subst (TurnOf W (c .before .before .before .before .before .before .before .before .before .before .before .before .before .before .before .before .before .before .args .worker)) (c .before .before .before .before .turn2 .given .1) (c .before .before .before .before .before .before .look .ensures) in
+    (t .0, (t .1, t .2))
+
+same-length-3 : tie.Need-same-length-3
+same-length-3 c = search needs
+
+same-length-4 : tie.Need-same-length-4
+same-length-4 c = search needs
+
+returns-2 : tie.Need-returns-2
+returns-2 c = 
+    let W : World = lent (c .before .before .before .before .before .before .before .before .before .before .before .before .before .before .before .before .before .before .before .before .before .before .before .before .args .self .state) (c .before .before .before .before .before .before .before .before .before .before .before .before .before .before .before .before .before .before .before .before .before .before .before .before .args .store .now) (c .before .before .before .before .before .before .before .before .before .before .before .before .before .before .before .before .before .before .before .before .before .before .before .before .args .log .now) in
+    c .before .before .before .before .before .apply .ensures ∙ sym (subst (TurnOf W (c .before .before .before .before .before .before .before .before .before .before .before .before .before .before .before .before .before .before .before .before .before .before .before .before .args .worker)) (c .before .before .before .before .before .before .before .before .before .before .turn2 .given .1) (c .before .before .before .before .before .before .before .before .before .before .before .before .look .ensures) .3)
+
+count-restart-requires : tie.Need-count-restart-requires
+count-restart-requires c κs = search needs
+
+mul-t42 : tie.Need-mul-t42
+mul-t42 c = search needs
+
+element-set-from-next : tie.Need-element-set-from-next
+element-set-from-next c = search needs
+
+same-length-5 : tie.Need-same-length-5
+same-length-5 c = search needs
+
+same-length-6 : tie.Need-same-length-6
+same-length-6 c = search needs
+
+returns-3 : tie.Need-returns-3
+returns-3 c = 
+    let W : World = lent (c .before .before .before .before .before .before .before .before .before .before .before .before .before .before .before .before .args .self .state) (c .before .before .before .before .before .before .before .before .before .before .before .before .before .before .before .before .args .store .now) (c .before .before .before .before .before .before .before .before .before .before .before .before .before .before .before .before .args .log .now) in
+    ap (λ (r : Reply). left r (c .before .before .before .before .before .before .before .before .before .before .before .before .before .before .before .before .args .store .now) (c .before .before .before .before .before .before .before .before .before .before .before .before .before .before .before .before .args .log .now)) (c .refused2 .ensures)
+    ∙ sym (subst (TurnOf W (c .before .before .before .before .before .before .before .before .before .before .before .before .before .before .before .before .args .worker)) (c .before .before .turn .given .1) (c .before .before .before .before .look .ensures))
+
+same-length-7 : tie.Need-same-length-7
+same-length-7 c = search needs
+
+same-length-8 : tie.Need-same-length-8
+same-length-8 c = search needs
+
+returns-4 : tie.Need-returns-4
+unfolding enact
+returns-4 c = 
+    let W : World = lent (c .before .before .before .before .before .before .before .before .before .before .before .before .before .before .before .before .before .before .before .args .self .state) (c .before .before .before .before .before .before .before .before .before .before .before .before .before .before .before .before .before .before .before .args .store .now) (c .before .before .before .before .before .before .before .before .before .before .before .before .before .before .before .before .before .before .before .args .log .now) in
+    let t = subst (TurnOf W (c .before .before .before .before .before .before .before .before .before .before .before .before .before .before .before .before .before .before .before .args .worker)) (c .before .before .before .before .before .turn2 .given .1) (c .before .before .before .before .before .before .before .look .ensures) in
+    goes-by (c .before .before .before .before .before .before .before .before .before .before .before .before .before .before .before .before .before .before .before .args .self .state) (c .before .before .before .before .before .before .before .before .before .before .before .before .before .before .before .before .before .before .before .args .worker) _ _ _ (c .before .before .before .before .before .before .before .before .before .before .before .before .before .before .before .before .before .before .before .args .store .now) (c .before .before .before .before .before .before .before .before .before .before .before .before .before .before .before .before .before .before .before .args .log .now) (c .before .before .before .before .before .before .before .before .before .before .before .place-of .ensures .1 (t .0)) (c .count-restart .ensures)
+    (t .3 ∙ ap (λ (a : Act). commit W (c .before .before .before .before .before .before .before .before .before .before .before .before .before .before .before .before .before .before .before .args .worker) (enact (W .bench .queue) (W .store) a)) (c .before .before .act .given .1))
+
+pub step-spec : {M : Type 1} → statement M
+step-spec =
+    tie.close
+    (tie.spec
+    valid-requires
+    refused-requires
+    same-length
+    same-length-2
+    returns
+    place-of-requires
+    mul-own
+    element-copy-out-own
+    look-requires
+    enum-known-turn
+    refused-requires-2
+    enum-known-turn-2
+    enum-known-act
+    apply-requires
+    same-length-3
+    same-length-4
+    returns-2
+    count-restart-requires
+    mul-t42
+    element-set-from-next
+    same-length-5
+    same-length-6
+    returns-3
+    same-length-7
+    same-length-8
+    returns-4)
