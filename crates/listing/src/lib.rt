@@ -567,7 +567,14 @@ pub fn feed(session: Session, buf: &[u8], store: &mut [u32], log: &mut [u32], ou
                 wrote = show(answer, out, wrote);
                 continue;
             }
-            let p = play(session_of(live, words, bench), command, store, log, out, wrote);
+            let p = play(
+                session_of(live, words, bench),
+                command,
+                store,
+                log,
+                out,
+                wrote,
+            );
             let after = p.session;
             let then = after.bench;
             live = after.live;

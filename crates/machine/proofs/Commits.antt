@@ -65,15 +65,15 @@ pub goes-by : (b : Bench) (i k n : ℕ) (x : Line) (m l : List ℕ) → k ≡ i 
       world =
           lent
           (record {
-             kind = b .kind;
-             width = b .width;
-             crew = b .crew;
-             queue = b .queue;
-             used = b .used;
-             restarts = n;
-             written = b .written;
-             workers = set (b .workers) k (record { line = x });
-           })
+            kind = b .kind;
+            width = b .width;
+            crew = b .crew;
+            queue = b .queue;
+            used = b .used;
+            restarts = n;
+            written = b .written;
+            workers = set (b .workers) k (record { line = x });
+          })
           m l;
       answer = GoesOn;
     } ≡ stepOf (lent b m l) i

@@ -144,19 +144,27 @@ pub fn begin_stop(bench: Bench, worker: u32, operation: Operation) -> Stop
     ensures { λ r. ⌜ ((m l : List ℕ) → validOf (lent bench m l) ≡ true → BeginStops (lent bench m l) worker operation r) ⌝ }
 {
     if bench.crew <= worker {
-        return Stop::Why { why: Refusal::NoSuchWorker };
+        return Stop::Why {
+            why: Refusal::NoSuchWorker,
+        };
     }
     if !state::right_hand(worker, operation) {
-        return Stop::Why { why: Refusal::WrongHand };
+        return Stop::Why {
+            why: Refusal::WrongHand,
+        };
     }
     let i = worker as usize;
     let own = bench.workers[i];
     let line = own.line;
     if !limits::is_idle(line) {
-        return Stop::Why { why: Refusal::BusyWorker };
+        return Stop::Why {
+            why: Refusal::BusyWorker,
+        };
     }
     if !state::numbers_left(operation, bench.used) {
-        return Stop::Why { why: Refusal::NumbersSpent };
+        return Stop::Why {
+            why: Refusal::NumbersSpent,
+        };
     }
     Stop::No
 }

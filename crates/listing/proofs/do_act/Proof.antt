@@ -21,7 +21,7 @@ slice-aggregate-apply : tie.Need-slice-aggregate-apply
 slice-aggregate-apply c = sym (length-take-le _ _ (omega (arith, c .before .span .ensures)))
 
 apply-requires : tie.Need-apply-requires
-apply-requires c κs = 
+apply-requires c κs =
     let a = c .before .before .before .before .before .before .args in
     (c .before .before .before .before .before .before .pre .0 .0, (c .before .before .before .before .before .before .pre .0 .1, subst (λ (m : List ℕ). InStore (a .bench .queue) (length m) (a .act)) (sym (lent-front (a .words) _ (a .store .now) (c .before .before .span .ensures))) (c .before .before .before .before .before .before .pre .1)))
 
@@ -32,7 +32,7 @@ same-length-2 : tie.Need-same-length-2
 same-length-2 c = search needs
 
 returns : tie.Need-returns
-returns c = 
+returns c =
     let a = c .before .before .before .before .before .before .before .before .before .before .before .args in
     acted-by (a .bench) _ _ (a .act) (a .worker) (a .words) _ (a .store .now) (a .log .now) _ _ (c .before .before .before .before .before .before .before .span .ensures) (c .before .before .before .before .apply .kept .1 .1 .1 .0) (c .before .before .before .before .apply .ensures)
 

@@ -63,11 +63,10 @@ same-length-3 : tie.Need-same-length-3 Inv-loop μ-loop Inv-lines μ-lines
 same-length-3 c = c .before .before .before .lines .inv .3
 
 returns : tie.Need-returns Inv-loop μ-loop Inv-lines μ-lines
-returns c = 
-    let l = c .before .before .before .lines in
-    (
+returns c =
+    let l = c .before .before .before .lines in (
       subst (λ (s : Session). FedBy (programOf (c .before .before .before .before .before .before .before .before .before .before .args .session) (c .before .before .before .before .before .before .before .before .before .before .args .store .now) (c .before .before .before .before .before .before .before .before .before .before .args .log .now)) (c .before .before .before .before .before .before .before .before .before .before .args .buf .now) (record { session = s; used = l .used; wrote = l .wrote; stops = false; full = true }) (l .store) (l .log) (l .out)) (sym (c .session-of .ensures))
-      (fed-on _ _ _ _ _ _ _ _ (l .inv .0 .within) (l .inv .0 .fits) _ (l .inv .0 .heard) (λ e. never e) (λ e. omega (arith, l .inv .3, c .before .if1 .taken))),
+          (fed-on _ _ _ _ _ _ _ _ (l .inv .0 .within) (l .inv .0 .fits) _ (l .inv .0 .heard) (λ e. never e) (λ e. omega (arith, l .inv .3, c .before .if1 .taken))),
       subst (λ (s : Session). Reachable (leftBy false s (l .store) (l .log))) (sym (c .session-of .ensures)) (reach-left (sessionOf (l .live) (l .words) (l .bench)) (l .store) (l .log) (l .inv .0 .reach)),
     )
 
@@ -87,12 +86,11 @@ same-length-6 : tie.Need-same-length-6 Inv-loop μ-loop Inv-lines μ-lines
 same-length-6 c = c .before .before .before .before .before .lines .inv .3
 
 returns-2 : tie.Need-returns-2 Inv-loop μ-loop Inv-lines μ-lines
-returns-2 c = 
+returns-2 c =
     let l = c .before .before .before .before .before .lines in
-    let s = c .before .before .before .before .before .before .before .before .before .before .before .before .args .buf .now in
-    (
+    let s = c .before .before .before .before .before .before .before .before .before .before .before .before .args .buf .now in (
       subst (λ (t : Session). FedBy (programOf (c .before .before .before .before .before .before .before .before .before .before .before .before .args .session) (c .before .before .before .before .before .before .before .before .before .before .before .before .args .store .now) (c .before .before .before .before .before .before .before .before .before .before .before .before .args .log .now)) (c .before .before .before .before .before .before .before .before .before .before .before .before .args .buf .now) (record { session = t; used = l .used; wrote = l .wrote; stops = false; full = false }) (l .store) (l .log) (l .out)) (sym (c .session-of2 .ensures))
-      (fed-on _ _ _ _ _ _ _ _ (l .inv .0 .within) (l .inv .0 .fits) _ (l .inv .0 .heard) (λ e. let o : spec.Open (drop (l .used) s) = omega (arith, length-drop (l .used) s, l .inv .0 .within, c .before .before .line-end .ensures, c .before .if2 .taken) in o) (λ e. never (sym e))),
+          (fed-on _ _ _ _ _ _ _ _ (l .inv .0 .within) (l .inv .0 .fits) _ (l .inv .0 .heard) (λ e. let o : spec.Open (drop (l .used) s) = omega (arith, length-drop (l .used) s, l .inv .0 .within, c .before .before .line-end .ensures, c .before .if2 .taken) in o) (λ e. never (sym e))),
       subst (λ (t : Session). Reachable (leftBy false t (l .store) (l .log))) (sym (c .session-of2 .ensures)) (reach-left (sessionOf (l .live) (l .words) (l .bench)) (l .store) (l .log) (l .inv .0 .reach)),
     )
 
@@ -127,7 +125,7 @@ enum-known-stop : tie.Need-enum-known-stop Inv-loop μ-loop Inv-lines μ-lines
 enum-known-stop c = search needs
 
 show-requires : tie.Need-show-requires Inv-loop μ-loop Inv-lines μ-lines
-show-requires c κs = 
+show-requires c κs =
     let l = c .before .before .before .before .before .before .before .before .before .before .before .before .before .before .lines in
     let s = sessionOf (l .live) (l .words) (l .bench) in
     refusal-room (c .before .before .stop .given .0 .0) _ _ (let z : l .wrote + 72 ≤ length (l .out) = omega (arith, l .inv .0 .fits, l .inv .3, c .before .before .before .before .before .before .before .before .before .before .before .before .if1 .left) in z)
@@ -136,12 +134,12 @@ lines-less : tie.Need-lines-less Inv-loop μ-loop Inv-lines μ-lines
 lines-less c = omega (arith, c .before .before .before .before .before .before .before .before .before .before .before .before .before .before .line-end .ensures, c .before .before .before .before .before .before .before .before .before .before .before .before .before .before .before .before .lines-test .taken)
 
 lines-again : tie.Need-lines-again Inv-loop μ-loop Inv-lines μ-lines
-lines-again c = 
+lines-again c =
     let l = c .before .before .before .before .before .before .before .before .before .before .before .before .before .before .before .before .before .lines in
     let s = sessionOf (l .live) (l .words) (l .bench) in
     let calm = subst (CalmBy (l .live) (worldOf s (l .store) (l .log)) (c .before .before .before .before .before .before .before .before .before .before .before .parse .result)) (c .before .before .before .before .before .stop .given .1) (c .before .before .before .before .before .before .before .calm .ensures (take (l .words) (l .store)) (l .log) (valid-of s (l .store) (l .log) (l .inv .0 .reach))) in (
       standing-on _ _ s (l .store) (l .log) (l .out) (l .used) (l .wrote) _ _ _ _ _ _ (l .inv .0) (c .before .before .before .before .before .before .before .before .before .before .before .before .before .before .line-end .ensures) (c .before .before .before .before .before .before .before .before .before .before .before .before .before .if2 .left) (let z : l .wrote + 72 ≤ length (l .out) = omega (arith, l .inv .0 .fits, l .inv .3, c .before .before .before .before .before .before .before .before .before .before .before .before .before .before .before .if1 .left) in z) (c .before .before .before .before .before .before .before .before .before .before .before .parse .ensures)
-      (calm-by s (l .store) (l .log) (c .before .before .before .before .before .before .before .before .before .before .before .parse .result) (c .before .before .before .before .before .stop .given .0 .0) _ _ _ _ calm (c .before .before .show .ensures)) (refl),
+          (calm-by s (l .store) (l .log) (c .before .before .before .before .before .before .before .before .before .before .before .parse .result) (c .before .before .before .before .before .stop .given .0 .0) _ _ _ _ calm (c .before .before .show .ensures)) (refl),
       l .inv .1,
       l .inv .2,
       c .before .before .show .kept .1 .0 ∙ l .inv .3,
@@ -154,7 +152,7 @@ session-of-requires-3 : tie.Need-session-of-requires-3 Inv-loop μ-loop Inv-line
 session-of-requires-3 c κs = search needs
 
 play-requires : tie.Need-play-requires Inv-loop μ-loop Inv-lines μ-lines
-play-requires c κs = 
+play-requires c κs =
     let l = c .before .before .before .before .before .before .before .before .before .before .before .before .before .before .before .before .lines in
     let s = sessionOf (l .live) (l .words) (l .bench) in
     ((let z : l .wrote + 72 ≤ length (l .out) = omega (arith, l .inv .0 .fits, l .inv .3, c .before .before .before .before .before .before .before .before .before .before .before .before .before .before .if1 .left) in z), ap (λ (x : Session). askedOf (x .live) (c .before .before .before .before .before .before .before .before .before .before .parse .result)) (c .before .before .before .session-of3 .ensures) ∙ sym (c .before .before .before .before .before .before .before .before .before .ask .ensures) ∙ c .before .before .before .before .before .before .before .enum-told .given .1)
@@ -169,21 +167,23 @@ same-length-9 : tie.Need-same-length-9 Inv-loop μ-loop Inv-lines μ-lines
 same-length-9 c = c .before .before .before .before .before .before .before .before .before .before .play .kept .1 .1 .1 .1 .0 ∙ c .before .before .before .before .before .before .before .before .before .before .before .before .before .before .before .before .before .before .before .before .before .before .before .before .before .before .before .lines .inv .3
 
 returns-3 : tie.Need-returns-3 Inv-loop μ-loop Inv-lines μ-lines
-returns-3 c = 
+returns-3 c =
     let l = c .before .before .before .before .before .before .before .before .before .before .before .before .before .before .before .before .before .before .before .before .before .before .before .before .before .before .before .lines in
-    let s = sessionOf (l .live) (l .words) (l .bench) in
-    (standing-over _ _ s (l .store) (l .log) (l .out) (l .used) (l .wrote) _ _ _ _ _ _ (l .inv .0) (c .before .before .before .before .before .before .before .before .before .before .before .before .before .before .before .before .before .before .before .before .before .before .before .before .line-end .ensures) (c .before .before .before .before .before .before .before .before .before .before .before .before .before .before .before .before .before .before .before .before .before .before .before .if2 .left) (let z : l .wrote + 72 ≤ length (l .out) = omega (arith, l .inv .0 .fits, l .inv .3, c .before .before .before .before .before .before .before .before .before .before .before .before .before .before .before .before .before .before .before .before .before .before .before .before .before .if1 .left) in z) (c .before .before .before .before .before .before .before .before .before .before .before .before .before .before .before .before .before .before .before .before .before .parse .ensures)
-      (subst (λ (x : Session). PlayedBy (respond (programOf x (l .store) (l .log)) (c .before .before .before .before .before .before .before .before .before .before .before .before .before .before .before .before .before .before .before .before .before .parse .result)) (c .before .before .before .before .before .before .before .before .before .before .play .result) (c .before .before .before .before .before .before .before .before .before .before .play .last .1 .1 .0) (c .before .before .before .before .before .before .before .before .before .before .play .last .1 .1 .1 .0) (l .out) (l .wrote) (c .before .before .before .before .before .before .before .before .before .before .play .last .1 .1 .1 .1 .0)) (c .before .before .before .before .before .before .before .before .before .before .before .before .before .before .session-of3 .ensures) (c .before .before .before .before .before .before .before .before .before .before .play .ensures)) (c .if3 .taken), reach-over (c .before .before .before .before .before .before .before .before .before .before .play .result .session) (c .before .before .before .before .before .before .before .before .before .before .play .last .1 .1 .0) (c .before .before .before .before .before .before .before .before .before .before .play .last .1 .1 .1 .0))
+    let s = sessionOf (l .live) (l .words) (l .bench) in (
+      standing-over _ _ s (l .store) (l .log) (l .out) (l .used) (l .wrote) _ _ _ _ _ _ (l .inv .0) (c .before .before .before .before .before .before .before .before .before .before .before .before .before .before .before .before .before .before .before .before .before .before .before .before .line-end .ensures) (c .before .before .before .before .before .before .before .before .before .before .before .before .before .before .before .before .before .before .before .before .before .before .before .if2 .left) (let z : l .wrote + 72 ≤ length (l .out) = omega (arith, l .inv .0 .fits, l .inv .3, c .before .before .before .before .before .before .before .before .before .before .before .before .before .before .before .before .before .before .before .before .before .before .before .before .before .if1 .left) in z) (c .before .before .before .before .before .before .before .before .before .before .before .before .before .before .before .before .before .before .before .before .before .parse .ensures)
+          (subst (λ (x : Session). PlayedBy (respond (programOf x (l .store) (l .log)) (c .before .before .before .before .before .before .before .before .before .before .before .before .before .before .before .before .before .before .before .before .before .parse .result)) (c .before .before .before .before .before .before .before .before .before .before .play .result) (c .before .before .before .before .before .before .before .before .before .before .play .last .1 .1 .0) (c .before .before .before .before .before .before .before .before .before .before .play .last .1 .1 .1 .0) (l .out) (l .wrote) (c .before .before .before .before .before .before .before .before .before .before .play .last .1 .1 .1 .1 .0)) (c .before .before .before .before .before .before .before .before .before .before .before .before .before .before .session-of3 .ensures) (c .before .before .before .before .before .before .before .before .before .before .play .ensures)) (c .if3 .taken),
+      reach-over (c .before .before .before .before .before .before .before .before .before .before .play .result .session) (c .before .before .before .before .before .before .before .before .before .before .play .last .1 .1 .0) (c .before .before .before .before .before .before .before .before .before .before .play .last .1 .1 .1 .0),
+    )
 
 lines-less-2 : tie.Need-lines-less-2 Inv-loop μ-loop Inv-lines μ-lines
 lines-less-2 c = omega (arith, c .before .before .before .before .before .before .before .before .before .before .before .before .before .before .before .before .before .before .before .before .before .before .before .before .line-end .ensures, c .before .before .before .before .before .before .before .before .before .before .before .before .before .before .before .before .before .before .before .before .before .before .before .before .before .before .lines-test .taken)
 
 lines-again-2 : tie.Need-lines-again-2 Inv-loop μ-loop Inv-lines μ-lines
-lines-again-2 c = 
+lines-again-2 c =
     let l = c .before .before .before .before .before .before .before .before .before .before .before .before .before .before .before .before .before .before .before .before .before .before .before .before .before .before .before .lines in
-    let s = sessionOf (l .live) (l .words) (l .bench) in(
+    let s = sessionOf (l .live) (l .words) (l .bench) in (
       standing-on _ _ s (l .store) (l .log) (l .out) (l .used) (l .wrote) _ _ _ _ _ _ (l .inv .0) (c .before .before .before .before .before .before .before .before .before .before .before .before .before .before .before .before .before .before .before .before .before .before .before .before .line-end .ensures) (c .before .before .before .before .before .before .before .before .before .before .before .before .before .before .before .before .before .before .before .before .before .before .before .if2 .left) (let z : l .wrote + 72 ≤ length (l .out) = omega (arith, l .inv .0 .fits, l .inv .3, c .before .before .before .before .before .before .before .before .before .before .before .before .before .before .before .before .before .before .before .before .before .before .before .before .before .if1 .left) in z) (c .before .before .before .before .before .before .before .before .before .before .before .before .before .before .before .before .before .before .before .before .before .parse .ensures)
-      (subst (λ (x : Session). PlayedBy (respond (programOf x (l .store) (l .log)) (c .before .before .before .before .before .before .before .before .before .before .before .before .before .before .before .before .before .before .before .before .before .parse .result)) (c .before .before .before .before .before .before .before .before .before .before .play .result) (c .before .before .before .before .before .before .before .before .before .before .play .last .1 .1 .0) (c .before .before .before .before .before .before .before .before .before .before .play .last .1 .1 .1 .0) (l .out) (l .wrote) (c .before .before .before .before .before .before .before .before .before .before .play .last .1 .1 .1 .1 .0)) (c .before .before .before .before .before .before .before .before .before .before .before .before .before .before .session-of3 .ensures) (c .before .before .before .before .before .before .before .before .before .before .play .ensures)) (c .if3 .left),
+          (subst (λ (x : Session). PlayedBy (respond (programOf x (l .store) (l .log)) (c .before .before .before .before .before .before .before .before .before .before .before .before .before .before .before .before .before .before .before .before .before .parse .result)) (c .before .before .before .before .before .before .before .before .before .before .play .result) (c .before .before .before .before .before .before .before .before .before .before .play .last .1 .1 .0) (c .before .before .before .before .before .before .before .before .before .before .play .last .1 .1 .1 .0) (l .out) (l .wrote) (c .before .before .before .before .before .before .before .before .before .before .play .last .1 .1 .1 .1 .0)) (c .before .before .before .before .before .before .before .before .before .before .before .before .before .before .session-of3 .ensures) (c .before .before .before .before .before .before .before .before .before .before .play .ensures)) (c .if3 .left),
       c .before .before .before .before .before .before .before .before .before .before .play .kept .1 .1 .0 ∙ l .inv .1,
       c .before .before .before .before .before .before .before .before .before .before .play .kept .1 .1 .1 .0 ∙ l .inv .2,
       c .before .before .before .before .before .before .before .before .before .before .play .kept .1 .1 .1 .1 .0 ∙ l .inv .3,
@@ -196,7 +196,7 @@ span-requires : tie.Need-span-requires Inv-loop μ-loop Inv-lines μ-lines
 span-requires c κs = search needs
 
 loop-holds : tie.Need-loop-holds Inv-loop μ-loop Inv-lines μ-lines
-loop-holds c = 
+loop-holds c =
     let l = c .before .before .before .before .before .before .before .before .before .before .before .before .before .lines in
     let s = sessionOf (l .live) (l .words) (l .bench) in
     let v = asked-live (l .live) (c .before .before .before .before .before .before .before .parse .result) (c .before .before .before .before .asked .given .0 .0) (c .before .before .before .before .asked .given .0 .1 .0) (sym (c .before .before .before .before .before .before .ask .ensures) ∙ c .before .before .before .before .asked .given .1) in
@@ -206,12 +206,12 @@ lines-less-3 : tie.Need-lines-less-3 Inv-loop μ-loop Inv-lines μ-lines
 lines-less-3 c = omega (arith, c .before .before .before .before .before .before .before .before .before .before .before .before .line-end .ensures, c .before .before .before .before .before .before .before .before .before .before .before .before .before .before .lines-test .taken)
 
 lines-again-3 : tie.Need-lines-again-3 Inv-loop μ-loop Inv-lines μ-lines
-lines-again-3 c = 
+lines-again-3 c =
     let l = c .before .before .before .before .before .before .before .before .before .before .before .before .before .before .before .lines in
     let s = sessionOf (l .live) (l .words) (l .bench) in
     let k = c .before .loop in (
       standing-on _ _ s (l .store) (l .log) (l .out) (l .used) (l .wrote) _ _ _ _ _ _ (l .inv .0) (c .before .before .before .before .before .before .before .before .before .before .before .before .line-end .ensures) (c .before .before .before .before .before .before .before .before .before .before .before .if2 .left) (let z : l .wrote + 72 ≤ length (l .out) = omega (arith, l .inv .0 .fits, l .inv .3, c .before .before .before .before .before .before .before .before .before .before .before .before .before .if1 .left) in z) (c .before .before .before .before .before .before .before .before .before .parse .ensures)
-      (steps-by s _ _ _ _ _ _ _ _ _ _ _ (sym (c .before .before .before .before .before .before .before .before .ask .ensures) ∙ c .before .before .before .before .before .before .asked .given .1) (stepping-over _ _ _ _ _ _ (k .left) _ _ _ _ (k .inv .0) (omega (arith, c .loop-test .left)))) (refl),
+          (steps-by s _ _ _ _ _ _ _ _ _ _ _ (sym (c .before .before .before .before .before .before .before .before .ask .ensures) ∙ c .before .before .before .before .before .before .asked .given .1) (stepping-over _ _ _ _ _ _ (k .left) _ _ _ _ (k .inv .0) (omega (arith, c .loop-test .left)))) (refl),
       k .inv .2 ∙ l .inv .1,
       k .inv .3 ∙ l .inv .2,
       k .inv .4 ∙ l .inv .3,
@@ -230,7 +230,7 @@ slice-aggregate-look : tie.Need-slice-aggregate-look Inv-loop μ-loop Inv-lines 
 slice-aggregate-look c = sym (length-take-le _ _ (omega (arith, c .before .before .before .before .span .ensures, c .before .before .before .loop .inv .2)))
 
 look-requires : tie.Need-look-requires Inv-loop μ-loop Inv-lines μ-lines
-look-requires c κs = 
+look-requires c κs =
     let l = c .before .before .before .before .before .before .before .before .before .before .before .before .before .before .before .before .before .before .lines in
     let s = sessionOf (l .live) (l .words) (l .bench) in
     let k = c .before .before .before .before .loop in
@@ -242,7 +242,7 @@ enum-known-turn : tie.Need-enum-known-turn Inv-loop μ-loop Inv-lines μ-lines
 enum-known-turn c = search needs
 
 show-requires-2 : tie.Need-show-requires-2 Inv-loop μ-loop Inv-lines μ-lines
-show-requires-2 c κs = 
+show-requires-2 c κs =
     let l = c .before .before .before .before .before .before .before .before .before .before .before .before .before .before .before .before .before .before .before .before .before .before .before .lines in
     let s = sessionOf (l .live) (l .words) (l .bench) in
     let k = c .before .before .before .before .before .before .before .before .before .loop in
@@ -255,15 +255,15 @@ lines-less-4 : tie.Need-lines-less-4 Inv-loop μ-loop Inv-lines μ-lines
 lines-less-4 c = omega (arith, c .before .before .before .before .before .before .before .before .before .before .before .before .before .before .before .before .before .before .before .before .before .before .before .line-end .ensures, c .before .before .before .before .before .before .before .before .before .before .before .before .before .before .before .before .before .before .before .before .before .before .before .before .before .lines-test .taken)
 
 lines-again-4 : tie.Need-lines-again-4 Inv-loop μ-loop Inv-lines μ-lines
-lines-again-4 c = 
+lines-again-4 c =
     let l = c .before .before .before .before .before .before .before .before .before .before .before .before .before .before .before .before .before .before .before .before .before .before .before .before .before .before .lines in
     let s = sessionOf (l .live) (l .words) (l .bench) in
     let k = c .before .before .before .before .before .before .before .before .before .before .before .before .loop in
     let t = sessionOf (l .live) (l .words) (k .bench) in
     let e = c .before .before .before .before .before .before .before .before .before .before .before .before .before .span .ensures ∙ ap (min (l .words)) (sym (k .inv .2)) in
-    let look = subst (TurnOf (worldOf t (k .store) (k .log)) (c .before .before .before .before .before .before .before .before .before .before .before .before .before .before .before .before .before .asked .given .0 .0)) (c .before .before .before .before .before .turn .given .1) (turn-front (k .bench) (l .words) _ (k .store) (k .log) (c .before .before .before .before .before .before .before .before .before .before .before .before .before .before .before .before .before .asked .given .0 .0) (c .before .before .before .before .before .before .before .look .result) e (c .before .before .before .before .before .before .before .look .ensures)) in(
+    let look = subst (TurnOf (worldOf t (k .store) (k .log)) (c .before .before .before .before .before .before .before .before .before .before .before .before .before .before .before .before .before .asked .given .0 .0)) (c .before .before .before .before .before .turn .given .1) (turn-front (k .bench) (l .words) _ (k .store) (k .log) (c .before .before .before .before .before .before .before .before .before .before .before .before .before .before .before .before .before .asked .given .0 .0) (c .before .before .before .before .before .before .before .look .result) e (c .before .before .before .before .before .before .before .look .ensures)) in (
       standing-on _ _ s (l .store) (l .log) (l .out) (l .used) (l .wrote) _ _ _ _ _ _ (l .inv .0) (c .before .before .before .before .before .before .before .before .before .before .before .before .before .before .before .before .before .before .before .before .before .before .before .line-end .ensures) (c .before .before .before .before .before .before .before .before .before .before .before .before .before .before .before .before .before .before .before .before .before .before .if2 .left) (let z : l .wrote + 72 ≤ length (l .out) = omega (arith, l .inv .0 .fits, l .inv .3, c .before .before .before .before .before .before .before .before .before .before .before .before .before .before .before .before .before .before .before .before .before .before .before .before .if1 .left) in z) (c .before .before .before .before .before .before .before .before .before .before .before .before .before .before .before .before .before .before .before .before .parse .ensures)
-      (steps-by s _ _ _ _ _ _ _ _ _ _ _ (sym (c .before .before .before .before .before .before .before .before .before .before .before .before .before .before .before .before .before .before .before .ask .ensures) ∙ c .before .before .before .before .before .before .before .before .before .before .before .before .before .before .before .before .before .asked .given .1) (stepping-stops _ _ _ _ _ _ (k .left) _ _ _ _ (k .inv .0) (c .before .before .before .before .before .before .before .before .before .before .before .loop-test .taken) t _ (k .store) (k .log) (sym look) (k .inv .0 .live) _ _ (c .before .before .show2 .ensures) refl)) (refl),
+          (steps-by s _ _ _ _ _ _ _ _ _ _ _ (sym (c .before .before .before .before .before .before .before .before .before .before .before .before .before .before .before .before .before .before .before .ask .ensures) ∙ c .before .before .before .before .before .before .before .before .before .before .before .before .before .before .before .before .before .asked .given .1) (stepping-stops _ _ _ _ _ _ (k .left) _ _ _ _ (k .inv .0) (c .before .before .before .before .before .before .before .before .before .before .before .loop-test .taken) t _ (k .store) (k .log) (sym look) (k .inv .0 .live) _ _ (c .before .before .show2 .ensures) refl)) (refl),
       k .inv .2 ∙ l .inv .1,
       k .inv .3 ∙ l .inv .2,
       c .before .before .show2 .kept .1 .0 ∙ k .inv .4 ∙ l .inv .3,
@@ -276,7 +276,7 @@ enum-known-act : tie.Need-enum-known-act Inv-loop μ-loop Inv-lines μ-lines
 enum-known-act c = search needs
 
 do-act-requires : tie.Need-do-act-requires Inv-loop μ-loop Inv-lines μ-lines
-do-act-requires c κs = 
+do-act-requires c κs =
     let l = c .before .before .before .before .before .before .before .before .before .before .before .before .before .before .before .before .before .before .before .before .before .before .before .before .before .lines in
     let s = sessionOf (l .live) (l .words) (l .bench) in
     let k = c .before .before .before .before .before .before .before .before .before .before .before .loop in
@@ -286,7 +286,7 @@ do-act-requires c κs =
     ((look .0, look .1), look .2)
 
 show-requires-3 : tie.Need-show-requires-3 Inv-loop μ-loop Inv-lines μ-lines
-show-requires-3 c κs = 
+show-requires-3 c κs =
     let l = c .before .before .before .before .before .before .before .before .before .before .before .before .before .before .before .before .before .before .before .before .before .before .before .before .before .before .before .before .before .before .before .before .lines in
     let s = sessionOf (l .live) (l .words) (l .bench) in
     let k = c .before .before .before .before .before .before .before .before .before .before .before .before .before .before .before .before .before .before .loop in
@@ -308,7 +308,7 @@ lines-less-5 : tie.Need-lines-less-5 Inv-loop μ-loop Inv-lines μ-lines
 lines-less-5 c = omega (arith, c .before .before .before .before .before .before .before .before .before .before .before .before .before .before .before .before .before .before .before .before .before .before .before .before .before .before .before .before .before .before .before .before .before .before .before .line-end .ensures, c .before .before .before .before .before .before .before .before .before .before .before .before .before .before .before .before .before .before .before .before .before .before .before .before .before .before .before .before .before .before .before .before .before .before .before .before .before .lines-test .taken)
 
 lines-again-5 : tie.Need-lines-again-5 Inv-loop μ-loop Inv-lines μ-lines
-lines-again-5 c = 
+lines-again-5 c =
     let l = c .before .before .before .before .before .before .before .before .before .before .before .before .before .before .before .before .before .before .before .before .before .before .before .before .before .before .before .before .before .before .before .before .before .before .before .before .before .before .lines in
     let s = sessionOf (l .live) (l .words) (l .bench) in
     let k = c .before .before .before .before .before .before .before .before .before .before .before .before .before .before .before .before .before .before .before .before .before .before .before .before .loop in
@@ -316,9 +316,9 @@ lines-again-5 c =
     let e = c .before .before .before .before .before .before .before .before .before .before .before .before .before .before .before .before .before .before .before .before .before .before .before .before .before .span .ensures ∙ ap (min (l .words)) (sym (k .inv .2)) in
     let look = subst (TurnOf (worldOf t (k .store) (k .log)) (c .before .before .before .before .before .before .before .before .before .before .before .before .before .before .before .before .before .before .before .before .before .before .before .before .before .before .before .before .before .asked .given .0 .0)) (c .before .before .before .before .before .before .before .before .before .before .before .before .before .before .before .before .before .turn2 .given .1) (turn-front (k .bench) (l .words) _ (k .store) (k .log) (c .before .before .before .before .before .before .before .before .before .before .before .before .before .before .before .before .before .before .before .before .before .before .before .before .before .before .before .before .before .asked .given .0 .0) (c .before .before .before .before .before .before .before .before .before .before .before .before .before .before .before .before .before .before .before .look .result) e (c .before .before .before .before .before .before .before .before .before .before .before .before .before .before .before .before .before .before .before .look .ensures)) in
     let next = sessionOf (l .live) (l .words) (c .before .before .before .before .before .before .before .before .before .before .before .before .do-act .result .bench) in
-    let by = c .before .before .before .before .before .before .before .before .before .before .before .before .do-act .ensures ∙ sym (look .3) in(
+    let by = c .before .before .before .before .before .before .before .before .before .before .before .before .do-act .ensures ∙ sym (look .3) in (
       standing-on _ _ s (l .store) (l .log) (l .out) (l .used) (l .wrote) _ _ _ _ _ _ (l .inv .0) (c .before .before .before .before .before .before .before .before .before .before .before .before .before .before .before .before .before .before .before .before .before .before .before .before .before .before .before .before .before .before .before .before .before .before .before .line-end .ensures) (c .before .before .before .before .before .before .before .before .before .before .before .before .before .before .before .before .before .before .before .before .before .before .before .before .before .before .before .before .before .before .before .before .before .before .if2 .left) (let z : l .wrote + 72 ≤ length (l .out) = omega (arith, l .inv .0 .fits, l .inv .3, c .before .before .before .before .before .before .before .before .before .before .before .before .before .before .before .before .before .before .before .before .before .before .before .before .before .before .before .before .before .before .before .before .before .before .before .before .if1 .left) in z) (c .before .before .before .before .before .before .before .before .before .before .before .before .before .before .before .before .before .before .before .before .before .before .before .before .before .before .before .before .before .before .before .before .parse .ensures)
-      (steps-by s _ _ _ _ _ _ _ _ _ _ _ (sym (c .before .before .before .before .before .before .before .before .before .before .before .before .before .before .before .before .before .before .before .before .before .before .before .before .before .before .before .before .before .before .before .ask .ensures) ∙ c .before .before .before .before .before .before .before .before .before .before .before .before .before .before .before .before .before .before .before .before .before .before .before .before .before .before .before .before .before .asked .given .1) (stepping-stops _ _ _ _ _ _ (k .left) _ _ _ _ (k .inv .0) (c .before .before .before .before .before .before .before .before .before .before .before .before .before .before .before .before .before .before .before .before .before .before .before .loop-test .taken) next (c .before .before .before .before .before .before .before .before .before .before .before .before .do-act .result .answer) _ _ by (k .inv .0 .live) _ _ (c .before .before .before .before .before .show3 .ensures) (judged-stopped (c .before .before .before .before .before .before .before .before .before .before .before .before .do-act .result .answer) (sym (c .before .before .judge .ensures) ∙ c .enum-told4 .given .1)))) (refl),
+          (steps-by s _ _ _ _ _ _ _ _ _ _ _ (sym (c .before .before .before .before .before .before .before .before .before .before .before .before .before .before .before .before .before .before .before .before .before .before .before .before .before .before .before .before .before .before .before .ask .ensures) ∙ c .before .before .before .before .before .before .before .before .before .before .before .before .before .before .before .before .before .before .before .before .before .before .before .before .before .before .before .before .before .asked .given .1) (stepping-stops _ _ _ _ _ _ (k .left) _ _ _ _ (k .inv .0) (c .before .before .before .before .before .before .before .before .before .before .before .before .before .before .before .before .before .before .before .before .before .before .before .loop-test .taken) next (c .before .before .before .before .before .before .before .before .before .before .before .before .do-act .result .answer) _ _ by (k .inv .0 .live) _ _ (c .before .before .before .before .before .show3 .ensures) (judged-stopped (c .before .before .before .before .before .before .before .before .before .before .before .before .do-act .result .answer) (sym (c .before .before .judge .ensures) ∙ c .enum-told4 .given .1)))) (refl),
       c .before .before .before .before .before .before .before .before .before .before .before .before .do-act .kept .1 .1 .1 .1 .0 ∙ k .inv .2 ∙ l .inv .1,
       c .before .before .before .before .before .before .before .before .before .before .before .before .do-act .kept .1 .1 .1 .1 .1 .0 ∙ k .inv .3 ∙ l .inv .2,
       c .before .before .before .before .before .show3 .kept .1 .0 ∙ k .inv .4 ∙ l .inv .3,
@@ -331,7 +331,7 @@ loop-less : tie.Need-loop-less Inv-loop μ-loop Inv-lines μ-lines
 loop-less c = omega (arith, c .before .before .before .before .before .before .before .before .before .before .before .before .before .before .before .before .before .before .before .before .before .before .before .loop-test .taken)
 
 loop-again : tie.Need-loop-again Inv-loop μ-loop Inv-lines μ-lines
-loop-again c = 
+loop-again c =
     let l = c .before .before .before .before .before .before .before .before .before .before .before .before .before .before .before .before .before .before .before .before .before .before .before .before .before .before .before .before .before .before .before .before .before .before .before .before .before .before .lines in
     let s = sessionOf (l .live) (l .words) (l .bench) in
     let k = c .before .before .before .before .before .before .before .before .before .before .before .before .before .before .before .before .before .before .before .before .before .before .before .before .loop in
@@ -339,7 +339,7 @@ loop-again c =
     let e = c .before .before .before .before .before .before .before .before .before .before .before .before .before .before .before .before .before .before .before .before .before .before .before .before .before .span .ensures ∙ ap (min (l .words)) (sym (k .inv .2)) in
     let look = subst (TurnOf (worldOf t (k .store) (k .log)) (c .before .before .before .before .before .before .before .before .before .before .before .before .before .before .before .before .before .before .before .before .before .before .before .before .before .before .before .before .before .asked .given .0 .0)) (c .before .before .before .before .before .before .before .before .before .before .before .before .before .before .before .before .before .turn2 .given .1) (turn-front (k .bench) (l .words) _ (k .store) (k .log) (c .before .before .before .before .before .before .before .before .before .before .before .before .before .before .before .before .before .before .before .before .before .before .before .before .before .before .before .before .before .asked .given .0 .0) (c .before .before .before .before .before .before .before .before .before .before .before .before .before .before .before .before .before .before .before .look .result) e (c .before .before .before .before .before .before .before .before .before .before .before .before .before .before .before .before .before .before .before .look .ensures)) in
     let next = sessionOf (l .live) (l .words) (c .before .before .before .before .before .before .before .before .before .before .before .before .do-act .result .bench) in
-    let by = c .before .before .before .before .before .before .before .before .before .before .before .before .do-act .ensures ∙ sym (look .3) in(
+    let by = c .before .before .before .before .before .before .before .before .before .before .before .before .do-act .ensures ∙ sym (look .3) in (
       stepping-on _ _ _ _ _ _ (k .left) _ _ _ _ (k .inv .0) (c .before .before .before .before .before .before .before .before .before .before .before .before .before .before .before .before .before .before .before .before .before .before .before .loop-test .taken) next (c .before .before .before .before .before .before .before .before .before .before .before .before .do-act .result .answer) _ _ by (k .inv .0 .live) _ _ (c .before .before .before .before .before .show3 .ensures) (judged-made (c .before .before .before .before .before .before .before .before .before .before .before .before .do-act .result .answer) (sym (c .before .before .judge .ensures) ∙ c .enum-told3 .given .1)),
       reached-step (worldOf t (k .store) (k .log)) _ _ _ by (k .inv .1),
       c .before .before .before .before .before .before .before .before .before .before .before .before .do-act .kept .1 .1 .1 .1 .0 ∙ k .inv .2,
@@ -364,7 +364,7 @@ loop-less-2 c = omega (arith, c .before .before .before .before .before .before 
 
 loop-again-2 : tie.Need-loop-again-2 Inv-loop μ-loop Inv-lines μ-lines
 unfolding enact
-loop-again-2 c = 
+loop-again-2 c =
     let l = c .before .before .before .before .before .before .before .before .before .before .before .before .before .before .before .before .before .before .before .before .before .before .before .before .before .before .lines in
     let s = sessionOf (l .live) (l .words) (l .bench) in
     let k = c .before .before .before .before .before .before .before .before .before .before .before .before .loop in
@@ -392,11 +392,10 @@ same-length-12 : tie.Need-same-length-12 Inv-loop μ-loop Inv-lines μ-lines
 same-length-12 c = c .before .before .lines .inv .3
 
 returns-4 : tie.Need-returns-4 Inv-loop μ-loop Inv-lines μ-lines
-returns-4 c = 
-    let l = c .before .before .lines in
-    (
+returns-4 c =
+    let l = c .before .before .lines in (
       subst (λ (t : Session). FedBy (programOf (c .before .before .before .before .before .before .before .before .before .args .session) (c .before .before .before .before .before .before .before .before .before .args .store .now) (c .before .before .before .before .before .before .before .before .before .args .log .now)) (c .before .before .before .before .before .before .before .before .before .args .buf .now) (record { session = t; used = l .used; wrote = l .wrote; stops = false; full = false }) (l .store) (l .log) (l .out)) (sym (c .session-of4 .ensures))
-      (fed-on _ _ _ _ _ _ _ _ (l .inv .0 .within) (l .inv .0 .fits) _ (l .inv .0 .heard) (λ e. nothing-open (c .before .before .before .before .before .before .before .before .before .args .buf .now) (l .used) (omega (arith, c .before .lines-test .left))) (λ e. never (sym e))),
+          (fed-on _ _ _ _ _ _ _ _ (l .inv .0 .within) (l .inv .0 .fits) _ (l .inv .0 .heard) (λ e. nothing-open (c .before .before .before .before .before .before .before .before .before .args .buf .now) (l .used) (omega (arith, c .before .lines-test .left))) (λ e. never (sym e))),
       subst (λ (t : Session). Reachable (leftBy false t (l .store) (l .log))) (sym (c .session-of4 .ensures)) (reach-left (sessionOf (l .live) (l .words) (l .bench)) (l .store) (l .log) (l .inv .0 .reach)),
     )
 

@@ -9,7 +9,7 @@ use Rattle.listing.proofs.play.Statement.{statement}
 use Rattle.listing.proofs.play.Tie as tie
 
 play-live-requires : tie.Need-play-live-requires
-play-live-requires c κs = 
+play-live-requires c κs =
     let a = c .before .before .before .before .before .before .before .args in
     ((c .before .before .before .before .before .before .before .pre .0, c .before .before .before .if1 .taken), subst (λ (v : Bool). askedOf v (a .command) ≡ Other) (c .before .before .before .if1 .taken) (c .before .before .before .before .before .before .before .pre .1))
 

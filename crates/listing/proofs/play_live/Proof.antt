@@ -52,7 +52,7 @@ same-length c = search needs
 
 returns : tie.Need-returns
 unfolding respond
-returns c = 
+returns c =
     let a = c .before .before .before .before .before .before .before .before .before .args in
     rw (c .before .before .before .before .enum-told .given .1) (bad-at _ _ _ _ _ _ (program-live (a .session) (a .store .now) (a .log .now) (c .before .before .before .before .before .before .before .before .before .pre .0 .1)) (c .before .before .refuse .ensures (a .store .now) (a .log .now)))
 
@@ -119,7 +119,7 @@ same-length-15 c = search needs
 
 returns-7 : tie.Need-returns-7
 unfolding respond
-returns-7 c = 
+returns-7 c =
     let a = c .before .before .before .before .before .before .before .before .before .args in
     rw (c .before .before .before .before .enum-told5 .given .1) (bad-at _ _ _ _ _ _ (program-live (a .session) (a .store .now) (a .log .now) (c .before .before .before .before .before .before .before .before .before .pre .0 .1)) (c .before .before .refuse3 .ensures (a .store .now) (a .log .now)))
 

@@ -30,7 +30,7 @@ refused-requires-2 : tie.Need-refused-requires-2
 refused-requires-2 c κs = search needs
 
 returns-2 : tie.Need-returns-2
-returns-2 c = 
+returns-2 c =
     let W = lent (c .before .before .before .before .before .before .before .before .before .args .bench) (c .before .before .before .before .before .before .before .before .before .args .store .now) (c .before .before .before .before .before .before .before .before .before .args .log .now) in
     same-left (c .refused2 .ensures) refl refl
     ∙ sym (subst (BeginStops W (c .before .before .before .before .before .before .before .before .before .args .worker) (c .before .before .before .before .before .before .before .before .before .args .operation)) (c .before .before .stop .given .1) (c .before .before .before .before .begin-stop .ensures _ _ (passed (c .before .before .before .before .before .before .valid .ensures) (c .before .before .before .before .before .if1 .left))))
@@ -39,7 +39,7 @@ enum-told : tie.Need-enum-told
 enum-told c = search needs
 
 accept-requires : tie.Need-accept-requires
-accept-requires c κs = 
+accept-requires c κs =
     let W = lent (c .before .before .before .before .before .before .before .args .bench) (c .before .before .before .before .before .before .before .args .store .now) (c .before .before .before .before .before .before .before .args .log .now) in
     let v = passed (c .before .before .before .before .valid .ensures) (c .before .before .before .if1 .left) in
     let b = bounds-of W v in
@@ -47,7 +47,7 @@ accept-requires c κs =
     (omega (arith, s .0), b .used)
 
 returns-3 : tie.Need-returns-3
-returns-3 c = 
+returns-3 c =
     let W = lent (c .before .before .before .before .before .before .before .before .args .bench) (c .before .before .before .before .before .before .before .before .args .store .now) (c .before .before .before .before .before .before .before .before .args .log .now) in
     c .accept .ensures _ _
     ∙ sym (subst (BeginStops W (c .before .before .before .before .before .before .before .before .args .worker) (c .before .before .before .before .before .before .before .before .args .operation)) (c .before .enum-told .given .1) (c .before .before .before .begin-stop .ensures _ _ (passed (c .before .before .before .before .before .valid .ensures) (c .before .before .before .before .if1 .left))) .1)

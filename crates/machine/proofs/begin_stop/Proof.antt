@@ -52,9 +52,9 @@ unfolding beginOf
 returns-5 c = λ m l v. (
   c .before .before .before .before .before .before .before .if1 .left,
   if-true _ v ∙ if-true _ (lt-ltb _ _ (c .before .before .before .before .before .before .before .if1 .left))
-  ∙ if-true _ (passed (c .before .before .before .before .before .before .right-hand .ensures) (c .before .before .before .before .before .if2 .left))
-  ∙ if-true _ (passed (c .before .before .before .is-idle .ensures) (c .before .before .if3 .left))
-  ∙ if-true _ (passed (c .before .numbers-left .ensures) (c .if4 .left)),
+      ∙ if-true _ (passed (c .before .before .before .before .before .before .right-hand .ensures) (c .before .before .before .before .before .if2 .left))
+      ∙ if-true _ (passed (c .before .before .before .is-idle .ensures) (c .before .before .if3 .left))
+      ∙ if-true _ (passed (c .before .numbers-left .ensures) (c .if4 .left)),
 )
 
 pub begin-stop-spec : {M : Type 1} → statement M

@@ -28,7 +28,7 @@ same-length-2 c = search needs
 
 returns : tie.Need-returns
 unfolding stepOf
-returns c = 
+returns c =
     ap (λ (r : Reply). left r (c .before .before .before .before .before .before .before .before .args .store .now) (c .before .before .before .before .before .before .before .before .args .log .now)) (c .refused .ensures)
     ∙ sym (if-false _ (refused (c .before .before .valid .ensures) (c .before .if1 .taken)))
 
@@ -57,7 +57,7 @@ enum-known-act : tie.Need-enum-known-act
 enum-known-act c = search needs
 
 apply-requires : tie.Need-apply-requires
-apply-requires c κs = 
+apply-requires c κs =
     let W : World = lent (c .before .before .before .before .before .before .before .before .before .before .before .before .before .before .before .before .before .before .args .self .state) (c .before .before .before .before .before .before .before .before .before .before .before .before .before .before .before .before .before .before .args .store .now) (c .before .before .before .before .before .before .before .before .before .before .before .before .before .before .before .before .before .before .args .log .now) in
     let t = subst (TurnOf W (c .before .before .before .before .before .before .before .before .before .before .before .before .before .before .before .before .before .before .args .worker)) (c .before .before .before .before .turn2 .given .1) (c .before .before .before .before .before .before .look .ensures) in
     (t .0, (t .1, t .2))
@@ -69,7 +69,7 @@ same-length-4 : tie.Need-same-length-4
 same-length-4 c = search needs
 
 returns-2 : tie.Need-returns-2
-returns-2 c = 
+returns-2 c =
     let W : World = lent (c .before .before .before .before .before .before .before .before .before .before .before .before .before .before .before .before .before .before .before .before .before .before .before .before .args .self .state) (c .before .before .before .before .before .before .before .before .before .before .before .before .before .before .before .before .before .before .before .before .before .before .before .before .args .store .now) (c .before .before .before .before .before .before .before .before .before .before .before .before .before .before .before .before .before .before .before .before .before .before .before .before .args .log .now) in
     c .before .before .before .before .before .apply .ensures ∙ sym (subst (TurnOf W (c .before .before .before .before .before .before .before .before .before .before .before .before .before .before .before .before .before .before .before .before .before .before .before .before .args .worker)) (c .before .before .before .before .before .before .before .before .before .before .turn2 .given .1) (c .before .before .before .before .before .before .before .before .before .before .before .before .look .ensures) .3)
 
@@ -89,7 +89,7 @@ same-length-6 : tie.Need-same-length-6
 same-length-6 c = search needs
 
 returns-3 : tie.Need-returns-3
-returns-3 c = 
+returns-3 c =
     let W : World = lent (c .before .before .before .before .before .before .before .before .before .before .before .before .before .before .before .before .args .self .state) (c .before .before .before .before .before .before .before .before .before .before .before .before .before .before .before .before .args .store .now) (c .before .before .before .before .before .before .before .before .before .before .before .before .before .before .before .before .args .log .now) in
     ap (λ (r : Reply). left r (c .before .before .before .before .before .before .before .before .before .before .before .before .before .before .before .before .args .store .now) (c .before .before .before .before .before .before .before .before .before .before .before .before .before .before .before .before .args .log .now)) (c .refused2 .ensures)
     ∙ sym (subst (TurnOf W (c .before .before .before .before .before .before .before .before .before .before .before .before .before .before .before .before .args .worker)) (c .before .before .turn .given .1) (c .before .before .before .before .look .ensures))
@@ -102,7 +102,7 @@ same-length-8 c = search needs
 
 returns-4 : tie.Need-returns-4
 unfolding enact
-returns-4 c = 
+returns-4 c =
     let W : World = lent (c .before .before .before .before .before .before .before .before .before .before .before .before .before .before .before .before .before .before .before .args .self .state) (c .before .before .before .before .before .before .before .before .before .before .before .before .before .before .before .before .before .before .before .args .store .now) (c .before .before .before .before .before .before .before .before .before .before .before .before .before .before .before .before .before .before .before .args .log .now) in
     let t = subst (TurnOf W (c .before .before .before .before .before .before .before .before .before .before .before .before .before .before .before .before .before .before .before .args .worker)) (c .before .before .before .before .before .turn2 .given .1) (c .before .before .before .before .before .before .before .look .ensures) in
     goes-by (c .before .before .before .before .before .before .before .before .before .before .before .before .before .before .before .before .before .before .before .args .self .state) (c .before .before .before .before .before .before .before .before .before .before .before .before .before .before .before .before .before .before .before .args .worker) _ _ _ (c .before .before .before .before .before .before .before .before .before .before .before .before .before .before .before .before .before .before .before .args .store .now) (c .before .before .before .before .before .before .before .before .before .before .before .before .before .before .before .before .before .before .before .args .log .now) (c .before .before .before .before .before .before .before .before .before .before .before .place-of .ensures .1 (t .0)) (c .count-restart .ensures)

@@ -1,0 +1,77 @@
+// For timing: plays steps through the library's public calls, a thousand for each byte of standard input, and prints how many
+// went on. Each run of five is a steal attempt's lines 1 to 4b, from one and the same bench: a bench is a value, so the attempt
+// can be played again from its start, and the log never fills.
+use libc::STDIN_FILENO;
+use libc::STDOUT_FILENO;
+use model::Answer;
+use model::Operation;
+use queues::Bench;
+
+// 1 of a step that goes on.
+fn went_on(answer: Answer) -> u64 {
+    match answer {
+        Answer::Accepted => 0,
+        Answer::Numbered { number: _ } => 0,
+        Answer::GoesOn => 1,
+        Answer::Finished { worker: _, task: _ } => 0,
+        Answer::HandedOut { worker: _, task: _ } => 0,
+        Answer::Empty { worker: _ } => 0,
+        Answer::Full { worker: _, task: _ } => 0,
+        Answer::Refused { why: _ } => 0,
+    }
+}
+
+// The owner's put, from its begin to its last line.
+fn put(bench: Bench, store: &mut [u32], log: &mut [u32]) -> Bench {
+    let operation = Operation::Put { payload: 7 };
+    let begun = bench.begin(0, operation, store, log);
+    let mut current = begun.bench;
+    let mut line: u32 = 0;
+    while line < 5 {
+        let r = current.step(0, store, log);
+        current = r.bench;
+        line += 1;
+    }
+    current
+}
+
+// A thousand steps of thief 1; how many went on.
+fn thousand(start: Bench, store: &mut [u32], log: &mut [u32]) -> u64 {
+    let mut made: u64 = 0;
+    let mut current = start;
+    let mut step: u32 = 0;
+    while step < 1000 {
+        if step % 5 == 0 {
+            current = start;
+        }
+        let r = current.step(1, store, log);
+        current = r.bench;
+        let answer = r.answer;
+        let one = went_on(answer);
+        made = std::num::wrapping_add_u64(made, one);
+        step += 1;
+    }
+    made
+}
+
+fn main() {
+    let mut store = [0u32; 64];
+    let mut log = [0u32; 64];
+    let mut input = [0u8; 65536];
+    let made = Bench::fresh(1, 4, 4, 8, &mut store);
+    let empty = made.bench;
+    let filled = put(empty, &mut store, &mut log);
+    let begun = filled.begin(1, Operation::Steal, &store, &log);
+    let start = begun.bench;
+    let got = libc::read(STDIN_FILENO, &mut input);
+    let bytes = io::count(got, &input);
+    let mut steps: u64 = 0;
+    let mut byte: usize = 0;
+    while byte < bytes {
+        let made = thousand(start, &mut store, &mut log);
+        steps = std::num::wrapping_add_u64(steps, made);
+        byte += 1;
+    }
+    io::print_decimal(STDOUT_FILENO, steps);
+    io::write_all(STDOUT_FILENO, b"\n");
+}
