@@ -16,6 +16,8 @@ use Rattle.model.specs.Listing.{Program, waiting, playing, ended, Reply, reply,
 use Rattle.theorems.specs.Reached.{Reached}
 use Rattle.machine.specs.declared.Stop.{Stop}
 use Rattle.machine.specs.declared.Stop.the-variants.{No, Why}
+use Rattle.machine.specs.declared.Turn.{Turn}
+use Rattle.machine.specs.declared.Turn.the-variants as turn
 use Rattle.text.specs.Numbers.{Placed}
 use Rattle.listing.specs.declared.Session.{Session}
 use Rattle.listing.specs.declared.Asked.{Asked}
@@ -52,6 +54,11 @@ judgedOf (HandedOut i t) = Made
 judgedOf (Empty i) = Made
 judgedOf (Full i t) = Made
 judgedOf (Refused r) = Stopped
+
+-- what a step answers that is refused before its line is done
+abbrev pub refusalOf : Turn → Answer
+refusalOf (turn.Refused r) = Refused r
+refusalOf (turn.Acts a) = GoesOn
 
 -- a line asks a bench that is played for steps, or for something else
 abbrev pub askedOf : Bool → Command → Asked

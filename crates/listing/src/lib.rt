@@ -34,6 +34,7 @@ ghost use Rattle.listing.specs.Sessions.{
   leftBy,
   Reachable,
   judgedOf,
+  refusalOf,
   askedOf,
   CalmBy,
   PlayedBy,
@@ -176,6 +177,16 @@ fn judge(answer: Answer) -> Judged
         Answer::Empty { worker: _ } => Judged::Made,
         Answer::Full { worker: _, task: _ } => Judged::Made,
         Answer::Refused { why: _ } => Judged::Stopped,
+    }
+}
+
+// What a step that is refused answers.
+fn refusal_of(turn: Turn) -> Answer
+    ensures { λ r. ⌜ r ≡ refusalOf turn ⌝ }
+{
+    match turn {
+        Turn::Refused { why } => Answer::Refused { why },
+        Turn::Acts { act: _ } => Answer::GoesOn,
     }
 }
 
@@ -599,30 +610,25 @@ pub fn feed(session: Session, buf: &[u8], store: &mut [u32], log: &mut [u32], ou
             let own = bench.workers[i];
             let line = own.line;
             let turn = machine::look(bench, worker, line, &store[..n], log);
-            match turn {
-                Turn::Refused { why } => {
-                    let answer = Answer::Refused { why };
-                    wrote = show(answer, out, wrote);
+            let Turn::Acts { act } = turn else {
+                let answer = refusal_of(turn);
+                wrote = show(answer, out, wrote);
+                continue 'lines;
+            };
+            let Act::Goes { line: next } = act else {
+                let done = do_act(words, bench, worker, act, store, log);
+                let answer = done.answer;
+                bench = done.bench;
+                wrote = show(answer, out, wrote);
+                let Judged::Made = judge(answer) else {
                     continue 'lines;
-                }
-                Turn::Acts { act } => {
-                    let Act::Goes { line: next } = act else {
-                        let done = do_act(words, bench, worker, act, store, log);
-                        let answer = done.answer;
-                        bench = done.bench;
-                        wrote = show(answer, out, wrote);
-                        let Judged::Made = judge(answer) else {
-                            continue 'lines;
-                        };
-                        left -= 1;
-                        continue;
-                    };
-                    bench.restarts = state::count_restart(bench.restarts, next);
-                    bench.workers[i] = Worker { line: next };
-                    left -= 1;
-                    continue;
-                }
-            }
+                };
+                left -= 1;
+                continue;
+            };
+            bench.restarts = state::count_restart(bench.restarts, next);
+            bench.workers[i] = Worker { line: next };
+            left -= 1;
         }
     }
     Fed {

@@ -6,10 +6,11 @@ use mathlib.Core.List.{List}
 use Prim.Native.Nat.{ℕ, _+_, _-_, _≤_, _<_, min}
 use lib.ListN.{length, take, drop, length-drop}
 use lib.Seq.{length-take-le}
-use Rattle.model.specs.declared.Answer.the-variants.{GoesOn, Refused}
+use Rattle.model.specs.declared.Answer.{Answer}
+use Rattle.model.specs.declared.Answer.the-variants.{GoesOn}
 use Rattle.model.specs.World.{Outcome, lineAt}
 use Rattle.model.specs.Calls.{lent, commit}
-use Rattle.model.specs.Listing.{respond, stepsOf}
+use Rattle.model.specs.Listing.{isRefused, respond, stepsOf}
 use Rattle.theorems.specs.Reached.{Reached}
 use Rattle.listing.specs.declared.Session.{Session}
 use Rattle.lines.specs.declared.Act.{Act}
@@ -17,7 +18,7 @@ use Rattle.lines.specs.Act.{enact}
 use Rattle.machine.specs.Turns.{TurnOf}
 use Rattle.machine.proofs.Commits.{goes-by}
 use Rattle.listing.specs.Listing as spec
-use Rattle.listing.specs.Sessions.{worldOf, programOf, leftBy, sessionOf, askedOf, CalmBy, Reachable, PlayedBy, FedBy}
+use Rattle.listing.specs.Sessions.{worldOf, programOf, leftBy, sessionOf, refusalOf, askedOf, CalmBy, Reachable, PlayedBy, FedBy}
 use Rattle.listing.proofs.Ways.{never}
 use Rattle.listing.proofs.Lines.{front-fits}
 use Rattle.listing.proofs.Shows.{answer-most, shows-none}
@@ -241,6 +242,12 @@ look-requires c κs =
 enum-known-turn : tie.Need-enum-known-turn Inv-loop μ-loop Inv-lines μ-lines
 enum-known-turn c = search needs
 
+enum-told-3 : tie.Need-enum-told-3 Inv-loop μ-loop Inv-lines μ-lines
+enum-told-3 c = search needs
+
+refusal-of-requires : tie.Need-refusal-of-requires Inv-loop μ-loop Inv-lines μ-lines
+refusal-of-requires c κs = search needs
+
 show-requires-2 : tie.Need-show-requires-2 Inv-loop μ-loop Inv-lines μ-lines
 show-requires-2 c κs =
     let l = c .before .before .before .before .before .before .before .before .before .before .before .before .before .before .before .before .before .before .before .before .before .before .before .lines in
@@ -248,8 +255,8 @@ show-requires-2 c κs =
     let k = c .before .before .before .before .before .before .before .before .before .loop in
     let t = sessionOf (l .live) (l .words) (k .bench) in
     let e = c .before .before .before .before .before .before .before .before .before .before .span .ensures ∙ ap (min (l .words)) (sym (k .inv .2)) in
-    let look = subst (TurnOf (worldOf t (k .store) (k .log)) (c .before .before .before .before .before .before .before .before .before .before .before .before .before .before .asked .given .0 .0)) (c .before .before .turn .given .1) (turn-front (k .bench) (l .words) _ (k .store) (k .log) (c .before .before .before .before .before .before .before .before .before .before .before .before .before .before .asked .given .0 .0) (c .before .before .before .before .look .result) e (c .before .before .before .before .look .ensures)) in
-    stepping-room _ _ _ _ _ _ (k .left) _ _ _ _ (k .inv .0) _ (let z : l .wrote + 72 ≤ length (l .out) = omega (arith, l .inv .0 .fits, l .inv .3, c .before .before .before .before .before .before .before .before .before .before .before .before .before .before .before .before .before .before .before .before .before .if1 .left) in z) (c .before .before .before .before .before .before .before .before .loop-test .taken) (ap (λ (d : Outcome). d .answer) (sym look))
+    let look = subst (TurnOf (worldOf t (k .store) (k .log)) (c .before .before .before .before .before .before .before .before .before .before .before .before .before .before .asked .given .0 .0)) (c .before .before .enum-told3 .given .1) (turn-front (k .bench) (l .words) _ (k .store) (k .log) (c .before .before .before .before .before .before .before .before .before .before .before .before .before .before .asked .given .0 .0) (c .before .before .before .before .look .result) e (c .before .before .before .before .look .ensures)) in
+    stepping-room _ _ _ _ _ _ (k .left) _ _ _ _ (k .inv .0) _ (let z : l .wrote + 72 ≤ length (l .out) = omega (arith, l .inv .0 .fits, l .inv .3, c .before .before .before .before .before .before .before .before .before .before .before .before .before .before .before .before .before .before .before .before .before .if1 .left) in z) (c .before .before .before .before .before .before .before .before .loop-test .taken) (c .before .refusal-of .ensures ∙ ap refusalOf (c .before .before .enum-told3 .given .1) ∙ ap (λ (d : Outcome). d .answer) (sym look))
 
 lines-less-4 : tie.Need-lines-less-4 Inv-loop μ-loop Inv-lines μ-lines
 lines-less-4 c = omega (arith, c .before .before .before .before .before .before .before .before .before .before .before .before .before .before .before .before .before .before .before .before .before .before .before .line-end .ensures, c .before .before .before .before .before .before .before .before .before .before .before .before .before .before .before .before .before .before .before .before .before .before .before .before .before .lines-test .taken)
@@ -261,16 +268,14 @@ lines-again-4 c =
     let k = c .before .before .before .before .before .before .before .before .before .before .before .before .loop in
     let t = sessionOf (l .live) (l .words) (k .bench) in
     let e = c .before .before .before .before .before .before .before .before .before .before .before .before .before .span .ensures ∙ ap (min (l .words)) (sym (k .inv .2)) in
-    let look = subst (TurnOf (worldOf t (k .store) (k .log)) (c .before .before .before .before .before .before .before .before .before .before .before .before .before .before .before .before .before .asked .given .0 .0)) (c .before .before .before .before .before .turn .given .1) (turn-front (k .bench) (l .words) _ (k .store) (k .log) (c .before .before .before .before .before .before .before .before .before .before .before .before .before .before .before .before .before .asked .given .0 .0) (c .before .before .before .before .before .before .before .look .result) e (c .before .before .before .before .before .before .before .look .ensures)) in (
+    let look = subst (TurnOf (worldOf t (k .store) (k .log)) (c .before .before .before .before .before .before .before .before .before .before .before .before .before .before .before .before .before .asked .given .0 .0)) (c .before .before .before .before .before .enum-told3 .given .1) (turn-front (k .bench) (l .words) _ (k .store) (k .log) (c .before .before .before .before .before .before .before .before .before .before .before .before .before .before .before .before .before .asked .given .0 .0) (c .before .before .before .before .before .before .before .look .result) e (c .before .before .before .before .before .before .before .look .ensures)) in
+    let says = c .before .before .before .before .refusal-of .ensures ∙ ap refusalOf (c .before .before .before .before .before .enum-told3 .given .1) in (
       standing-on _ _ s (l .store) (l .log) (l .out) (l .used) (l .wrote) _ _ _ _ _ _ (l .inv .0) (c .before .before .before .before .before .before .before .before .before .before .before .before .before .before .before .before .before .before .before .before .before .before .before .line-end .ensures) (c .before .before .before .before .before .before .before .before .before .before .before .before .before .before .before .before .before .before .before .before .before .before .if2 .left) (let z : l .wrote + 72 ≤ length (l .out) = omega (arith, l .inv .0 .fits, l .inv .3, c .before .before .before .before .before .before .before .before .before .before .before .before .before .before .before .before .before .before .before .before .before .before .before .before .if1 .left) in z) (c .before .before .before .before .before .before .before .before .before .before .before .before .before .before .before .before .before .before .before .before .parse .ensures)
-          (steps-by s _ _ _ _ _ _ _ _ _ _ _ (sym (c .before .before .before .before .before .before .before .before .before .before .before .before .before .before .before .before .before .before .before .ask .ensures) ∙ c .before .before .before .before .before .before .before .before .before .before .before .before .before .before .before .before .before .asked .given .1) (stepping-stops _ _ _ _ _ _ (k .left) _ _ _ _ (k .inv .0) (c .before .before .before .before .before .before .before .before .before .before .before .loop-test .taken) t _ (k .store) (k .log) (sym look) (k .inv .0 .live) _ _ (c .before .before .show2 .ensures) refl)) (refl),
+          (steps-by s _ _ _ _ _ _ _ _ _ _ _ (sym (c .before .before .before .before .before .before .before .before .before .before .before .before .before .before .before .before .before .before .before .ask .ensures) ∙ c .before .before .before .before .before .before .before .before .before .before .before .before .before .before .before .before .before .asked .given .1) (stepping-stops _ _ _ _ _ _ (k .left) _ _ _ _ (k .inv .0) (c .before .before .before .before .before .before .before .before .before .before .before .loop-test .taken) t (c .before .before .before .before .refusal-of .result) (k .store) (k .log) (ap (λ (a : Answer). record { world = worldOf t (k .store) (k .log); answer = a }) says ∙ sym look) (k .inv .0 .live) _ _ (c .before .before .show2 .ensures) (ap isRefused says))) (refl),
       k .inv .2 ∙ l .inv .1,
       k .inv .3 ∙ l .inv .2,
       c .before .before .show2 .kept .1 .0 ∙ k .inv .4 ∙ l .inv .3,
     )
-
-enum-known-turn-2 : tie.Need-enum-known-turn-2 Inv-loop μ-loop Inv-lines μ-lines
-enum-known-turn-2 c = search needs
 
 enum-known-act : tie.Need-enum-known-act Inv-loop μ-loop Inv-lines μ-lines
 enum-known-act c = search needs
@@ -282,7 +287,7 @@ do-act-requires c κs =
     let k = c .before .before .before .before .before .before .before .before .before .before .before .loop in
     let t = sessionOf (l .live) (l .words) (k .bench) in
     let e = c .before .before .before .before .before .before .before .before .before .before .before .before .span .ensures ∙ ap (min (l .words)) (sym (k .inv .2)) in
-    let look = subst (TurnOf (worldOf t (k .store) (k .log)) (c .before .before .before .before .before .before .before .before .before .before .before .before .before .before .before .before .asked .given .0 .0)) (c .before .before .before .before .turn2 .given .1) (turn-front (k .bench) (l .words) _ (k .store) (k .log) (c .before .before .before .before .before .before .before .before .before .before .before .before .before .before .before .before .asked .given .0 .0) (c .before .before .before .before .before .before .look .result) e (c .before .before .before .before .before .before .look .ensures)) in
+    let look = subst (TurnOf (worldOf t (k .store) (k .log)) (c .before .before .before .before .before .before .before .before .before .before .before .before .before .before .before .before .asked .given .0 .0)) (c .before .before .before .before .turn .given .1) (turn-front (k .bench) (l .words) _ (k .store) (k .log) (c .before .before .before .before .before .before .before .before .before .before .before .before .before .before .before .before .asked .given .0 .0) (c .before .before .before .before .before .before .look .result) e (c .before .before .before .before .before .before .look .ensures)) in
     ((look .0, look .1), look .2)
 
 show-requires-3 : tie.Need-show-requires-3 Inv-loop μ-loop Inv-lines μ-lines
@@ -292,17 +297,17 @@ show-requires-3 c κs =
     let k = c .before .before .before .before .before .before .before .before .before .before .before .before .before .before .before .before .before .before .loop in
     let t = sessionOf (l .live) (l .words) (k .bench) in
     let e = c .before .before .before .before .before .before .before .before .before .before .before .before .before .before .before .before .before .before .before .span .ensures ∙ ap (min (l .words)) (sym (k .inv .2)) in
-    let look = subst (TurnOf (worldOf t (k .store) (k .log)) (c .before .before .before .before .before .before .before .before .before .before .before .before .before .before .before .before .before .before .before .before .before .before .before .asked .given .0 .0)) (c .before .before .before .before .before .before .before .before .before .before .before .turn2 .given .1) (turn-front (k .bench) (l .words) _ (k .store) (k .log) (c .before .before .before .before .before .before .before .before .before .before .before .before .before .before .before .before .before .before .before .before .before .before .before .asked .given .0 .0) (c .before .before .before .before .before .before .before .before .before .before .before .before .before .look .result) e (c .before .before .before .before .before .before .before .before .before .before .before .before .before .look .ensures)) in
+    let look = subst (TurnOf (worldOf t (k .store) (k .log)) (c .before .before .before .before .before .before .before .before .before .before .before .before .before .before .before .before .before .before .before .before .before .before .before .asked .given .0 .0)) (c .before .before .before .before .before .before .before .before .before .before .before .turn .given .1) (turn-front (k .bench) (l .words) _ (k .store) (k .log) (c .before .before .before .before .before .before .before .before .before .before .before .before .before .before .before .before .before .before .before .before .before .before .before .asked .given .0 .0) (c .before .before .before .before .before .before .before .before .before .before .before .before .before .look .result) e (c .before .before .before .before .before .before .before .before .before .before .before .before .before .look .ensures)) in
     stepping-room _ _ _ _ _ _ (k .left) _ _ _ _ (k .inv .0) (c .before .before .before .before .before .before .do-act .result .answer) (let z : l .wrote + 72 ≤ length (l .out) = omega (arith, l .inv .0 .fits, l .inv .3, c .before .before .before .before .before .before .before .before .before .before .before .before .before .before .before .before .before .before .before .before .before .before .before .before .before .before .before .before .before .before .if1 .left) in z) (c .before .before .before .before .before .before .before .before .before .before .before .before .before .before .before .before .before .loop-test .taken) (ap (λ (d : Outcome). d .answer) (c .before .before .before .before .before .before .do-act .ensures ∙ sym (look .3)))
 
 judge-requires : tie.Need-judge-requires Inv-loop μ-loop Inv-lines μ-lines
 judge-requires c κs = search needs
 
-enum-told-3 : tie.Need-enum-told-3 Inv-loop μ-loop Inv-lines μ-lines
-enum-told-3 c = search needs
-
 enum-told-4 : tie.Need-enum-told-4 Inv-loop μ-loop Inv-lines μ-lines
 enum-told-4 c = search needs
+
+enum-told-5 : tie.Need-enum-told-5 Inv-loop μ-loop Inv-lines μ-lines
+enum-told-5 c = search needs
 
 lines-less-5 : tie.Need-lines-less-5 Inv-loop μ-loop Inv-lines μ-lines
 lines-less-5 c = omega (arith, c .before .before .before .before .before .before .before .before .before .before .before .before .before .before .before .before .before .before .before .before .before .before .before .before .before .before .before .before .before .before .before .before .before .before .before .line-end .ensures, c .before .before .before .before .before .before .before .before .before .before .before .before .before .before .before .before .before .before .before .before .before .before .before .before .before .before .before .before .before .before .before .before .before .before .before .before .before .lines-test .taken)
@@ -314,11 +319,11 @@ lines-again-5 c =
     let k = c .before .before .before .before .before .before .before .before .before .before .before .before .before .before .before .before .before .before .before .before .before .before .before .before .loop in
     let t = sessionOf (l .live) (l .words) (k .bench) in
     let e = c .before .before .before .before .before .before .before .before .before .before .before .before .before .before .before .before .before .before .before .before .before .before .before .before .before .span .ensures ∙ ap (min (l .words)) (sym (k .inv .2)) in
-    let look = subst (TurnOf (worldOf t (k .store) (k .log)) (c .before .before .before .before .before .before .before .before .before .before .before .before .before .before .before .before .before .before .before .before .before .before .before .before .before .before .before .before .before .asked .given .0 .0)) (c .before .before .before .before .before .before .before .before .before .before .before .before .before .before .before .before .before .turn2 .given .1) (turn-front (k .bench) (l .words) _ (k .store) (k .log) (c .before .before .before .before .before .before .before .before .before .before .before .before .before .before .before .before .before .before .before .before .before .before .before .before .before .before .before .before .before .asked .given .0 .0) (c .before .before .before .before .before .before .before .before .before .before .before .before .before .before .before .before .before .before .before .look .result) e (c .before .before .before .before .before .before .before .before .before .before .before .before .before .before .before .before .before .before .before .look .ensures)) in
+    let look = subst (TurnOf (worldOf t (k .store) (k .log)) (c .before .before .before .before .before .before .before .before .before .before .before .before .before .before .before .before .before .before .before .before .before .before .before .before .before .before .before .before .before .asked .given .0 .0)) (c .before .before .before .before .before .before .before .before .before .before .before .before .before .before .before .before .before .turn .given .1) (turn-front (k .bench) (l .words) _ (k .store) (k .log) (c .before .before .before .before .before .before .before .before .before .before .before .before .before .before .before .before .before .before .before .before .before .before .before .before .before .before .before .before .before .asked .given .0 .0) (c .before .before .before .before .before .before .before .before .before .before .before .before .before .before .before .before .before .before .before .look .result) e (c .before .before .before .before .before .before .before .before .before .before .before .before .before .before .before .before .before .before .before .look .ensures)) in
     let next = sessionOf (l .live) (l .words) (c .before .before .before .before .before .before .before .before .before .before .before .before .do-act .result .bench) in
     let by = c .before .before .before .before .before .before .before .before .before .before .before .before .do-act .ensures ∙ sym (look .3) in (
       standing-on _ _ s (l .store) (l .log) (l .out) (l .used) (l .wrote) _ _ _ _ _ _ (l .inv .0) (c .before .before .before .before .before .before .before .before .before .before .before .before .before .before .before .before .before .before .before .before .before .before .before .before .before .before .before .before .before .before .before .before .before .before .before .line-end .ensures) (c .before .before .before .before .before .before .before .before .before .before .before .before .before .before .before .before .before .before .before .before .before .before .before .before .before .before .before .before .before .before .before .before .before .before .if2 .left) (let z : l .wrote + 72 ≤ length (l .out) = omega (arith, l .inv .0 .fits, l .inv .3, c .before .before .before .before .before .before .before .before .before .before .before .before .before .before .before .before .before .before .before .before .before .before .before .before .before .before .before .before .before .before .before .before .before .before .before .before .if1 .left) in z) (c .before .before .before .before .before .before .before .before .before .before .before .before .before .before .before .before .before .before .before .before .before .before .before .before .before .before .before .before .before .before .before .before .parse .ensures)
-          (steps-by s _ _ _ _ _ _ _ _ _ _ _ (sym (c .before .before .before .before .before .before .before .before .before .before .before .before .before .before .before .before .before .before .before .before .before .before .before .before .before .before .before .before .before .before .before .ask .ensures) ∙ c .before .before .before .before .before .before .before .before .before .before .before .before .before .before .before .before .before .before .before .before .before .before .before .before .before .before .before .before .before .asked .given .1) (stepping-stops _ _ _ _ _ _ (k .left) _ _ _ _ (k .inv .0) (c .before .before .before .before .before .before .before .before .before .before .before .before .before .before .before .before .before .before .before .before .before .before .before .loop-test .taken) next (c .before .before .before .before .before .before .before .before .before .before .before .before .do-act .result .answer) _ _ by (k .inv .0 .live) _ _ (c .before .before .before .before .before .show3 .ensures) (judged-stopped (c .before .before .before .before .before .before .before .before .before .before .before .before .do-act .result .answer) (sym (c .before .before .judge .ensures) ∙ c .enum-told4 .given .1)))) (refl),
+          (steps-by s _ _ _ _ _ _ _ _ _ _ _ (sym (c .before .before .before .before .before .before .before .before .before .before .before .before .before .before .before .before .before .before .before .before .before .before .before .before .before .before .before .before .before .before .before .ask .ensures) ∙ c .before .before .before .before .before .before .before .before .before .before .before .before .before .before .before .before .before .before .before .before .before .before .before .before .before .before .before .before .before .asked .given .1) (stepping-stops _ _ _ _ _ _ (k .left) _ _ _ _ (k .inv .0) (c .before .before .before .before .before .before .before .before .before .before .before .before .before .before .before .before .before .before .before .before .before .before .before .loop-test .taken) next (c .before .before .before .before .before .before .before .before .before .before .before .before .do-act .result .answer) _ _ by (k .inv .0 .live) _ _ (c .before .before .before .before .before .show3 .ensures) (judged-stopped (c .before .before .before .before .before .before .before .before .before .before .before .before .do-act .result .answer) (sym (c .before .before .judge .ensures) ∙ c .enum-told5 .given .1)))) (refl),
       c .before .before .before .before .before .before .before .before .before .before .before .before .do-act .kept .1 .1 .1 .1 .0 ∙ k .inv .2 ∙ l .inv .1,
       c .before .before .before .before .before .before .before .before .before .before .before .before .do-act .kept .1 .1 .1 .1 .1 .0 ∙ k .inv .3 ∙ l .inv .2,
       c .before .before .before .before .before .show3 .kept .1 .0 ∙ k .inv .4 ∙ l .inv .3,
@@ -337,10 +342,10 @@ loop-again c =
     let k = c .before .before .before .before .before .before .before .before .before .before .before .before .before .before .before .before .before .before .before .before .before .before .before .before .loop in
     let t = sessionOf (l .live) (l .words) (k .bench) in
     let e = c .before .before .before .before .before .before .before .before .before .before .before .before .before .before .before .before .before .before .before .before .before .before .before .before .before .span .ensures ∙ ap (min (l .words)) (sym (k .inv .2)) in
-    let look = subst (TurnOf (worldOf t (k .store) (k .log)) (c .before .before .before .before .before .before .before .before .before .before .before .before .before .before .before .before .before .before .before .before .before .before .before .before .before .before .before .before .before .asked .given .0 .0)) (c .before .before .before .before .before .before .before .before .before .before .before .before .before .before .before .before .before .turn2 .given .1) (turn-front (k .bench) (l .words) _ (k .store) (k .log) (c .before .before .before .before .before .before .before .before .before .before .before .before .before .before .before .before .before .before .before .before .before .before .before .before .before .before .before .before .before .asked .given .0 .0) (c .before .before .before .before .before .before .before .before .before .before .before .before .before .before .before .before .before .before .before .look .result) e (c .before .before .before .before .before .before .before .before .before .before .before .before .before .before .before .before .before .before .before .look .ensures)) in
+    let look = subst (TurnOf (worldOf t (k .store) (k .log)) (c .before .before .before .before .before .before .before .before .before .before .before .before .before .before .before .before .before .before .before .before .before .before .before .before .before .before .before .before .before .asked .given .0 .0)) (c .before .before .before .before .before .before .before .before .before .before .before .before .before .before .before .before .before .turn .given .1) (turn-front (k .bench) (l .words) _ (k .store) (k .log) (c .before .before .before .before .before .before .before .before .before .before .before .before .before .before .before .before .before .before .before .before .before .before .before .before .before .before .before .before .before .asked .given .0 .0) (c .before .before .before .before .before .before .before .before .before .before .before .before .before .before .before .before .before .before .before .look .result) e (c .before .before .before .before .before .before .before .before .before .before .before .before .before .before .before .before .before .before .before .look .ensures)) in
     let next = sessionOf (l .live) (l .words) (c .before .before .before .before .before .before .before .before .before .before .before .before .do-act .result .bench) in
     let by = c .before .before .before .before .before .before .before .before .before .before .before .before .do-act .ensures ∙ sym (look .3) in (
-      stepping-on _ _ _ _ _ _ (k .left) _ _ _ _ (k .inv .0) (c .before .before .before .before .before .before .before .before .before .before .before .before .before .before .before .before .before .before .before .before .before .before .before .loop-test .taken) next (c .before .before .before .before .before .before .before .before .before .before .before .before .do-act .result .answer) _ _ by (k .inv .0 .live) _ _ (c .before .before .before .before .before .show3 .ensures) (judged-made (c .before .before .before .before .before .before .before .before .before .before .before .before .do-act .result .answer) (sym (c .before .before .judge .ensures) ∙ c .enum-told3 .given .1)),
+      stepping-on _ _ _ _ _ _ (k .left) _ _ _ _ (k .inv .0) (c .before .before .before .before .before .before .before .before .before .before .before .before .before .before .before .before .before .before .before .before .before .before .before .loop-test .taken) next (c .before .before .before .before .before .before .before .before .before .before .before .before .do-act .result .answer) _ _ by (k .inv .0 .live) _ _ (c .before .before .before .before .before .show3 .ensures) (judged-made (c .before .before .before .before .before .before .before .before .before .before .before .before .do-act .result .answer) (sym (c .before .before .judge .ensures) ∙ c .enum-told4 .given .1)),
       reached-step (worldOf t (k .store) (k .log)) _ _ _ by (k .inv .1),
       c .before .before .before .before .before .before .before .before .before .before .before .before .do-act .kept .1 .1 .1 .1 .0 ∙ k .inv .2,
       c .before .before .before .before .before .before .before .before .before .before .before .before .do-act .kept .1 .1 .1 .1 .1 .0 ∙ k .inv .3,
@@ -350,8 +355,8 @@ loop-again c =
 count-restart-requires : tie.Need-count-restart-requires Inv-loop μ-loop Inv-lines μ-lines
 count-restart-requires c κs = search needs
 
-mul-t81 : tie.Need-mul-t81 Inv-loop μ-loop Inv-lines μ-lines
-mul-t81 c = search needs
+mul-t58 : tie.Need-mul-t58 Inv-loop μ-loop Inv-lines μ-lines
+mul-t58 c = search needs
 
 element-set-from-bench : tie.Need-element-set-from-bench Inv-loop μ-loop Inv-lines μ-lines
 element-set-from-bench c = search needs
@@ -370,7 +375,7 @@ loop-again-2 c =
     let k = c .before .before .before .before .before .before .before .before .before .before .before .before .loop in
     let t = sessionOf (l .live) (l .words) (k .bench) in
     let e = c .before .before .before .before .before .before .before .before .before .before .before .before .before .span .ensures ∙ ap (min (l .words)) (sym (k .inv .2)) in
-    let look = subst (TurnOf (worldOf t (k .store) (k .log)) (c .before .before .before .before .before .before .before .before .before .before .before .before .before .before .before .before .before .asked .given .0 .0)) (c .before .before .before .before .before .turn2 .given .1) (turn-front (k .bench) (l .words) _ (k .store) (k .log) (c .before .before .before .before .before .before .before .before .before .before .before .before .before .before .before .before .before .asked .given .0 .0) (c .before .before .before .before .before .before .before .look .result) e (c .before .before .before .before .before .before .before .look .ensures)) in
+    let look = subst (TurnOf (worldOf t (k .store) (k .log)) (c .before .before .before .before .before .before .before .before .before .before .before .before .before .before .before .before .before .asked .given .0 .0)) (c .before .before .before .before .before .turn .given .1) (turn-front (k .bench) (l .words) _ (k .store) (k .log) (c .before .before .before .before .before .before .before .before .before .before .before .before .before .before .before .before .before .asked .given .0 .0) (c .before .before .before .before .before .before .before .look .result) e (c .before .before .before .before .before .before .before .look .ensures)) in
     let by = goes-by (k .bench) _ _ _ _ (take (l .words) (k .store)) (k .log) (c .before .before .before .before .before .before .before .before .before .before .before .before .before .before .before .place-of .ensures .1 (look .0)) (c .count-restart .ensures) (look .3 ∙ ap (λ (a : Act). commit (worldOf t (k .store) (k .log)) (c .before .before .before .before .before .before .before .before .before .before .before .before .before .before .before .before .before .asked .given .0 .0) (enact (k .bench .queue) (take (l .words) (k .store)) a)) (c .before .before .act .given .1)) in (
       stepping-on _ _ _ _ _ _ (k .left) _ _ _ _ (k .inv .0) (c .before .before .before .before .before .before .before .before .before .before .before .loop-test .taken) _ GoesOn (k .store) (k .log) by (k .inv .0 .live) _ _ (shows-none (k .out) (k .wrote)) refl,
       reached-step (worldOf t (k .store) (k .log)) _ _ _ by (k .inv .1),
@@ -453,23 +458,24 @@ feed-spec =
     slice-aggregate-look
     look-requires
     enum-known-turn
+    enum-told-3
+    refusal-of-requires
     show-requires-2
     lines-less-4
     lines-again-4
-    enum-known-turn-2
     enum-known-act
     do-act-requires
     show-requires-3
     judge-requires
-    enum-told-3
     enum-told-4
+    enum-told-5
     lines-less-5
     lines-again-5
     sub-left
     loop-less
     loop-again
     count-restart-requires
-    mul-t81
+    mul-t58
     element-set-from-bench
     sub-left-2
     loop-less-2
