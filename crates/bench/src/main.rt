@@ -1,5 +1,6 @@
 // The bench program: reads lines from standard input and writes their listing to standard output. What it shows is proved in the
 // crate `listing`, on slices; here it is read in chunks and written before the next read.
+// Uses `listing`, `queues` and `model`, of the kit `io`, `libc` and `os`. It is a program, and no crate uses it.
 ghost use mathlib.Core.Path.{_≡_};
 ghost use mathlib.Core.Bool.{true};
 ghost use Prim.Native.Nat.{_≤_, _<_};

@@ -1,6 +1,7 @@
 // Plays through the public calls what document 01 names and does not prove by itself: each refusal that
 // a library call gives, their order, the last words of the log, and a foreign state for each limit. One
 // line for each call: what was tried, and what the bench answered.
+// Uses `queues` and `model`, of the kit `io` and `libc`. It is a program, and no crate uses it.
 ghost use mathlib.Core.Path.{_≡_};
 ghost use Prim.Native.Nat.{_<_};
 ghost use Rattle.model.specs.Answers.{numberOf};

@@ -1,6 +1,7 @@
 // What differs from figure to figure, a function for each question that a line asks: which slot, which index, is it full,
 // is it empty, which anchor is left. `anchor` is the anchor now, `read` the anchor as a worker read it at line 1. Below them
 // stands the one place where an index becomes a word of the store.
+// Uses `model`. It is used by `lines`.
 ghost use mathlib.Core.Path.{_≡_};
 ghost use Prim.Native.Nat.{_+_, _-_, _*_, _≤_, _<_, _^_, _%_};
 ghost use lib.ListN.{length};

@@ -1,6 +1,7 @@
 // The state limits of refusal 12, as code of early returns: `valid` is true of exactly the states that
 // the definitions take for no foreign ones. A foreign state holds any 32-bit values, so each limit is
 // tested before a later test counts on it, and a sum of two free values is worked out in 64 bits.
+// Uses `model`. It is used by `state`, `machine` and `queues`.
 ghost use mathlib.Core.Path.{_≡_};
 ghost use Prim.Native.Nat.{_+_, _-_, _*_, _/_, _^_, _≤_, _<_};
 ghost use lib.Dec.{eqb, ltb, leb};

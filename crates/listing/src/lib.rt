@@ -1,4 +1,5 @@
 // The bench program between reading and writing: lines of input played one after the other, and what they print.
+// Uses `model`, `theorems`, `lines`, `state`, `machine`, `text`, `counts` and `queues`. It is used by `bench`.
 ghost use mathlib.Core.Path.{_≡_};
 ghost use mathlib.Core.Bool.{true, false};
 ghost use mathlib.Core.List.{List, [], _∷_};

@@ -1,5 +1,6 @@
 // The bench's types: what document 01 names, by value. No code is here: `specs/` says what each
 // call does to them, and every crate above (theorems, code) speaks of these same types.
+// Uses no other crate. Every other crate uses it.
 
 // Figures 1, 2 and 3. The double-ended queue is the field's deque.
 pub enum Kind {

@@ -1,6 +1,7 @@
 // For timing: plays steps through the library's public calls, a thousand for each byte of standard input, and prints how many
 // went on. Each run of five is a steal attempt's lines 1 to 4b, from one and the same bench: a bench is a value, so the attempt
 // can be played again from its start, and the log never fills.
+// Uses `queues` and `model`, of the kit `io` and `libc`. It is a program, and no crate uses it.
 use libc::STDIN_FILENO;
 use libc::STDOUT_FILENO;
 use model::Answer;

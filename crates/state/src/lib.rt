@@ -1,5 +1,6 @@
 // The pieces of a bench that the calls put together: a state made anew or with one worker's record replaced, a log entry,
 // a zeroed range, the log's front, and the tests of fresh and begin. Each is a definition's short name, as code.
+// Uses `model` and `limits`. It is used by `machine`, `queues` and `listing`.
 ghost use mathlib.Core.Path.{_≡_};
 ghost use Prim.Native.Nat.{_+_, _≤_, _<_};
 ghost use lib.Dec.{ltb, leb};
