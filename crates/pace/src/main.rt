@@ -36,21 +36,39 @@ fn put(bench: Bench, store: &mut [u32], log: &mut [u32]) -> Bench {
     current
 }
 
-// A thousand steps of thief 1; how many went on.
+// A step's answer, counted.
+fn count(made: u64, answer: Answer) -> u64 {
+    let one = went_on(answer);
+    std::num::wrapping_add_u64(made, one)
+}
+
+// The attempt from line 3 on.
+fn lines_from_3(made: u64, bench: Bench, store: &mut [u32], log: &mut [u32]) -> u64 {
+    let third = bench.step(1, store, log);
+    let fourth = third.bench.step(1, store, log);
+    let fifth = fourth.bench.step(1, store, log);
+    let at_3 = third.answer;
+    let at_4a = fourth.answer;
+    let at_4b = fifth.answer;
+    count(count(count(made, at_3), at_4a), at_4b)
+}
+
+// Thief 1's lines 1 to 4b, each step on the bench that the one before handed back; how many went on, added to `made`.
+fn attempt(made: u64, start: Bench, store: &mut [u32], log: &mut [u32]) -> u64 {
+    let first = start.step(1, store, log);
+    let second = first.bench.step(1, store, log);
+    let at_1 = first.answer;
+    let at_2 = second.answer;
+    lines_from_3(count(count(made, at_1), at_2), second.bench, store, log)
+}
+
+// A thousand steps.
 fn thousand(start: Bench, store: &mut [u32], log: &mut [u32]) -> u64 {
     let mut made: u64 = 0;
-    let mut current = start;
-    let mut step: u32 = 0;
-    while step < 1000 {
-        if step % 5 == 0 {
-            current = start;
-        }
-        let r = current.step(1, store, log);
-        current = r.bench;
-        let answer = r.answer;
-        let one = went_on(answer);
-        made = std::num::wrapping_add_u64(made, one);
-        step += 1;
+    let mut attempts: u32 = 0;
+    while attempts < 200 {
+        made = attempt(made, start, store, log);
+        attempts += 1;
     }
     made
 }

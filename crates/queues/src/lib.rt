@@ -80,7 +80,7 @@ impl Bench {
         let line = own.line;
         let turn = machine::look(next, worker, line, store, log);
         match turn {
-            Turn::Refused { why } => refused(self, why),
+            Turn::Refused { why } => return refused(self, why),
             Turn::Acts { act } => {
                 let Act::Goes { line: to } = act else {
                     let done = machine::apply(next, worker, act, store, log);
@@ -94,10 +94,10 @@ impl Bench {
                 // The commonest step changes the worker's record alone: it is replaced in place.
                 next.restarts = state::count_restart(next.restarts, to);
                 next.workers[i] = Worker { line: to };
-                Reply {
+                return Reply {
                     bench: Bench { state: next },
                     answer: Answer::GoesOn,
-                }
+                };
             }
         }
     }

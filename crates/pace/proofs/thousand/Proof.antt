@@ -7,25 +7,19 @@ use Rattle.pace.proofs.thousand.Statement.{statement}
 use Rattle.pace.proofs.thousand.Tie as tie
 
 abbrev Inv-loop : tie.InvT-loop
-Inv-loop start store₀ log₀ made₀ current₀ step₀ store log made current step = (length store ≡ length store₀) × (length log ≡ length log₀)
+Inv-loop start store₀ log₀ made₀ attempts₀ store log made attempts = (length store ≡ length store₀) × (length log ≡ length log₀)
 
 abbrev μ-loop : tie.MeasureT-loop
-μ-loop start store₀ log₀ made₀ current₀ step₀ store log made current step = 1000 - step
+μ-loop start store₀ log₀ made₀ attempts₀ store log made attempts = 200 - attempts
 
 loop-holds : tie.Need-loop-holds Inv-loop μ-loop
 loop-holds c = (refl, refl)
 
-step-requires : tie.Need-step-requires Inv-loop μ-loop
-step-requires c κs = search needs
+attempt-requires : tie.Need-attempt-requires Inv-loop μ-loop
+attempt-requires c κs = search needs
 
-went-on-requires : tie.Need-went-on-requires Inv-loop μ-loop
-went-on-requires c κs = search needs
-
-wrapping-add-u64-requires : tie.Need-wrapping-add-u64-requires Inv-loop μ-loop
-wrapping-add-u64-requires c κs = search needs
-
-add-step : tie.Need-add-step Inv-loop μ-loop
-add-step c = omega arith
+add-attempts : tie.Need-add-attempts Inv-loop μ-loop
+add-attempts c = omega arith
 
 loop-less : tie.Need-loop-less Inv-loop μ-loop
 loop-less c = omega arith
@@ -49,10 +43,8 @@ thousand-spec =
     Inv-loop
     μ-loop
     loop-holds
-    step-requires
-    went-on-requires
-    wrapping-add-u64-requires
-    add-step
+    attempt-requires
+    add-attempts
     loop-less
     loop-again
     same-length
