@@ -18,10 +18,6 @@ use Rattle.model.specs.Calls.{lent}
 use Rattle.model.specs.Counts.{someBelow, standsAt}
 use Rattle.counts.specs.Places.{windowTask, stands}
 
--- an array's length, told of its mapped elements
-pub mapped-length : {A B : Type 0} (f : A → B) (l : List A) (n : ℕ) → length (map f l) ≡ n → length l ≡ n
-mapped-length f l n e = sym (length-map l f) ∙ e
-
 -- an index of the window needs 33 bits
 pub index-le : (κ : Kind) (a : Anchor) (i : ℕ) → windowIndex κ a i ≤ a .head + i
 index-le Lifo a i = omega arith

@@ -41,7 +41,7 @@ use Rattle.model.specs.Tests.{if_then_else_, _and_, _or_}
 use Rattle.model.specs.World.{lineAt, stage}
 use Rattle.model.specs.Limits.{lineOk, ownerOk, thievesOk}
 use Rattle.limits.specs.Parts.{memberOk, workersOk}
-use Rattle.limits.proofs.Chains.{holds, if-false, and-true, and-assoc}
+use Rattle.model.proofs.Tests.{holds, if-false, and-true, and-assoc}
 use Rattle.limits.proofs.Scan.{fails-by}
 
 -- only an idle worker's stage is 0

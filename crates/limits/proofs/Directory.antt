@@ -14,7 +14,7 @@ use Rattle.model.specs.Tests.{if_then_else_}
 use Rattle.model.specs.Memory.{nowhere, offsetAt, sizeAt}
 use Rattle.model.specs.Limits.{tidy, directoryOk}
 use Rattle.limits.specs.Parts.{startsOk, followsOk}
-use Rattle.limits.proofs.Chains.{holds, first, rest}
+use Rattle.model.proofs.Tests.{holds, and-left, and-right}
 use Rattle.limits.proofs.Scan.{fails-by}
 
 -- every published array is claimed
@@ -25,9 +25,9 @@ reaches false c p e = let h : c ≡ p = eqb-true _ _ e in omega arith
 
 pub published-in : (q : Queue) (m : List ℕ) (o : Line) → directoryOk q m o ≡ true → (0 < q .published) × (q .published ≤ 11)
 published-in q m o e =
-    let some : 0 < q .published = ltb-true _ _ (first _ _ e) in
-    let few : q .claimed ≤ 11 = leb-true _ _ (first _ _ (rest _ _ e)) in
-    let all : q .published ≤ q .claimed = reaches _ _ _ (first _ _ (rest _ _ (rest _ _ e))) in
+    let some : 0 < q .published = ltb-true _ _ (and-left _ _ e) in
+    let few : q .claimed ≤ 11 = leb-true _ _ (and-left _ _ (and-right _ _ e)) in
+    let all : q .published ≤ q .claimed = reaches _ _ _ (and-left _ _ (and-right _ _ (and-right _ _ e))) in
     (some, omega arith)
 
 module _ (l : List Region) where

@@ -1,4 +1,3 @@
-pub mod Chains
 pub mod Sizes
 pub mod Scan
 pub mod Directory

@@ -4,7 +4,7 @@ use mathlib.Core.Path.{_≡_, _∙_, subst}
 use Prim.Native.Nat.{ℕ, zero, suc, _+_, _-_, _≤_}
 use native.Mathlib.Omega.{arith}
 use Rattle.model.specs.Tests.{_and_}
-use Rattle.limits.proofs.Chains.{fails}
+use Rattle.model.proofs.Tests.{fails}
 
 module _ (f g : ℕ → Bool) (turn : (k : ℕ) → f (suc k) ≡ (f k and g k)) where
   fails-later : (n k : ℕ) → f k ≡ false → f (n + k) ≡ false

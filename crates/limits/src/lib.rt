@@ -17,8 +17,9 @@ ghost use Rattle.model.specs.Limits.{
   tidy,
   taken,
   directoryOk,
-  anchorOk,
   readOk,
+  nearOk,
+  anchorOk,
   headOk,
   roomOk,
   someOk,
@@ -260,19 +261,26 @@ fn read_ok(kind: Kind, width: u32, tasks: u32, read: Anchor) -> bool
     }
 }
 
-// The anchor now. FIFO's tail is at most the size ahead of its head.
+// FIFO's tail is at most the size ahead of its head.
+fn near_ok(kind: Kind, tasks: u32, anchor: Anchor) -> bool
+    ensures { λ r. ⌜ r ≡ nearOk kind tasks anchor ⌝ }
+{
+    match kind {
+        Kind::Lifo => true,
+        Kind::Fifo => anchor.count as u64 <= anchor.head as u64 + tasks as u64,
+        Kind::Deque => true,
+    }
+}
+
+// The anchor now.
 fn anchor_ok(kind: Kind, width: u32, tasks: u32, anchor: Anchor) -> bool
     requires { ⌜ width ≤ 16 ⌝ }
     ensures { λ r. ⌜ r ≡ anchorOk kind width tasks anchor ⌝ }
 {
-    let head = anchor.head;
-    let count = anchor.count;
-    let tag = anchor.tag;
-    match kind {
-        Kind::Lifo => read_ok(kind, width, tasks, anchor),
-        Kind::Fifo => head <= count && (count - head <= tasks && (count <= 65535 && tag == 0)),
-        Kind::Deque => read_ok(kind, width, tasks, anchor),
-    }
+    both(
+        read_ok(kind, width, tasks, anchor),
+        near_ok(kind, tasks, anchor),
+    )
 }
 
 fn head_ok(kind: Kind, head: u32) -> bool

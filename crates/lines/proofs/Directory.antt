@@ -17,7 +17,7 @@ use Rattle.model.specs.Tests.{if_then_else_}
 use Rattle.model.specs.Memory.{offsetAt, sizeAt}
 use Rattle.model.specs.World.{isExpanding}
 use Rattle.model.specs.Limits.{isSize, lengthAt, tidy, taken, directoryOk}
-use Rattle.lines.proofs.Tests.{and-left, and-right, or-cases}
+use Rattle.model.proofs.Tests.{and-left, and-right, or-cases}
 
 -- the array at place k, in a directory whose last pair is at place m
 pub record Laid (l : List Region) (m k : ℕ) : Type 0 where

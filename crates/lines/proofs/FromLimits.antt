@@ -69,7 +69,7 @@ use Rattle.model.specs.Limits.{
 }
 use Rattle.figures.specs.Bounds.{Some, Ordered, Inside}
 use Rattle.lines.specs.Act.{Ground, Ready, Range, Lies, Free}
-use Rattle.lines.proofs.Tests.{and-left, and-right, if-true}
+use Rattle.model.proofs.Tests.{and-left, and-right, if-true}
 use Rattle.lines.proofs.Directory.{Laid, Arrays, arrays-of}
 
 -- the limits' parts that bound a line
@@ -112,10 +112,7 @@ within Deque w z r e = (ltb-true _ _ (and-left _ _ e), leb-true _ _ (and-left _ 
 
 -- the anchor now is one that could be read
 now-read : (κ : Kind) (w z : ℕ) (a : Anchor) → anchorOk κ w z a ≡ true → Within κ z a
-now-read Lifo w z a e = within Lifo w z a e
-now-read Fifo w z a e =
-    let e2 = and-right _ _ (and-right _ _ e) in (leb-true _ _ (and-left _ _ e), leb-true _ _ (and-left _ _ e2))
-now-read Deque w z a e = within Deque w z a e
+now-read κ w z a e = within κ w z a (and-left _ _ e)
 
 in-range : (κ : Kind) (z : ℕ) (r : Anchor) → z ≤ 1024 → Within κ z r → Range r
 in-range Lifo z r b e = omega (arith, b, e)
@@ -214,7 +211,7 @@ module _ (κ : Kind) (w : ℕ) (q : Queue) (n : ℕ) (o : Line) (A : Arrays q n 
   copy-ready : (h j k : ℕ) → isExpanding o ≡ true → notedOk κ h j ≡ true → j ≤ size q → k < j
       → (h ≤ 65535) × (k ≤ 1024) × Lies κ q n (q .published - 1) (h + k) × Lies κ q n (q .published) (h + k)
   copy-ready h j k x e f g =
-      let two : q .claimed ≡ q .published + 1 = A .told ∙ if-true (isExpanding o) _ _ x in
+      let two : q .claimed ≡ q .published + 1 = A .told ∙ if-true _ x in
       let last : q .published < q .claimed = omega (arith, two) in
       let now : q .published - 1 < q .claimed = omega (arith, A .some, two) in
       let one : q .claimed - 1 ≡ q .published = omega (arith, two) in
@@ -279,7 +276,7 @@ thief-of κ w q n l (suc k) i t h c =
         → thiefOk κ w q (lineAt l (suc i)) ≡ true
     go (inl e) f =
         subst (λ (x : ℕ). thiefOk κ w q (lineAt l x) ≡ true) (sym e)
-        (sym (if-true (ltb (suc k) n) _ _ (lt-ltb (suc k) n (omega (arith, e, c)))) ∙ and-right _ _ t)
+        (sym (if-true _ (lt-ltb (suc k) n (omega (arith, e, c)))) ∙ and-right _ _ t)
     go (inr j) f = f (omega (arith, j))
 
 -- the anchor now, and the directory, of a valid state

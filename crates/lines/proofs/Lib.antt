@@ -1,4 +1,3 @@
-pub mod Tests
 pub mod Room
 pub mod Directory
 pub mod FromLimits

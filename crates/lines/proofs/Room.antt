@@ -9,7 +9,7 @@ use borrow.Author.Tests.{leb-true}
 use Rattle.model.specs.declared.Queue.{Queue}
 use Rattle.model.specs.Lines.{off, size, fits}
 use Rattle.lines.specs.Act.{Free}
-use Rattle.lines.proofs.Tests.{and-left, and-right}
+use Rattle.model.proofs.Tests.{and-left, and-right}
 
 pub in-room : (q : Queue) (m : List ℕ) {z a : ℕ}
     → Free q → fits q m ≡ true → z ≡ size q → a ≡ off q + 2 * size q

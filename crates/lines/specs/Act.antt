@@ -39,8 +39,10 @@ use Rattle.model.specs.Memory.{zeros}
 use Rattle.model.specs.Figures.{putIndex, takeIndex, stealIndex}
 use Rattle.model.specs.Lines.{Effect, eff, off, size, anchored, publishing}
 use Rattle.figures.specs.Bounds.{Some, Ordered, Slotted, Inside}
+use Rattle.lines.specs.declared.Change.{Change}
+use Rattle.lines.specs.declared.Change.the-variants.{Word, Copies, Claims, Publishes}
 use Rattle.lines.specs.declared.Act.{Act}
-use Rattle.lines.specs.declared.Act.the-variants.{Goes, Word, Copies, Claims, Publishes, Stops, Ends}
+use Rattle.lines.specs.declared.Act.the-variants.{Goes, Changes, Stops, Ends}
 
 -- the queue with a pair claimed behind the published ones
 abbrev pub withArray : Queue → ℕ → ℕ → Queue
@@ -52,23 +54,38 @@ withArray q a z =
       claimed = q .published + 1;
     }
 
+-- what a change leaves of the queue
+unfoldable pub changedQueue : Queue → Change → Queue
+changedQueue q (Word a x) = q
+changedQueue q (Copies a t) = q
+changedQueue q (Claims a z) = withArray q a z
+changedQueue q Publishes = publishing q
+
+-- and of the store
+unfoldable pub changedStore : List ℕ → Change → List ℕ
+changedStore m (Word a x) = set m a x
+changedStore m (Copies a t) = set (set m a (t .number)) (a + 1) (t .payload)
+changedStore m (Claims a z) = zeros m a z
+changedStore m Publishes = m
+
+-- what it writes lies in a store of n words, and a claimed pair in the directory
+unfoldable pub Fits : Queue → ℕ → Change → Type 0
+Fits q n (Word a x) = a < n
+Fits q n (Copies a t) = a + 1 < n
+Fits q n (Claims a z) = (a + z ≤ n) × (q .published < 11)
+Fits q n Publishes = Unit {0}
+
 -- the act on the queue q and the store m
 unfoldable pub enact : Queue → List ℕ → Act → Effect
 enact q m (Goes l) = eff q m l GoesOn
-enact q m (Word a x l) = eff q (set m a x) l GoesOn
-enact q m (Copies a t l) = eff q (set (set m a (t .number)) (a + 1) (t .payload)) l GoesOn
-enact q m (Claims a z l) = eff (withArray q a z) (zeros m a z) l GoesOn
-enact q m (Publishes l) = eff (publishing q) m l GoesOn
+enact q m (Changes c l) = eff (changedQueue q c) (changedStore m c) l GoesOn
 enact q m (Stops x) = eff q m Idle x
 enact q m (Ends a x) = eff (anchored q a) m Idle x
 
--- what it writes lies in a store of n words, and a claimed pair in the directory
+-- it can be done on the queue q and a store of n words
 unfoldable pub InStore : Queue → ℕ → Act → Type 0
 InStore q n (Goes l) = Unit {0}
-InStore q n (Word a x l) = a < n
-InStore q n (Copies a t l) = a + 1 < n
-InStore q n (Claims a z l) = (a + z ≤ n) × (q .published < 11)
-InStore q n (Publishes l) = Unit {0}
+InStore q n (Changes c l) = Fits q n c
 InStore q n (Stops x) = Unit {0}
 InStore q n (Ends a x) = Unit {0}
 

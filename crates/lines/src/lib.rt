@@ -16,37 +16,22 @@ use model::Line;
 use model::Queue;
 use model::Task;
 
-// What a line does: it goes on, with a write of nothing, of a word or of a task from word `place` on; it claims and zeroes a
-// range, or publishes it; it ends, the anchor as it is or another one.
+// What a line changes and then goes on: a word of the store, or a task's two from word `place` on; a range that it claims and
+// zeroes; or the claimed array, which it publishes.
+pub enum Change {
+    Word { place: usize, value: u32 },
+    Copies { place: usize, task: Task },
+    Claims { offset: u32, length: u32 },
+    Publishes,
+}
+
+// What a line does: it goes on at `line`, after a change or none; or it ends, with the anchor as it is or another one. `line`
+// stands in as few cases as can be: the prover writes out a type wherever a value of it is in reach.
 pub enum Act {
-    Goes {
-        line: Line,
-    },
-    Word {
-        place: usize,
-        value: u32,
-        line: Line,
-    },
-    Copies {
-        place: usize,
-        task: Task,
-        line: Line,
-    },
-    Claims {
-        offset: u32,
-        length: u32,
-        line: Line,
-    },
-    Publishes {
-        line: Line,
-    },
-    Stops {
-        answer: Answer,
-    },
-    Ends {
-        anchor: Anchor,
-        answer: Answer,
-    },
+    Goes { line: Line },
+    Changes { change: Change, line: Line },
+    Stops { answer: Answer },
+    Ends { anchor: Anchor, answer: Answer },
 }
 
 // The test for EMPTY; the line `next` follows it.
@@ -100,9 +85,12 @@ fn claim(queue: Queue, size: u32, store: &[u32], worker: u32, task: Task) -> Act
         let here = queue.published - 1;
         let from = figures::end_of(queue, here as usize);
         let words = 2 * (2 * size);
-        Act::Claims {
+        let change = Change::Claims {
             offset: from,
             length: words,
+        };
+        Act::Changes {
+            change,
             line: Line::Note { task },
         }
     } else {
@@ -145,18 +133,24 @@ pub fn decide(kind: Kind, width: u32, queue: Queue, store: &[u32], worker: u32, 
         // put 3a; 4a
         Line::PutNumber { task, read } => {
             let place = figures::put_place(kind, queue, at, read, 0);
-            Act::Word {
+            let change = Change::Word {
                 place,
                 value: task.number,
+            };
+            Act::Changes {
+                change,
                 line: Line::PutPayload { task, read },
             }
         }
         // put 3b; 4b
         Line::PutPayload { task, read } => {
             let place = figures::put_place(kind, queue, at, read, 1);
-            Act::Word {
+            let change = Change::Word {
                 place,
                 value: task.payload,
+            };
+            Act::Changes {
+                change,
                 line: Line::PutFinish { task, read },
             }
         }
@@ -192,14 +186,15 @@ pub fn decide(kind: Kind, width: u32, queue: Queue, store: &[u32], worker: u32, 
             let claimed = queue.published as usize;
             let place = figures::place(kind, queue, claimed, index, 0);
             let next = figures::copy_on(task, head, noted, copied);
-            Act::Copies {
+            let change = Change::Copies {
                 place,
                 task: Task { number, payload },
-                line: next,
-            }
+            };
+            Act::Changes { change, line: next }
         }
         // X4
-        Line::Publish { task } => Act::Publishes {
+        Line::Publish { task } => Act::Changes {
+            change: Change::Publishes,
             line: Line::PutRead { task },
         },
         // take 1; 1

@@ -1,4 +1,4 @@
--- An act, by its case: what it writes is in range, and what committing it comes to.
+-- A change, by its case: what it writes is in range. An act: what committing it comes to.
 use mathlib.Core.List.{List}
 use mathlib.Core.Path.{_≡_, refl, sym, ap, _∙_, subst}
 use Prim.Native.Nat.{ℕ, _+_, _≤_, _<_}
@@ -11,29 +11,36 @@ use Rattle.model.specs.declared.Answer.the-variants.{GoesOn}
 use Rattle.model.specs.Lines.{Effect, eff}
 use Rattle.model.specs.Calls.{lent, commit}
 use Rattle.lines.specs.declared.Act.{Act}
-use Rattle.lines.specs.declared.Act.the-variants.{Word, Copies, Claims}
-use Rattle.lines.specs.Act.{enact, InStore}
+use Rattle.lines.specs.declared.Act.the-variants.{Changes}
+use Rattle.lines.specs.declared.Change.{Change}
+use Rattle.lines.specs.declared.Change.the-variants.{Word, Copies, Claims}
+use Rattle.lines.specs.Act.{Fits, enact, InStore}
 use Rattle.machine.specs.declared.Reply.{Reply}
 use Rattle.machine.specs.Left.{left}
 use Rattle.state.specs.Pieces.{moved}
 use Rattle.machine.proofs.Replies.{same-left}
 use Rattle.machine.proofs.Commits.{goes-on}
 
-module _ (q : Queue) (n : ℕ) (act : Act) (h : InStore q n act) where
-  told : {y : Act} → act ≡ y → InStore q n y
-  told e = subst (λ (y : Act). InStore q n y) e h
+module _ (q : Queue) (n : ℕ) (change : Change) (h : Fits q n change) where
+  told : {y : Change} → change ≡ y → Fits q n y
+  told e = subst (λ (y : Change). Fits q n y) e h
 
-  pub word-in : {a x : ℕ} {l : Line} → act ≡ Word a x l → a < n
-  unfolding InStore
+  pub word-in : {a x : ℕ} → change ≡ Word a x → a < n
+  unfolding Fits
   word-in e = told e
 
-  pub copies-in : {a : ℕ} {t : Task} {l : Line} → act ≡ Copies a t l → a + 1 < n
-  unfolding InStore
+  pub copies-in : {a : ℕ} {t : Task} → change ≡ Copies a t → a + 1 < n
+  unfolding Fits
   copies-in e = told e
 
-  pub claims-in : {a z : ℕ} {l : Line} → act ≡ Claims a z l → (a + z ≤ n) × (q .published < 11)
-  unfolding InStore
+  pub claims-in : {a z : ℕ} → change ≡ Claims a z → (a + z ≤ n) × (q .published < 11)
+  unfolding Fits
   claims-in e = told e
+
+-- a change can be made where its act can be done
+pub change-in : (q : Queue) (n : ℕ) (act : Act) {c : Change} {l : Line} → InStore q n act → act ≡ Changes c l → Fits q n c
+unfolding InStore
+change-in q n act h e = subst (λ (y : Act). InStore q n y) e h
 
 pub same-effect : {q q2 : Queue} {m m2 : List ℕ} {x : Line} {a : Answer} → q ≡ q2 → m ≡ m2
     → _≡_ {A = Effect} (eff q m x a) (eff q2 m2 x a)

@@ -6,7 +6,7 @@ use lib.ListN.{length}
 use borrow.Author.Tests.{leb-true}
 use Rattle.model.specs.World.{World}
 use Rattle.model.specs.Limits.{validOf}
-use Rattle.limits.proofs.Chains.{first, rest}
+use Rattle.model.proofs.Tests.{and-left, and-right}
 
 pub record Bounds (W : World) : Type 0 where
   pub crew : W .bench .crew ≤ 8
@@ -16,11 +16,11 @@ pub record Bounds (W : World) : Type 0 where
 pub bounds-of : (W : World) → validOf W ≡ true → Bounds W
 unfolding validOf
 bounds-of W v =
-    let crew = rest _ _ v in
-    let log = rest _ _ (rest _ _ crew) in
-    let used = rest _ _ (rest _ _ log) in
+    let crew = and-right _ _ v in
+    let log = and-right _ _ (and-right _ _ crew) in
+    let used = and-right _ _ (and-right _ _ log) in
     record {
-      crew = leb-true _ _ (rest _ _ (first _ _ crew));
-      written = leb-true _ _ (first _ _ log);
-      used = leb-true _ _ (first _ _ used);
+      crew = leb-true _ _ (and-right _ _ (and-left _ _ crew));
+      written = leb-true _ _ (and-left _ _ log);
+      used = leb-true _ _ (and-left _ _ used);
     }

@@ -29,11 +29,12 @@ ghost use Rattle.model.specs.Calls.{
   commit,
   stepOf,
 };
-ghost use Rattle.lines.specs.Act.{withArray, enact, InStore};
+ghost use Rattle.lines.specs.Act.{withArray, changedQueue, changedStore, Fits, enact, InStore};
 ghost use Rattle.state.specs.Pieces.{moved};
 ghost use Rattle.machine.specs.Left.{left};
 ghost use Rattle.machine.specs.Turns.{BeginStops, TurnOf};
 use lines::Act;
+use lines::Change;
 use model::Anchor;
 use model::Answer;
 use model::Bench;
@@ -236,6 +237,32 @@ fn ends(bench: Bench, worker: u32, queue: Queue, answer: Answer, log: &mut [u32]
     }
 }
 
+// Makes a line's change to the store, and answers the queue that it leaves.
+fn changed(queue: Queue, change: Change, store: &mut [u32]) -> Queue
+    requires { ⌜ queue .published ≤ 11 ⌝ }
+    requires { ⌜ Fits queue (length (now store)) change ⌝ }
+    ensures { λ r. ⌜ r ≡ changedQueue queue change ⌝ }
+    ensures { λ r. ⌜ now (store .exit) ≡ changedStore (now (store .entry)) change ⌝ }
+{
+    match change {
+        Change::Word { place, value } => {
+            store[place] = value;
+            queue
+        }
+        Change::Copies { place, task } => {
+            let next = place + 1;
+            store[place] = task.number;
+            store[next] = task.payload;
+            queue
+        }
+        Change::Claims { offset, length } => {
+            state::zero(store, offset as usize, length as usize);
+            with_array(queue, offset, length)
+        }
+        Change::Publishes => state::publish(queue),
+    }
+}
+
 // Does what a line decided.
 pub fn apply(bench: Bench, worker: u32, act: Act, store: &mut [u32], log: &mut [u32]) -> Reply
     requires { ⌜ worker < 8 ⌝ }
@@ -246,25 +273,10 @@ pub fn apply(bench: Bench, worker: u32, act: Act, store: &mut [u32], log: &mut [
     let queue = bench.queue;
     match act {
         Act::Goes { line } => goes_on(bench, worker, queue, line),
-        Act::Word { place, value, line } => {
-            store[place] = value;
-            goes_on(bench, worker, queue, line)
+        Act::Changes { change, line } => {
+            let next = changed(queue, change, store);
+            goes_on(bench, worker, next, line)
         }
-        Act::Copies { place, task, line } => {
-            let next = place + 1;
-            store[place] = task.number;
-            store[next] = task.payload;
-            goes_on(bench, worker, queue, line)
-        }
-        Act::Claims {
-            offset,
-            length,
-            line,
-        } => {
-            state::zero(store, offset as usize, length as usize);
-            goes_on(bench, worker, with_array(queue, offset, length), line)
-        }
-        Act::Publishes { line } => goes_on(bench, worker, state::publish(queue), line),
         Act::Stops { answer } => ends(bench, worker, queue, answer, log),
         Act::Ends { anchor, answer } => ends(
             bench,

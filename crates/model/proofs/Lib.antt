@@ -3,3 +3,4 @@ pub mod Runs
 pub mod Table
 pub mod Mistakes
 pub mod Limits
+pub mod Arrays

@@ -81,18 +81,20 @@ directoryOk q m o =
     and eqb (q .claimed) (if isExpanding o then q .published + 1 else q .published)
     and tidy (q .arrays) (q .claimed) and leb (taken q) (length m)
 
--- the anchor now, in an array of z tasks; what a kind does not use is 0
-abbrev pub anchorOk : Kind → ℕ → ℕ → Anchor → Bool
-anchorOk Lifo w z a = eqb (a .head) 0 and leb (a .count) z and ltb (a .tag) (2 ^ w)
-anchorOk Fifo w z a =
-    leb (a .head) (a .count) and leb (a .count - a .head) z and leb (a .count) 65535 and eqb (a .tag) 0
-anchorOk Deque w z a = ltb (a .head) 2048 and leb (a .count) z and ltb (a .tag) (2 ^ w)
-
--- the anchor as a worker read it; FIFO's two reads may lie further apart than the size
+-- an anchor as a worker read it, in an array of z tasks; what a kind does not use is 0
 abbrev pub readOk : Kind → ℕ → ℕ → Anchor → Bool
 readOk Lifo w z r = eqb (r .head) 0 and leb (r .count) z and ltb (r .tag) (2 ^ w)
 readOk Fifo w z r = leb (r .head) (r .count) and leb (r .count) 65535 and eqb (r .tag) 0
 readOk Deque w z r = ltb (r .head) 2048 and leb (r .count) z and ltb (r .tag) (2 ^ w)
+
+-- the anchor now: FIFO's tail−head is limited for the queue itself; two reads may lie further apart
+abbrev pub nearOk : Kind → ℕ → Anchor → Bool
+nearOk Lifo z a = true
+nearOk Fifo z a = leb (a .count - a .head) z
+nearOk Deque z a = true
+
+abbrev pub anchorOk : Kind → ℕ → ℕ → Anchor → Bool
+anchorOk κ w z a = readOk κ w z a and nearOk κ z a
 
 -- FIFO's head read, while the tail is not yet read; the others have no such line
 abbrev pub headOk : Kind → ℕ → Bool

@@ -1,8 +1,7 @@
-// For timing: plays steps through the library's public calls, a thousand for each byte of standard input, and prints how many
-// went on. Each run of five is a steal attempt's lines 1 to 4b, from one and the same bench: a bench is a value, so the attempt
-// can be played again from its start, and the log never fills.
+// For timing: plays three million steps through the library's public calls, and prints how many went on. Each run of five is a
+// steal attempt's lines 1 to 4b, from one and the same bench: a bench is a value, so the attempt can be played again from its
+// start, and the log never fills.
 // Uses `queues` and `model`, of the kit `io` and `libc`. It is a program, and no crate uses it.
-use libc::STDIN_FILENO;
 use libc::STDOUT_FILENO;
 use model::Answer;
 use model::Operation;
@@ -62,34 +61,18 @@ fn attempt(made: u64, start: Bench, store: &mut [u32], log: &mut [u32]) -> u64 {
     lines_from_3(count(count(made, at_1), at_2), second.bench, store, log)
 }
 
-// A thousand steps.
-fn thousand(start: Bench, store: &mut [u32], log: &mut [u32]) -> u64 {
-    let mut made: u64 = 0;
-    let mut attempts: u32 = 0;
-    while attempts < 200 {
-        made = attempt(made, start, store, log);
-        attempts += 1;
-    }
-    made
-}
-
 fn main() {
     let mut store = [0u32; 64];
     let mut log = [0u32; 64];
-    let mut input = [0u8; 65536];
     let made = Bench::fresh(1, 4, 4, 8, &mut store);
-    let empty = made.bench;
-    let filled = put(empty, &mut store, &mut log);
+    let filled = put(made.bench, &mut store, &mut log);
     let begun = filled.begin(1, Operation::Steal, &store, &log);
     let start = begun.bench;
-    let got = libc::read(STDIN_FILENO, &mut input);
-    let bytes = io::count(got, &input);
     let mut steps: u64 = 0;
-    let mut byte: usize = 0;
-    while byte < bytes {
-        let made = thousand(start, &mut store, &mut log);
-        steps = std::num::wrapping_add_u64(steps, made);
-        byte += 1;
+    let mut attempts: u32 = 0;
+    while attempts < 600000 {
+        steps = attempt(steps, start, &mut store, &mut log);
+        attempts += 1;
     }
     io::print_decimal(STDOUT_FILENO, steps);
     io::write_all(STDOUT_FILENO, b"\n");

@@ -41,9 +41,9 @@ tail-ok Deque q o used p u s = omega arith
 
 ok-anchor : (κ : Kind) (w z low : ℕ) (q : Queue) → tail κ q ≤ 65535 → Bounded κ w z low (q .anchor)
     → anchorOk κ w z (q .anchor) ≡ true
-ok-anchor Lifo w z low q τ (a, b, d) = and-both _ _ (eq-eqb _ _ a) (and-both _ _ (le-leb _ _ b) (lt-ltb _ _ d))
-ok-anchor Fifo w z low q τ (a, b, d, e) = and-both _ _ (le-leb _ _ b) (and-both _ _ (le-leb (q .anchor .count - q .anchor .head) z (omega arith)) (and-both _ _ (le-leb _ _ τ) (eq-eqb _ _ e)))
-ok-anchor Deque w z low q τ (a, b, d) = and-both _ _ (lt-ltb _ _ a) (and-both _ _ (le-leb _ _ b) (lt-ltb _ _ d))
+ok-anchor Lifo w z low q τ (a, b, d) = and-both _ _ (and-both _ _ (eq-eqb _ _ a) (and-both _ _ (le-leb _ _ b) (lt-ltb _ _ d))) refl
+ok-anchor Fifo w z low q τ (a, b, d, e) = and-both _ _ (and-both _ _ (le-leb _ _ b) (and-both _ _ (le-leb _ _ τ) (eq-eqb _ _ e))) (le-leb (q .anchor .count - q .anchor .head) z (omega arith))
+ok-anchor Deque w z low q τ (a, b, d) = and-both _ _ (and-both _ _ (lt-ltb _ _ a) (and-both _ _ (le-leb _ _ b) (lt-ltb _ _ d))) refl
 
 ok-head : (κ : Kind) (h low τ : ℕ) → τ ≤ 65535 → LowOk κ low τ → Head κ h low → headOk κ h ≡ true
 ok-head Lifo h low τ b l s = absurd s

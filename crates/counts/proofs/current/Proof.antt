@@ -1,4 +1,4 @@
-use Rattle.counts.proofs.Places.{mapped-length}
+use Rattle.model.proofs.Arrays.{mapped-length}
 use Prim.Native.Nat.{ℕ, _-_}
 use mathlib.Core.Path.{_≡_, sym, ap}
 use lib.ListN.{length, getD, List·getD-eq-default}

@@ -2,7 +2,7 @@ use mathlib.Core.Path.{sym, ap, _∙_}
 use Prim.Native.Nat.{ℕ}
 use borrow.Author.Needs.{needs}
 use Rattle.model.specs.Limits.{anchorOk}
-use Rattle.limits.proofs.Chains.{holds, fails, passed, refused}
+use Rattle.model.proofs.Tests.{holds, fails, passed, refused}
 use Rattle.limits.proofs.contents_ok.Statement.{statement}
 use Rattle.limits.proofs.contents_ok.Tie as tie
 

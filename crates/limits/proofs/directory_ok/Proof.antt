@@ -2,7 +2,7 @@ use mathlib.Core.Path.{sym, _∙_}
 use native.Mathlib.Omega.{arith}
 use borrow.Author.Needs.{needs}
 use borrow.Author.Tests.{not-true, not-false, lt-ltb, le-ltb, le-leb, lt-leb}
-use Rattle.limits.proofs.Chains.{holds, fails}
+use Rattle.model.proofs.Tests.{holds, fails}
 use Rattle.limits.proofs.Directory.{reaches}
 use Rattle.limits.proofs.directory_ok.Statement.{statement}
 use Rattle.limits.proofs.directory_ok.Tie as tie

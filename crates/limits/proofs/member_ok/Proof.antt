@@ -5,7 +5,7 @@ use lib.Dec.{eqb, ltb}
 use borrow.Author.Needs.{needs}
 use Rattle.model.specs.Tests.{if_then_else_}
 use Rattle.model.specs.Limits.{lineOk}
-use Rattle.limits.proofs.Chains.{holds, fails, passed, refused}
+use Rattle.model.proofs.Tests.{holds, fails, passed, refused}
 use Rattle.limits.proofs.Crew.{idle-in, outside, inside}
 use Rattle.limits.proofs.member_ok.Statement.{statement}
 use Rattle.limits.proofs.member_ok.Tie as tie

@@ -1,6 +1,6 @@
 use mathlib.Core.Path.{sym}
 use borrow.Author.Tests.{eq-eqb, ne-eqb}
-use Rattle.limits.proofs.Chains.{if-true, if-false}
+use Rattle.model.proofs.Tests.{if-true, if-false}
 use Rattle.limits.proofs.own_line.Statement.{statement}
 use Rattle.limits.proofs.own_line.Tie as tie
 

@@ -2,7 +2,7 @@ use mathlib.Core.Path.{sym, _∙_}
 use borrow.Author.Tests.{eq-eqb, ne-eqb}
 use borrow.Author.Needs.{needs}
 use Rattle.model.specs.Tests.{_and_}
-use Rattle.limits.proofs.Chains.{holds}
+use Rattle.model.proofs.Tests.{holds}
 use Rattle.limits.proofs.starts.Statement.{statement}
 use Rattle.limits.proofs.starts.Tie as tie
 

@@ -9,7 +9,7 @@ use Rattle.model.specs.declared.Region.{Region}
 use Rattle.model.specs.Memory.{nowhere}
 use Rattle.model.specs.Limits.{tidy}
 use Rattle.limits.specs.Parts.{followsOk}
-use Rattle.limits.proofs.Chains.{passed, refused}
+use Rattle.model.proofs.Tests.{passed, refused}
 use Rattle.limits.proofs.Directory.{starts-tidy, next-tidy, never-tidy}
 use Rattle.limits.proofs.tidy.Statement.{statement}
 use Rattle.limits.proofs.tidy.Tie as tie

@@ -5,7 +5,7 @@ use native.Mathlib.Numerals.{add-one}
 use native.Mathlib.Omega.{arith}
 use borrow.Author.Needs.{needs}
 use Rattle.limits.specs.Parts.{workersOk}
-use Rattle.limits.proofs.Chains.{passed, refused}
+use Rattle.model.proofs.Tests.{passed, refused}
 use Rattle.limits.proofs.Crew.{member, next-worker, no-workers}
 use Rattle.limits.proofs.workers_ok.Statement.{statement}
 use Rattle.limits.proofs.workers_ok.Tie as tie

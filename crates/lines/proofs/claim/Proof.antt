@@ -1,7 +1,7 @@
 use mathlib.Core.Path.{sym, _∙_}
 use borrow.Author.Needs.{needs}
 use Rattle.model.specs.Tests.{if_then_else_}
-use Rattle.lines.specs.Act.{enact, InStore}
+use Rattle.lines.specs.Act.{Fits, InStore, changedQueue, changedStore, enact}
 use Rattle.lines.proofs.Room.{in-room}
 use Rattle.lines.proofs.claim.Statement.{statement}
 use Rattle.lines.proofs.claim.Tie as tie
@@ -25,7 +25,7 @@ mul-words-2 : tie.Need-mul-words-2
 mul-words-2 c = search needs
 
 returns : tie.Need-returns
-unfolding enact InStore if_then_else_
+unfolding enact InStore changedQueue changedStore Fits if_then_else_
 returns c =
     let start = c .before .before .before .before .before in
     let room = sym (c .before .before .before .has-room .ensures) ∙ c .before .before .if1 .taken in

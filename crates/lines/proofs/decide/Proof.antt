@@ -4,7 +4,7 @@ use native.Mathlib.Omega.{arith}
 use borrow.Author.Needs.{needs}
 use Rattle.model.specs.Memory.{setWord}
 use Rattle.model.specs.Lines.{lineStep}
-use Rattle.lines.specs.Act.{Ready, InStore, enact}
+use Rattle.lines.specs.Act.{Ready, Fits, InStore, changedQueue, changedStore, enact}
 use Rattle.lines.proofs.decide.Statement.{statement}
 use Rattle.lines.proofs.decide.Tie as tie
 
@@ -277,14 +277,14 @@ unfolding lineStep enact InStore
 returns-4 c = (simp (c .before .before .before .line3 .given .1, c .before .size-at .ensures, c .put-test .ensures), tt)
 
 returns-5 : tie.Need-returns-5
-unfolding lineStep enact InStore setWord Ready
+unfolding lineStep enact InStore changedQueue changedStore Fits setWord Ready
 returns-5 c =
     let arm = c .before .before in
     let h = rw (arm .line4 .given .1) at (arm .before .before .before .before .before .pre .1) in
     (simp (c .before .before .line4 .given .1, c .put-place .ensures), omega (arith, h))
 
 returns-6 : tie.Need-returns-6
-unfolding lineStep enact InStore setWord Ready
+unfolding lineStep enact InStore changedQueue changedStore Fits setWord Ready
 returns-6 c =
     let arm = c .before .before in
     let h = rw (arm .line5 .given .1) at (arm .before .before .before .before .before .pre .1) in
@@ -303,7 +303,7 @@ unfolding lineStep enact InStore
 returns-9 c = (simp (c .before .before .before .line8 .given .1, c .before .size-at3 .ensures, c .note-for .ensures), tt)
 
 returns-10 : tie.Need-returns-10
-unfolding lineStep enact InStore setWord Ready
+unfolding lineStep enact InStore changedQueue changedStore Fits setWord Ready
 returns-10 c =
     let arm = c .before .before .before .before .before .before in
     let h = rw (arm .line9 .given .1) at (arm .before .before .before .before .before .pre .1) in (
@@ -319,7 +319,7 @@ returns-10 c =
     )
 
 returns-11 : tie.Need-returns-11
-unfolding lineStep enact InStore
+unfolding lineStep enact InStore changedQueue changedStore Fits
 returns-11 c = (simp (c .before .line10 .given .1), tt)
 
 returns-12 : tie.Need-returns-12

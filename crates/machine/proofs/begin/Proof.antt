@@ -2,7 +2,7 @@ use borrow.Author.Needs.{needs}
 use mathlib.Core.Path.{_≡_, refl, sym, _∙_, subst}
 use native.Mathlib.Omega.{arith}
 use Rattle.model.specs.Calls.{lent, beginOf}
-use Rattle.limits.proofs.Chains.{if-false, passed, refused}
+use Rattle.model.proofs.Tests.{if-false, passed, refused}
 use Rattle.machine.specs.declared.Stop.{Stop}
 use Rattle.machine.specs.Turns.{BeginStops}
 use Rattle.machine.proofs.Bounds.{bounds-of}

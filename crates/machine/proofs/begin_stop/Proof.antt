@@ -3,7 +3,7 @@ use mathlib.Core.Path.{sym, _∙_}
 use native.Mathlib.Omega.{arith}
 use borrow.Author.Tests.{lt-ltb, le-ltb}
 use Rattle.model.specs.Calls.{beginOf}
-use Rattle.limits.proofs.Chains.{if-true, if-false, passed, refused}
+use Rattle.model.proofs.Tests.{if-true, if-false, passed, refused}
 use Rattle.machine.proofs.begin_stop.Statement.{statement}
 use Rattle.machine.proofs.begin_stop.Tie as tie
 

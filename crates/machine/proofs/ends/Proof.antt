@@ -6,7 +6,7 @@ use borrow.Author.Needs.{needs}
 use borrow.Author.Tests.{lt-ltb, le-ltb, leb-true}
 use Rattle.model.specs.declared.Bench.{Bench}
 use Rattle.model.specs.Answers.{Entry, entryOf, writeEntry}
-use Rattle.limits.proofs.Chains.{first, rest, passed, refused}
+use Rattle.model.proofs.Tests.{and-left, and-right, passed, refused}
 use Rattle.machine.specs.declared.Reply.{Reply}
 use Rattle.machine.specs.Left.{left}
 use Rattle.machine.proofs.Replies.{same-left}
@@ -61,11 +61,11 @@ cast-at : tie.Need-cast-at
 cast-at c = search needs
 
 write-entry-requires : tie.Need-write-entry-requires
-write-entry-requires c κs = leb-true _ _ (first _ _ (passed (c .before .before .has-room .ensures) (c .before .if2 .left)))
+write-entry-requires c κs = leb-true _ _ (and-left _ _ (passed (c .before .before .has-room .ensures) (c .before .if2 .left)))
 
 add-moves : tie.Need-add-moves
 add-moves c =
-    let h : c .before .before .before .before .before .before .before .before .before .before .before .args .bench .written + 4 ≤ 4294967295 = leb-true _ _ (rest _ _ (passed (c .before .before .before .before .before .has-room .ensures) (c .before .before .before .before .if2 .left))) in
+    let h : c .before .before .before .before .before .before .before .before .before .before .before .args .bench .written + 4 ≤ 4294967295 = leb-true _ _ (and-right _ _ (passed (c .before .before .before .before .before .has-room .ensures) (c .before .before .before .before .if2 .left))) in
     omega arith
 
 moves-requires-2 : tie.Need-moves-requires-2

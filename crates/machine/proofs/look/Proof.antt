@@ -9,7 +9,8 @@ use Rattle.model.specs.Lines.{lineStep}
 use Rattle.model.specs.Calls.{lent, commit, stepOf}
 use Rattle.lines.specs.Act.{Ready}
 use Rattle.lines.proofs.FromLimits.{ground-of-valid, ready-of-valid}
-use Rattle.limits.proofs.Chains.{if-true, if-false, mapped-length}
+use Rattle.model.proofs.Tests.{if-true, if-false}
+use Rattle.model.proofs.Arrays.{mapped-length}
 use Rattle.machine.proofs.Bounds.{bounds-of}
 use Rattle.machine.proofs.look.Statement.{statement}
 use Rattle.machine.proofs.look.Tie as tie

@@ -7,10 +7,10 @@ use Rattle.pace.proofs.main.Statement.{statement}
 use Rattle.pace.proofs.main.Tie as tie
 
 abbrev Inv-loop : tie.InvT-loop
-Inv-loop store₀ log₀ start got bytes steps₀ byte₀ t14 store log steps byte = (length store ≡ 64) × (length log ≡ 64)
+Inv-loop store₀ log₀ start steps₀ attempts₀ t9 store log steps attempts = (length store ≡ 64) × (length log ≡ 64)
 
 abbrev μ-loop : tie.MeasureT-loop
-μ-loop store₀ log₀ start got bytes steps₀ byte₀ t14 store log steps byte = bytes - byte
+μ-loop store₀ log₀ start steps₀ attempts₀ t9 store log steps attempts = 600000 - attempts
 
 slice-aggregate-fresh : tie.Need-slice-aggregate-fresh Inv-loop μ-loop
 slice-aggregate-fresh c = search needs
@@ -36,35 +36,20 @@ slice-aggregate-begin-2 c = search needs
 begin-requires : tie.Need-begin-requires Inv-loop μ-loop
 begin-requires c κs = search needs
 
-slice-aggregate-read : tie.Need-slice-aggregate-read Inv-loop μ-loop
-slice-aggregate-read c = search needs
-
-read-requires : tie.Need-read-requires Inv-loop μ-loop
-read-requires c κs = search needs
-
-slice-aggregate-count : tie.Need-slice-aggregate-count Inv-loop μ-loop
-slice-aggregate-count c = search needs
-
-count-requires : tie.Need-count-requires Inv-loop μ-loop
-count-requires c κs = search needs
-
 loop-holds : tie.Need-loop-holds Inv-loop μ-loop
 loop-holds c = (search needs, search needs)
 
-slice-aggregate-thousand : tie.Need-slice-aggregate-thousand Inv-loop μ-loop
-slice-aggregate-thousand c = search needs
+slice-aggregate-attempt : tie.Need-slice-aggregate-attempt Inv-loop μ-loop
+slice-aggregate-attempt c = search needs
 
-slice-aggregate-thousand-2 : tie.Need-slice-aggregate-thousand-2 Inv-loop μ-loop
-slice-aggregate-thousand-2 c = search needs
+slice-aggregate-attempt-2 : tie.Need-slice-aggregate-attempt-2 Inv-loop μ-loop
+slice-aggregate-attempt-2 c = search needs
 
-thousand-requires : tie.Need-thousand-requires Inv-loop μ-loop
-thousand-requires c κs = search needs
+attempt-requires : tie.Need-attempt-requires Inv-loop μ-loop
+attempt-requires c κs = search needs
 
-wrapping-add-u64-requires : tie.Need-wrapping-add-u64-requires Inv-loop μ-loop
-wrapping-add-u64-requires c κs = search needs
-
-add-byte : tie.Need-add-byte Inv-loop μ-loop
-add-byte c = omega arith
+add-attempts : tie.Need-add-attempts Inv-loop μ-loop
+add-attempts c = omega arith
 
 loop-less : tie.Need-loop-less Inv-loop μ-loop
 loop-less c = omega arith
@@ -98,16 +83,11 @@ main-spec =
     slice-aggregate-begin
     slice-aggregate-begin-2
     begin-requires
-    slice-aggregate-read
-    read-requires
-    slice-aggregate-count
-    count-requires
     loop-holds
-    slice-aggregate-thousand
-    slice-aggregate-thousand-2
-    thousand-requires
-    wrapping-add-u64-requires
-    add-byte
+    slice-aggregate-attempt
+    slice-aggregate-attempt-2
+    attempt-requires
+    add-attempts
     loop-less
     loop-again
     print-decimal-requires

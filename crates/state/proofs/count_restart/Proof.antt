@@ -1,7 +1,7 @@
 use mathlib.Core.Path.{sym, _∙_}
 use borrow.Author.Tests.{eq-eqb, ne-eqb}
 use borrow.Author.Needs.{needs}
-use Rattle.limits.proofs.Chains.{if-true, if-false, passed, refused}
+use Rattle.model.proofs.Tests.{if-true, if-false, passed, refused}
 use Rattle.state.proofs.count_restart.Statement.{statement}
 use Rattle.state.proofs.count_restart.Tie as tie
 

@@ -6,7 +6,7 @@ use Rattle.model.specs.World.{World, lineAt}
 use Rattle.model.specs.Calls.{lent, commit, stepOf}
 use Rattle.lines.specs.declared.Act.{Act}
 use Rattle.lines.specs.Act.{enact}
-use Rattle.limits.proofs.Chains.{if-false, passed, refused}
+use Rattle.model.proofs.Tests.{if-false, passed, refused}
 use Rattle.machine.specs.Turns.{TurnOf}
 use Rattle.machine.proofs.Commits.{goes-by}
 use Rattle.queues.specs.declared.Reply.{Reply}
