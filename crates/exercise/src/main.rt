@@ -130,23 +130,25 @@ fn steps(bench: Bench, worker: u32, times: u32, store: &mut [u32], log: &mut [u3
     at
 }
 
-// A put, and a take, up to the last line.
-fn put_to_last_line(bench: Bench, payload: u32, store: &mut [u32], log: &mut [u32]) -> Bench {
-    let begun = bench.begin(0, Operation::Put { payload: payload }, store, log);
-    steps(begun.bench, 0, 4, store, log)
-}
-
-fn take_to_last_line(bench: Bench, store: &mut [u32], log: &mut [u32]) -> Bench {
-    let begun = bench.begin(0, Operation::Take, store, log);
-    steps(begun.bench, 0, 4, store, log)
-}
-
 // A step of the owner, told.
 fn told_step(tried: &[u8], bench: Bench, store: &mut [u32], log: &mut [u32]) -> Bench {
     let stepped = bench.step(0, store, log);
     let answer = stepped.answer;
     told(tried, answer);
     stepped.bench
+}
+
+// A put, and a take, of which the last step is told.
+fn told_put(tried: &[u8], bench: Bench, payload: u32, store: &mut [u32], log: &mut [u32]) -> Bench {
+    let begun = bench.begin(0, Operation::Put { payload: payload }, store, log);
+    let last = steps(begun.bench, 0, 4, store, log);
+    told_step(tried, last, store, log)
+}
+
+fn told_take(tried: &[u8], bench: Bench, store: &mut [u32], log: &mut [u32]) -> Bench {
+    let begun = bench.begin(0, Operation::Take, store, log);
+    let last = steps(begun.bench, 0, 4, store, log);
+    told_step(tried, last, store, log)
 }
 
 fn front_text(bench: Bench, log: &[u32]) {
@@ -239,25 +241,24 @@ fn log_room() {
     let mut longer = [0u32; 11];
     let mut shorter = [0u32; 7];
     let made = Bench::fresh(1, 4, 2, 1, &mut store);
-    let first = put_to_last_line(made.bench, 65, &mut store, &mut log);
-    let ended = told_step(
+    let one = told_put(
         b"the end of a put, 8 words left in the log",
-        first,
+        made.bench,
+        65,
         &mut store,
         &mut log,
     );
-    let second = put_to_last_line(ended, 66, &mut store, &mut log);
-    let full = told_step(
+    let full = told_put(
         b"the end of a put, 4 words left in the log",
-        second,
+        one,
+        66,
         &mut store,
         &mut log,
     );
     front_text(full, &log);
-    let take = take_to_last_line(full, &mut store, &mut longer);
-    let stuck = told_step(
+    let stuck = told_take(
         b"the end of a take, 3 words left in the log",
-        take,
+        full,
         &mut store,
         &mut longer,
     );
@@ -279,41 +280,10 @@ fn base(kind: u32) -> model::Bench {
     bench.state
 }
 
-// States that no call made.
-fn with_anchor(state: model::Bench, head: u32, count: u32, tag: u32) -> model::Bench {
-    let read = anchor(head, count, tag);
-    let mut queue = state.queue;
-    queue.anchor = read;
-    let mut next = state;
-    next.queue = queue;
-    next
-}
-
+// States that no call made, each like `base` but for what is told.
 fn with_used(state: model::Bench, used: u32) -> model::Bench {
     let mut next = state;
     next.used = used;
-    next
-}
-
-fn with_pair(state: model::Bench, place: usize, offset: u32, length: u32) -> model::Bench
-    requires { ⌜ place < 11 ⌝ }
-{
-    let mut queue = state.queue;
-    queue.arrays[place] = Region {
-        offset: offset,
-        length: length,
-    };
-    let mut next = state;
-    next.queue = queue;
-    next
-}
-
-fn with_counts(state: model::Bench, published: u32, claimed: u32) -> model::Bench {
-    let mut queue = state.queue;
-    queue.published = published;
-    queue.claimed = claimed;
-    let mut next = state;
-    next.queue = queue;
     next
 }
 
@@ -323,6 +293,54 @@ fn with_line(state: model::Bench, worker: usize, line: Line) -> model::Bench
     let mut next = state;
     next.workers[worker] = Worker { line: line };
     next
+}
+
+fn try_numbers(tried: &[u8], width: u32, crew: u32, used: u32, written: u32) {
+    let mut state = base(1);
+    state.width = width;
+    state.crew = crew;
+    state.used = used;
+    state.written = written;
+    try_state(tried, state);
+}
+
+fn try_anchor(tried: &[u8], kind: u32, head: u32, count: u32, tag: u32) {
+    let mut state = base(kind);
+    let mut queue = state.queue;
+    queue.anchor = anchor(head, count, tag);
+    state.queue = queue;
+    try_state(tried, state);
+}
+
+// A pair of the directory, and how many are published and claimed; the owner is at `line`.
+fn try_pair(
+    tried: &[u8],
+    place: usize,
+    offset: u32,
+    length: u32,
+    published: u32,
+    claimed: u32,
+    line: Line,
+)
+    requires { ⌜ place < 11 ⌝ }
+{
+    let mut state = base(1);
+    let mut queue = state.queue;
+    queue.arrays[place] = Region {
+        offset: offset,
+        length: length,
+    };
+    queue.published = published;
+    queue.claimed = claimed;
+    state.queue = queue;
+    state.workers[0] = Worker { line: line };
+    try_state(tried, state);
+}
+
+fn try_line(tried: &[u8], kind: u32, worker: usize, line: Line)
+    requires { ⌜ worker < 8 ⌝ }
+{
+    try_state(tried, with_line(base(kind), worker, line));
 }
 
 fn anchor(head: u32, count: u32, tag: u32) -> Anchor {
@@ -341,162 +359,126 @@ fn task(number: u32) -> Task {
 }
 
 fn foreign_numbers() {
-    let b = base(1);
-    try_state(b"a state as fresh made it", b);
-    let mut wide = b;
-    wide.width = 17;
-    try_state(b"tags of 17 bits", wide);
-    let mut crowd = b;
-    crowd.crew = 9;
-    try_state(b"a crew of 9", crowd);
-    try_state(b"65536 put numbers used", with_used(b, 65536));
-    let mut long = b;
-    long.written = 12;
-    try_state(b"12 words written in a log of 8", long);
+    try_numbers(b"a state as fresh made it", 4, 3, 0, 0);
+    try_numbers(b"tags of 17 bits", 17, 3, 0, 0);
+    try_numbers(b"a crew of 9", 4, 9, 0, 0);
+    try_numbers(b"65536 put numbers used", 4, 3, 65536, 0);
+    try_numbers(b"12 words written in a log of 8", 4, 3, 0, 12);
+}
+
+// A directory while the owner is idle.
+fn try_directory(tried: &[u8], place: usize, offset: u32, length: u32, published: u32, claimed: u32)
+    requires { ⌜ place < 11 ⌝ }
+{
+    try_pair(tried, place, offset, length, published, claimed, Line::Idle);
 }
 
 fn foreign_directories() {
-    let b = base(1);
-    try_state(b"no array published", with_counts(b, 0, 0));
-    try_state(b"twelve arrays claimed", with_counts(b, 12, 12));
-    try_state(
-        b"an array claimed and the owner idle",
-        with_counts(with_pair(b, 1, 4, 8), 1, 2),
-    );
-    try_state(
-        b"the owner at X2 and no array claimed",
-        with_line(b, 0, Line::Note { task: task(1) }),
-    );
-    try_state(b"a first array at word 1", with_pair(b, 0, 1, 4));
-    try_state(b"a first array of 3 words", with_pair(b, 0, 0, 3));
-    try_state(b"a first array of 3 slots", with_pair(b, 0, 0, 6));
-    try_state(
-        b"a gap between two arrays",
-        with_counts(with_pair(b, 1, 5, 8), 2, 2),
-    );
-    try_state(
-        b"an array as long as the one before",
-        with_counts(with_pair(b, 1, 4, 4), 2, 2),
-    );
-    try_state(b"a directory longer than the store", with_pair(b, 0, 0, 32));
+    try_directory(b"no array published", 0, 0, 4, 0, 0);
+    try_directory(b"twelve arrays claimed", 0, 0, 4, 12, 12);
+    try_directory(b"an array claimed and the owner idle", 1, 4, 8, 1, 2);
+    let note = Line::Note { task: task(1) };
+    try_pair(b"the owner at X2 and no array claimed", 0, 0, 4, 1, 1, note);
+    try_directory(b"a first array at word 1", 0, 1, 4, 1, 1);
+    try_directory(b"a first array of 3 words", 0, 0, 3, 1, 1);
+    try_directory(b"a first array of 3 slots", 0, 0, 6, 1, 1);
+    try_directory(b"a gap between two arrays", 1, 5, 8, 2, 2);
+    try_directory(b"an array as long as the one before", 1, 4, 4, 2, 2);
+    try_directory(b"a directory longer than the store", 0, 0, 32, 1, 1);
 }
 
 fn foreign_anchors() {
-    let lifo = base(1);
-    try_state(b"LIFO, t above the size", with_anchor(lifo, 0, 3, 0));
-    try_state(b"LIFO, a tag of 5 bits", with_anchor(lifo, 0, 2, 16));
-    try_state(b"LIFO, a head", with_anchor(lifo, 1, 2, 0));
-    let fifo = base(2);
-    try_state(b"FIFO, head above tail", with_anchor(fifo, 2, 1, 0));
-    try_state(b"FIFO, tail 3 ahead of head", with_anchor(fifo, 1, 4, 0));
-    try_state(b"FIFO, tail 65536", with_anchor(fifo, 65535, 65536, 0));
-    try_state(b"FIFO, a tag", with_anchor(fifo, 1, 2, 1));
-    let deque = base(3);
-    try_state(b"double-ended, head 2048", with_anchor(deque, 2048, 1, 0));
-    try_state(
-        b"double-ended, s above the size",
-        with_anchor(deque, 0, 3, 0),
-    );
+    try_anchor(b"LIFO, t above the size", 1, 0, 3, 0);
+    try_anchor(b"LIFO, a tag of 5 bits", 1, 0, 2, 16);
+    try_anchor(b"LIFO, a head", 1, 1, 2, 0);
+    try_anchor(b"FIFO, head above tail", 2, 2, 1, 0);
+    try_anchor(b"FIFO, tail 3 ahead of head", 2, 1, 4, 0);
+    try_anchor(b"FIFO, tail 65536", 2, 65535, 65536, 0);
+    try_anchor(b"FIFO, a tag", 2, 1, 2, 1);
+    try_anchor(b"double-ended, head 2048", 3, 2048, 1, 0);
+    try_anchor(b"double-ended, s above the size", 3, 0, 3, 0);
+}
+
+// The owner at a line of its own with values that do not fit.
+fn try_owner(tried: &[u8], kind: u32, line: Line) {
+    try_line(tried, kind, 0, line);
+}
+
+fn put_test(count: u32) -> Line {
+    Line::PutTest {
+        task: task(1),
+        read: anchor(0, count, 0),
+    }
+}
+
+fn put_number(head: u32, count: u32) -> Line {
+    Line::PutNumber {
+        task: task(1),
+        read: anchor(head, count, 0),
+    }
+}
+
+fn take_number(count: u32) -> Line {
+    Line::TakeNumber {
+        read: anchor(0, count, 0),
+    }
 }
 
 fn foreign_owners() {
-    let lifo = base(1);
-    let fifo = base(2);
-    let read = anchor(0, 2, 0);
-    try_state(
-        b"the owner at a line of steal",
-        with_line(lifo, 0, Line::StealRead),
-    );
-    try_state(
+    try_owner(b"the owner at a line of steal", 1, Line::StealRead);
+    try_owner(
         b"a put numbered 65536",
-        with_line(lifo, 0, Line::PutRead { task: task(65536) }),
+        1,
+        Line::PutRead { task: task(65536) },
     );
-    let ahead = Line::PutTest {
-        task: task(1),
-        read: anchor(0, 3, 0),
-    };
-    try_state(b"a t read above the size", with_line(lifo, 0, ahead));
-    let full = Line::PutNumber {
-        task: task(1),
-        read: read,
-    };
-    try_state(b"a full array past a put's test", with_line(lifo, 0, full));
-    let last = Line::PutNumber {
-        task: task(1),
-        read: anchor(65535, 65535, 0),
-    };
-    try_state(
+    try_owner(b"a t read above the size", 1, put_test(3));
+    try_owner(b"a full array past a put's test", 1, put_number(0, 2));
+    try_owner(
         b"FIFO, tail 65535 past a put's test",
-        with_line(fifo, 0, last),
+        2,
+        put_number(65535, 65535),
     );
-    let tail = Line::TakeTail { head: 0 };
-    try_state(b"LIFO at FIFO's take 2", with_line(lifo, 0, tail));
-    let none = Line::TakeNumber {
-        read: anchor(0, 0, 0),
+    try_owner(b"LIFO at FIFO's take 2", 1, Line::TakeTail { head: 0 });
+    try_owner(b"t read 0 past a test for EMPTY", 1, take_number(0));
+}
+
+// The owner at X3, a second array claimed, with `noted` indices to copy and `copied` of them done.
+fn try_copy(tried: &[u8], noted: u32, copied: u32) {
+    let line = Line::Copy {
+        task: task(1),
+        head: 0,
+        noted: noted,
+        copied: copied,
     };
-    try_state(b"t read 0 past a test for EMPTY", with_line(lifo, 0, none));
+    try_pair(tried, 1, 4, 8, 1, 2, line);
 }
 
 fn foreign_copies() {
-    let lifo = base(1);
-    let claimed = with_counts(with_pair(lifo, 1, 4, 8), 1, 2);
-    let going = Line::Copy {
-        task: task(1),
-        head: 0,
-        noted: 2,
-        copied: 1,
-    };
-    try_state(b"the owner at X3", with_line(claimed, 0, going));
-    let past = Line::Copy {
-        task: task(1),
-        head: 0,
-        noted: 2,
-        copied: 2,
-    };
-    try_state(b"X3 past the last index", with_line(claimed, 0, past));
-    let more = Line::Copy {
-        task: task(1),
-        head: 0,
-        noted: 3,
-        copied: 1,
-    };
-    try_state(
-        b"X3 with more indices than slots",
-        with_line(claimed, 0, more),
-    );
+    try_copy(b"the owner at X3", 2, 1);
+    try_copy(b"X3 past the last index", 2, 2);
+    try_copy(b"X3 with more indices than slots", 3, 1);
 }
 
 fn foreign_thieves() {
-    let lifo = base(1);
-    let deque = base(3);
     let read = anchor(0, 1, 0);
-    try_state(
-        b"a thief at a line of take",
-        with_line(lifo, 1, Line::TakeRead),
-    );
-    try_state(
-        b"a busy worker outside the crew",
-        with_line(lifo, 3, Line::StealRead),
-    );
+    try_line(b"a thief at a line of take", 1, 1, Line::TakeRead);
+    try_line(b"a busy worker outside the crew", 1, 3, Line::StealRead);
     let place = Line::StealNumber {
         read: read,
         place: 1,
     };
-    try_state(
-        b"a noted array that is not published",
-        with_line(lifo, 2, place),
-    );
+    try_line(b"a noted array that is not published", 1, 2, place);
     let beyond = Line::StealCompare {
         read: read,
         next: 2048,
         task: task(1),
     };
-    try_state(b"double-ended, h2 2048", with_line(deque, 2, beyond));
+    try_line(b"double-ended, h2 2048", 3, 2, beyond);
     let next = Line::StealNext {
         read: read,
         task: task(1),
     };
-    try_state(b"LIFO at figure 3's steal 5", with_line(lifo, 2, next));
+    try_line(b"LIFO at figure 3's steal 5", 1, 2, next);
 }
 
 fn main() {
