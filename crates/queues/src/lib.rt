@@ -27,6 +27,18 @@ pub struct Reply {
     pub answer: Answer,
 }
 
+// What the machine hands back, with the bench's methods.
+fn faced(reply: machine::Reply) -> Reply
+    ensures { λ r. ⌜ r ≡ record { bench = record { state = reply .bench }; answer = reply .answer } ⌝ }
+{
+    let state = reply.bench;
+    let answer = reply.answer;
+    Reply {
+        bench: Bench { state: state },
+        answer: answer,
+    }
+}
+
 // A refusal hands the bench back as it came in.
 fn refused(bench: Bench, why: Refusal) -> Reply
     ensures { λ r. ⌜ r ≡ record { bench = bench; answer = Refused why } ⌝ }
@@ -45,26 +57,14 @@ impl Bench {
     pub fn fresh(kind: u32, width: u32, size: u32, crew: u32, store: &mut [u32]) -> Reply
         ensures { λ r. ⌜ ((l : List ℕ) → left r (now (store .exit)) l ≡ freshOf kind width size crew (now (store .entry)) l) ⌝ }
     {
-        let made = machine::fresh(kind, width, size, crew, store);
-        let state = made.bench;
-        let answer = made.answer;
-        Reply {
-            bench: Bench { state: state },
-            answer: answer,
-        }
+        faced(machine::fresh(kind, width, size, crew, store))
     }
 
     // Gives an idle worker an operation; it does no line.
     pub fn begin(self, worker: u32, operation: Operation, store: &[u32], log: &[u32]) -> Reply
         ensures { λ r. ⌜ left r (now (store .entry)) (now (log .entry)) ≡ beginOf (lent (self .state) (now (store .entry)) (now (log .entry))) worker operation ⌝ }
     {
-        let begun = machine::begin(self.state, worker, operation, store, log);
-        let state = begun.bench;
-        let answer = begun.answer;
-        Reply {
-            bench: Bench { state: state },
-            answer: answer,
-        }
+        faced(machine::begin(self.state, worker, operation, store, log))
     }
 
     // One line of a worker's operation.
@@ -83,13 +83,7 @@ impl Bench {
             Turn::Refused { why } => return refused(self, why),
             Turn::Acts { act } => {
                 let Act::Goes { line: to } = act else {
-                    let done = machine::apply(next, worker, act, store, log);
-                    let after = done.bench;
-                    let answer = done.answer;
-                    return Reply {
-                        bench: Bench { state: after },
-                        answer: answer,
-                    };
+                    return faced(machine::apply(next, worker, act, store, log));
                 };
                 // The commonest step changes the worker's record alone: it is replaced in place.
                 next.restarts = state::count_restart(next.restarts, to);

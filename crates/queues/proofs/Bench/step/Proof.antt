@@ -11,25 +11,22 @@ use Rattle.machine.specs.Turns.{TurnOf}
 use Rattle.machine.proofs.Commits.{goes-by}
 use Rattle.queues.specs.declared.Reply.{Reply}
 use Rattle.queues.specs.Left.{left}
+use Rattle.queues.proofs.Faces.{faced-left}
 use Rattle.queues.proofs.Bench.step.Statement.{statement}
 use Rattle.queues.proofs.Bench.step.Tie as tie
 
 valid-requires : tie.Need-valid-requires
 valid-requires c κs = search needs
 
--- src/lib.rt:76:13
 refused-requires : tie.Need-refused-requires
 refused-requires c κs = search needs
 
--- src/lib.rt:76:13
 same-length : tie.Need-same-length
 same-length c = search needs
 
--- src/lib.rt:76:13
 same-length-2 : tie.Need-same-length-2
 same-length-2 c = search needs
 
--- src/lib.rt:76:13
 returns : tie.Need-returns
 unfolding stepOf
 returns c =
@@ -39,34 +36,27 @@ returns c =
 place-of-requires : tie.Need-place-of-requires
 place-of-requires c κs = search needs
 
--- src/lib.rt:79:19
 mul-own : tie.Need-mul-own
 mul-own c = search needs
 
--- src/lib.rt:79:19
 element-copy-out-own : tie.Need-element-copy-out-own
 element-copy-out-own c = search needs
 
--- src/lib.rt:81:13
 look-requires : tie.Need-look-requires
 look-requires c κs = (passed (c .before .before .before .before .before .valid .ensures) (c .before .before .before .before .if1 .left), λ h. ap (lineAt (c .before .before .before .before .before .before .before .before .before .before .before .args .self .state .workers)) (c .before .before .before .place-of .ensures .1 h))
 
 enum-known-turn : tie.Need-enum-known-turn
 enum-known-turn c = search needs
 
--- src/lib.rt:83:38
 refused-requires-2 : tie.Need-refused-requires-2
 refused-requires-2 c κs = search needs
 
--- src/lib.rt:83:38
 same-length-3 : tie.Need-same-length-3
 same-length-3 c = search needs
 
--- src/lib.rt:83:38
 same-length-4 : tie.Need-same-length-4
 same-length-4 c = search needs
 
--- src/lib.rt:83:38
 returns-2 : tie.Need-returns-2
 returns-2 c =
     let W : World = lent (c .before .before .before .before .before .before .before .before .before .before .before .before .before .before .before .before .args .self .state) (c .before .before .before .before .before .before .before .before .before .before .before .before .before .before .before .before .args .store .now) (c .before .before .before .before .before .before .before .before .before .before .before .before .before .before .before .before .args .log .now) in
@@ -76,50 +66,44 @@ returns-2 c =
 enum-known-turn-2 : tie.Need-enum-known-turn-2
 enum-known-turn-2 c = search needs
 
--- src/lib.rt:85:39
 enum-known-act : tie.Need-enum-known-act
 enum-known-act c = search needs
 
--- src/lib.rt:86:25
 apply-requires : tie.Need-apply-requires
 apply-requires c κs =
     let W : World = lent (c .before .before .before .before .before .before .before .before .before .before .before .before .before .before .before .before .before .before .args .self .state) (c .before .before .before .before .before .before .before .before .before .before .before .before .before .before .before .before .before .before .args .store .now) (c .before .before .before .before .before .before .before .before .before .before .before .before .before .before .before .before .before .before .args .log .now) in
     let t = subst (TurnOf W (c .before .before .before .before .before .before .before .before .before .before .before .before .before .before .before .before .before .before .args .worker)) (c .before .before .before .before .turn2 .given .1) (c .before .before .before .before .before .before .look .ensures) in
     (t .0, (t .1, t .2))
 
+faced-requires : tie.Need-faced-requires
+faced-requires c κs = search needs
+
 same-length-5 : tie.Need-same-length-5
 same-length-5 c = search needs
 
--- src/lib.rt:89:21
 same-length-6 : tie.Need-same-length-6
 same-length-6 c = search needs
 
--- src/lib.rt:89:21
 returns-3 : tie.Need-returns-3
 returns-3 c =
     let W : World = lent (c .before .before .before .before .before .before .before .before .before .before .before .before .before .before .before .before .before .before .before .before .before .before .before .before .args .self .state) (c .before .before .before .before .before .before .before .before .before .before .before .before .before .before .before .before .before .before .before .before .before .before .before .before .args .store .now) (c .before .before .before .before .before .before .before .before .before .before .before .before .before .before .before .before .before .before .before .before .before .before .before .before .args .log .now) in
-    c .before .before .before .before .before .apply .ensures ∙ sym (subst (TurnOf W (c .before .before .before .before .before .before .before .before .before .before .before .before .before .before .before .before .before .before .before .before .before .before .before .before .args .worker)) (c .before .before .before .before .before .before .before .before .before .before .turn2 .given .1) (c .before .before .before .before .before .before .before .before .before .before .before .before .look .ensures) .3)
+    faced-left (c .faced .ensures) (c .before .before .before .before .before .apply .ensures ∙ sym (subst (TurnOf W (c .before .before .before .before .before .before .before .before .before .before .before .before .before .before .before .before .before .before .before .before .before .before .before .before .args .worker)) (c .before .before .before .before .before .before .before .before .before .before .turn2 .given .1) (c .before .before .before .before .before .before .before .before .before .before .before .before .look .ensures) .3))
 
 count-restart-requires : tie.Need-count-restart-requires
 count-restart-requires c κs = search needs
 
--- src/lib.rt:96:17
-mul-t41 : tie.Need-mul-t41
-mul-t41 c = search needs
+mul-t38 : tie.Need-mul-t38
+mul-t38 c = search needs
 
--- src/lib.rt:96:17
 element-set-from-next : tie.Need-element-set-from-next
 element-set-from-next c = search needs
 
--- src/lib.rt:97:17
 same-length-7 : tie.Need-same-length-7
 same-length-7 c = search needs
 
--- src/lib.rt:97:17
 same-length-8 : tie.Need-same-length-8
 same-length-8 c = search needs
 
--- src/lib.rt:97:17
 returns-4 : tie.Need-returns-4
 unfolding enact
 returns-4 c =
@@ -149,11 +133,12 @@ step-spec =
     enum-known-turn-2
     enum-known-act
     apply-requires
+    faced-requires
     same-length-5
     same-length-6
     returns-3
     count-restart-requires
-    mul-t41
+    mul-t38
     element-set-from-next
     same-length-7
     same-length-8
