@@ -1,15 +1,16 @@
 // The bench program: reads lines from standard input and writes their listing to standard output. What it shows is proved in the
 // crate `listing`, on slices; here it is read in chunks and written before the next read.
-// Uses `listing`, `queues` and `model`, of the kit `io`, `libc` and `os`. It is a program, and no crate uses it.
+// Uses `replies`, `listing` and `model`, of the kit `io`, `libc` and `os`. It is a program, and no crate uses it.
 ghost use mathlib.Core.Path.{_≡_};
 ghost use mathlib.Core.Bool.{true};
 ghost use Prim.Native.Nat.{_≤_, _<_};
 ghost use lib.ListN.{length};
-ghost use Rattle.listing.specs.Sessions.{programOf, Reachable};
+ghost use Rattle.replies.specs.Sessions.{programOf};
+ghost use Rattle.listing.specs.Feeding.{Reachable};
 ghost use Rattle.bench.specs.Input.{Within};
 use libc::STDIN_FILENO;
 use libc::STDOUT_FILENO;
-use listing::Session;
+use replies::Session;
 
 enum Input {
     Broken,
@@ -100,7 +101,7 @@ fn play_some(
 fn run(buf: &mut [u8], store: &mut [u32], log: &mut [u32], out: &mut [u8])
     requires { ⌜ 61 < length (now buf) ⌝ }
 {
-    let mut session = listing::start();
+    let mut session = replies::start();
     let mut have: usize = 0;
     let mut turns = u64::MAX;
     while turns > 0 {

@@ -1,5 +1,5 @@
 // The six counts of `T`, worked out from log, store and state as the model defines them, for any state and any memory.
-// Uses `model`. It is used by `listing`.
+// Uses `model`. It is used by `replies`.
 ghost use mathlib.Core.Path.{_≡_};
 ghost use mathlib.Core.List.{[]};
 ghost use Prim.Native.Nat.{_+_, _-_, _/_, _%_, _≤_, _<_};

@@ -1,5 +1,5 @@
 // What one line of figures 1, 2 and 3 does: a pure function from the line to an act. Applying the act is another crate's.
-// Uses `model` and `figures`. It is used by `machine`, `queues` and `listing`.
+// Uses `model` and `figures`. It is used by `machine`, `queues`, `replies` and `listing`.
 ghost use mathlib.Core.Path.{_≡_};
 ghost use mathlib.Core.List.{List};
 ghost use Prim.Native.Nat.{ℕ, _-_, _≤_, _<_};

@@ -17,15 +17,16 @@ use Rattle.text.specs.Words.{lines, head, tail}
 use Rattle.text.specs.Commands.{commandOf}
 use Rattle.text.proofs.Long.{line-long}
 use Rattle.listing.specs.declared.Fed.{Fed}
-use Rattle.listing.specs.Shown.{shownAll}
+use Rattle.replies.specs.Shown.{shownAll}
 use Rattle.listing.specs.Listing.{listingOf, front, Open}
-use Rattle.listing.specs.Sessions.{programOf, leftBy, FedBy, CarriedBy}
+use Rattle.replies.specs.Sessions.{programOf, leftBy}
+use Rattle.listing.specs.Feeding.{FedBy, CarriedBy}
 use Rattle.text.proofs.Lists.{done}
 use Rattle.listing.proofs.Lines.{decide, front-newline, front-more, open-line, open-take}
-use Rattle.listing.proofs.Shows.{show-none}
-use Rattle.listing.proofs.Fronts.{lent-front}
+use Rattle.replies.proofs.Shows.{show-none}
+use Rattle.replies.proofs.Fronts.{lent-front}
 use Rattle.listing.proofs.Feeding.{listing-one, heard-line}
-use Rattle.listing.proofs.Replies.{left-on}
+use Rattle.replies.proofs.Replies.{left-on}
 
 pub listing-none : (P : Program) → listingOf P [] ≡ []
 unfolding listingOf lines listingFrom

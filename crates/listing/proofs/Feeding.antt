@@ -20,17 +20,18 @@ use Rattle.text.specs.Numbers.{Placed}
 use Rattle.text.specs.Commands.{commandOf}
 use Rattle.text.proofs.Lists.{done}
 use Rattle.text.proofs.Spell.{placed-length}
-use Rattle.listing.specs.declared.Session.{Session}
-use Rattle.listing.specs.declared.Played.{Played}
-use Rattle.listing.specs.Shown.{shownAll}
+use Rattle.replies.specs.declared.Session.{Session}
+use Rattle.replies.specs.declared.Played.{Played}
+use Rattle.replies.specs.Shown.{shownAll}
 use Rattle.listing.specs.Listing.{listingOf, front}
 use Rattle.listing.specs.Listing as spec
-use Rattle.listing.specs.Sessions.{programOf, leftBy, PlayedBy, FedBy}
+use Rattle.replies.specs.Sessions.{programOf, leftBy, PlayedBy}
+use Rattle.listing.specs.Feeding.{FedBy}
 use Rattle.listing.proofs.Lines.{first-line, front-take, front-fits, front-none}
-use Rattle.listing.proofs.Shows.{show-none, show-append, answer-most, totals-most}
+use Rattle.replies.proofs.Shows.{show-none, show-append, answer-most, totals-most}
 use Rattle.listing.proofs.TwoLines.{steps-most}
-use Rattle.listing.proofs.Ways.{never}
-use Rattle.listing.proofs.Replies.{left-on}
+use Rattle.replies.proofs.Ways.{never}
+use Rattle.replies.proofs.Replies.{left-on}
 
 -- A line's text has at most 72 bytes.
 pub respond-most : (P : Program) (c : Command) → length (shownAll (respond P c .output)) ≤ 72

@@ -1,9 +1,5 @@
 pub mod Lines
-pub mod Ways
-pub mod Shows
 pub mod TwoLines
-pub mod Fronts
-pub mod Replies
 pub mod Stepping
 pub mod Reaching
 pub mod Feeding

@@ -14,8 +14,8 @@ use Rattle.model.specs.Calls.{freshOf, begin, step, stepOf}
 use Rattle.model.specs.Listing.{Program, waiting, playing, ended, Reply, isRefused, opened, respond, stepsOf}
 use Rattle.theorems.specs.Reached.{Reached}
 use Rattle.theorems.proofs.Reached.{reached-fresh, reached-call}
-use Rattle.listing.specs.Sessions.{Reachable}
-use Rattle.listing.proofs.Ways.{either, never}
+use Rattle.listing.specs.Feeding.{Reachable}
+use Rattle.replies.proofs.Ways.{either, never}
 
 -- a fresh that is not refused is accepted
 abbrev Accepts : Outcome → Type 0

@@ -13,7 +13,7 @@ use Rattle.text.specs.Same.{same}
 use Rattle.text.specs.Numbers.{allDigits, plain, onward, valueOf, spelled, decimalOf, spacedOf, lineOf}
 use Rattle.text.specs.Words.{onto, words, lines, head, tail}
 use Rattle.text.specs.Commands.{keyOf, joined, values, formed, formedOf, commandOf}
-use Rattle.listing.specs.Shown.{shown, shownAll}
+use Rattle.replies.specs.Shown.{shown, shownAll}
 use Rattle.listing.specs.Listing.{listingOf, wholeListing}
 
 run : wholeListing (bytes "put 65\nqueue 1 1 2 2 12\nput 65\nstep 0 5\nsteal 1\nstep 1 5\ntake\nqueue 1 1 2 2 12\nstep 0 7\nput 66\nstep 00 5\nstep 0 5\ntake\nstep 0 5\nput 67\nstep 0 5\nstep 1 1\nend\ntake") ≡ bytes "R 13\nD 1\nR 13\nH 0 1 65\nR 8\nR 13\nD 2\nH 0 2 66\nD 3\nH 1 1 65\nT 3 3 2 0 0 1\n"

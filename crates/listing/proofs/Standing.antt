@@ -26,18 +26,24 @@ use Rattle.machine.specs.Turns.{TurnOf}
 use Rattle.machine.proofs.Bounds.{bounds-of}
 use Rattle.text.specs.Numbers.{Placed}
 use Rattle.text.specs.Commands.{commandOf}
-use Rattle.listing.specs.declared.Session.{Session}
-use Rattle.listing.specs.declared.Asked.the-variants.{Other, Step}
-use Rattle.listing.specs.declared.Played.{Played}
-use Rattle.listing.specs.Shown.{shownAll}
+use Rattle.replies.specs.declared.Session.{Session}
+use Rattle.replies.specs.declared.Asked.the-variants.{Other, Step}
+use Rattle.replies.specs.declared.Played.{Played}
+use Rattle.replies.specs.Shown.{shownAll}
 use Rattle.listing.specs.Listing.{front}
-use Rattle.listing.specs.Sessions.{worldOf, programOf, leftBy, askedOf, CalmBy, Reachable, PlayedBy, FedBy}
-use Rattle.listing.proofs.Fronts.{lent-front}
-use Rattle.listing.proofs.Ways.{never}
-use Rattle.listing.proofs.Shows.{answer-most}
-use Rattle.listing.proofs.Replies.{played, program-live, left-on}
+use Rattle.replies.specs.Sessions.{worldOf, programOf, leftBy, PlayedBy}
+use Rattle.replies.specs.Choices.{askedOf, CalmBy}
+use Rattle.listing.specs.Feeding.{Reachable, FedBy}
+use Rattle.replies.proofs.Fronts.{lent-front}
+use Rattle.replies.proofs.Ways.{never}
+use Rattle.replies.proofs.Shows.{answer-most}
+use Rattle.replies.proofs.Replies.{played, program-live, left-on}
 use Rattle.listing.proofs.Feeding.{Heard, Onward, line-on, heard-next, fed-over}
 use Rattle.listing.proofs.Reaching.{respond-reach}
+
+-- what `feed` keeps of a session in place
+abbrev pub sessionOf : Bool → ℕ → Bench → Session
+sessionOf v w b = record { live = v; words = w; bench = b }
 
 -- what was written, and then the listing of the rest from where the program stands, is the listing of all
 pub record Standing (P : Program) (buf : List ℕ) (s : Session) (m l out : List ℕ) (used wrote : ℕ) : Type 0 where
@@ -120,7 +126,7 @@ reached-of s m l v r = subst Reachable (program-live s m l v) r
 pub valid-of : (s : Session) (m l : List ℕ) → Reachable (programOf s m l) → s .live ≡ true → validOf (worldOf s m l) ≡ true
 valid-of s m l r v = reached-valid (reached-of s m l v r)
 
-pub crew-of : (s : Session) (m l : List ℕ) → Reachable (programOf s m l) → s .live ≡ true → s .bench .state .crew ≤ 8
+pub crew-of : (s : Session) (m l : List ℕ) → Reachable (programOf s m l) → s .live ≡ true → s .bench .crew ≤ 8
 crew-of s m l r v = bounds-of (worldOf s m l) (valid-of s m l r v) .crew
 
 pub valid-front : (b : Bench) (w n : ℕ) (m l : List ℕ) → n ≡ min w (length m) → Reached (lent b (take w m) l) → validOf (lent b (take n m) l) ≡ true

@@ -11,12 +11,12 @@ use Rattle.model.specs.Calls.{stepOf}
 use Rattle.model.specs.Listing.{playing, Reply, printed, isRefused, stepsOf}
 use Rattle.text.specs.Numbers.{Placed}
 use Rattle.text.proofs.Spell.{placed-more, placed-length}
-use Rattle.listing.specs.declared.Session.{Session}
-use Rattle.listing.specs.Shown.{shownAll}
-use Rattle.listing.specs.Sessions.{worldOf, PlayedBy}
-use Rattle.listing.proofs.Shows.{show-none, show-append}
+use Rattle.replies.specs.declared.Session.{Session}
+use Rattle.replies.specs.Shown.{shownAll}
+use Rattle.replies.specs.Sessions.{worldOf, PlayedBy}
+use Rattle.replies.proofs.Shows.{show-none, show-append}
 use Rattle.listing.proofs.TwoLines.{steps-refused, steps-made, steps-most}
-use Rattle.listing.proofs.Replies.{played, program-live, left-on}
+use Rattle.replies.proofs.Replies.{played, program-live, left-on}
 
 -- what is left to do after some of the steps, from where the session stands
 abbrev toDo : Session → List ℕ → List ℕ → ℕ → ℕ → Reply

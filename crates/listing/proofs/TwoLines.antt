@@ -24,9 +24,9 @@ use Rattle.model.specs.World.{World, Outcome, lineAt, isIdle, resting, refuse}
 use Rattle.model.specs.Limits.{validOf}
 use Rattle.model.specs.Calls.{stepOf, stepped, commit, noRoom, nextEffect}
 use Rattle.model.specs.Listing.{Print, printed, isRefused, reply, told, stepsOf}
-use Rattle.listing.specs.Shown.{shownAll}
-use Rattle.listing.proofs.Ways.{either, never}
-use Rattle.listing.proofs.Shows.{answer-lines, answer-most, show-none, show-append}
+use Rattle.replies.specs.Shown.{shownAll}
+use Rattle.replies.proofs.Ways.{either, never}
+use Rattle.replies.proofs.Shows.{answer-lines, answer-most, show-none, show-append}
 
 -- a line that ends its operation leaves the worker idle
 abbrev Rests : Effect → Type 0

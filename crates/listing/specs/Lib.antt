@@ -1,3 +1,2 @@
-pub mod Shown
 pub mod Listing
-pub mod Sessions
+pub mod Feeding

@@ -8,7 +8,7 @@ use Rattle.model.specs.Tests.{if_then_else_}
 use Rattle.model.specs.Listing.{Program, waiting, listingFrom, programStore, programLog}
 use Rattle.text.specs.Words.{lines}
 use Rattle.text.specs.Commands.{commandOf}
-use Rattle.listing.specs.Shown.{shownAll}
+use Rattle.replies.specs.Shown.{shownAll}
 
 -- from where the program stands
 unfoldable pub listingOf : Program → List ℕ → List ℕ

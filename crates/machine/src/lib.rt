@@ -1,6 +1,6 @@
 // The calls on a bench: fresh, begin, and a step's two halves: what it does (look), and doing it (apply). This is the only code
 // that writes a store or a log, and it writes only once the whole outcome of the call is known.
-// Uses `model`, `lines`, `limits` and `state`. It is used by `queues` and `listing`.
+// Uses `model`, `lines`, `limits` and `state`. It is used by `queues`, `replies` and `listing`.
 ghost use mathlib.Core.Path.{_≡_};
 ghost use mathlib.Core.Bool.{true};
 ghost use mathlib.Core.List.{List};

@@ -4,9 +4,10 @@ use Prim.Native.Nat.{_≤_}
 use mathlib.Core.Path.{_≡_, refl, sym, subst, _∙_}
 use lib.ListN.{length, length-take, length-drop}
 use lib.Seq.{length-take-le}
-use Rattle.listing.specs.Sessions.{programOf, Reachable}
-use Rattle.listing.proofs.Ways.{never}
-use Rattle.listing.proofs.Replies.{left-on}
+use Rattle.replies.specs.Sessions.{programOf}
+use Rattle.listing.specs.Feeding.{Reachable}
+use Rattle.replies.proofs.Ways.{never}
+use Rattle.replies.proofs.Replies.{left-on}
 use Rattle.bench.proofs.play_some.Statement.{statement}
 use Rattle.bench.proofs.play_some.Tie as tie
 

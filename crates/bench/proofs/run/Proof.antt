@@ -4,7 +4,8 @@ use mathlib.Core.Path.{_≡_, refl, sym, subst, _∙_}
 use Prim.Native.Nat.{_≤_, _<_}
 use lib.ListN.{length, length-set}
 use borrow.Author.Tests.{not-false}
-use Rattle.listing.specs.Sessions.{programOf, Reachable}
+use Rattle.replies.specs.Sessions.{programOf}
+use Rattle.listing.specs.Feeding.{Reachable}
 use Rattle.bench.proofs.run.Statement.{statement}
 use Rattle.bench.proofs.run.Tie as tie
 

@@ -1,31 +1,29 @@
 use borrow.Author.Needs.{needs}
 use native.Mathlib.Omega.{arith}
 use mathlib.Core.Path.{_≡_, refl, ap, sym, subst, _∙_}
-use mathlib.Core.Bool.{Bool, true, false}
-use mathlib.Core.List.{List}
-use Prim.Native.Nat.{ℕ, _+_, _-_, _≤_, _<_, min}
+use Prim.Native.Nat.{_+_, _-_, _≤_, min}
 use lib.ListN.{length, take, drop, length-drop}
 use lib.Seq.{length-take-le}
 use Rattle.model.specs.declared.Answer.{Answer}
 use Rattle.model.specs.declared.Answer.the-variants.{GoesOn}
 use Rattle.model.specs.World.{Outcome, lineAt}
 use Rattle.model.specs.Calls.{lent, commit}
-use Rattle.model.specs.Listing.{isRefused, respond, stepsOf}
+use Rattle.model.specs.Listing.{isRefused, stepsOf}
 use Rattle.theorems.specs.Reached.{Reached}
-use Rattle.listing.specs.declared.Session.{Session}
 use Rattle.lines.specs.declared.Act.{Act}
 use Rattle.lines.specs.Act.{enact}
 use Rattle.machine.specs.Turns.{TurnOf}
 use Rattle.machine.proofs.Commits.{goes-by}
 use Rattle.listing.specs.Listing as spec
-use Rattle.listing.specs.Sessions.{worldOf, programOf, leftBy, sessionOf, refusalOf, askedOf, CalmBy, Reachable, PlayedBy, FedBy}
-use Rattle.listing.proofs.Ways.{never}
+use Rattle.replies.specs.Sessions.{worldOf, programOf}
+use Rattle.replies.specs.Choices.{refusalOf, CalmBy}
+use Rattle.replies.proofs.Ways.{never}
 use Rattle.listing.proofs.Lines.{front-fits}
-use Rattle.listing.proofs.Shows.{answer-most, shows-none}
-use Rattle.listing.proofs.Replies.{played, judged-made, judged-stopped}
+use Rattle.replies.proofs.Shows.{shows-none}
+use Rattle.replies.proofs.Replies.{judged-made, judged-stopped}
 use Rattle.listing.proofs.Stepping.{Stepping, stepping-start, stepping-room, stepping-over, stepping-stops, stepping-on}
 use Rattle.listing.proofs.Feeding.{fed-on, nothing-open}
-use Rattle.listing.proofs.Standing.{Standing, standing-start, standing-on, standing-over, calm-by, asked-live, steps-by, reached-of, crew-of, valid-front, turn-front, reached-step, reach-left, reach-over, valid-of, refusal-room}
+use Rattle.listing.proofs.Standing.{sessionOf, Standing, standing-start, standing-on, standing-over, calm-by, asked-live, steps-by, reached-of, crew-of, valid-front, turn-front, reached-step, reach-left, reach-over, valid-of, refusal-room}
 use Rattle.listing.proofs.feed.Statement.{statement}
 use Rattle.listing.proofs.feed.Tie as tie
 
@@ -46,53 +44,45 @@ abbrev μ-lines : tie.MeasureT-lines
 μ-lines buf store₀ log₀ out₀ live₀ words₀ bench₀ used₀ wrote₀ most store log out live words bench used wrote = length buf - used
 
 lines-holds : tie.Need-lines-holds Inv-loop μ-loop Inv-lines μ-lines
-lines-holds c = (standing-start _ _ _ _ _ (c .before .before .before .before .before .before .pre), refl, refl, refl)
+lines-holds c = (standing-start _ _ _ _ _ (c .before .before .before .before .before .pre), refl, refl, refl)
 
 sub-if1 : tie.Need-sub-if1 Inv-loop μ-loop Inv-lines μ-lines
 sub-if1 c = omega (arith, c .before .lines .inv .0 .fits, c .before .lines .inv .3)
 
-session-of-requires : tie.Need-session-of-requires Inv-loop μ-loop Inv-lines μ-lines
-session-of-requires c κs = search needs
-
 same-length : tie.Need-same-length Inv-loop μ-loop Inv-lines μ-lines
-same-length c = c .before .before .before .lines .inv .1
+same-length c = c .before .before .lines .inv .1
 
 same-length-2 : tie.Need-same-length-2 Inv-loop μ-loop Inv-lines μ-lines
-same-length-2 c = c .before .before .before .lines .inv .2
+same-length-2 c = c .before .before .lines .inv .2
 
 same-length-3 : tie.Need-same-length-3 Inv-loop μ-loop Inv-lines μ-lines
-same-length-3 c = c .before .before .before .lines .inv .3
+same-length-3 c = c .before .before .lines .inv .3
 
 returns : tie.Need-returns Inv-loop μ-loop Inv-lines μ-lines
 returns c =
-    let l = c .before .before .before .lines in (
-      subst (λ (s : Session). FedBy (programOf (c .before .before .before .before .before .before .before .before .before .before .args .session) (c .before .before .before .before .before .before .before .before .before .before .args .store .now) (c .before .before .before .before .before .before .before .before .before .before .args .log .now)) (c .before .before .before .before .before .before .before .before .before .before .args .buf .now) (record { session = s; used = l .used; wrote = l .wrote; stops = false; full = true }) (l .store) (l .log) (l .out)) (sym (c .session-of .ensures))
-          (fed-on _ _ _ _ _ _ _ _ (l .inv .0 .within) (l .inv .0 .fits) _ (l .inv .0 .heard) (λ e. never e) (λ e. omega (arith, l .inv .3, c .before .if1 .taken))),
-      subst (λ (s : Session). Reachable (leftBy false s (l .store) (l .log))) (sym (c .session-of .ensures)) (reach-left (sessionOf (l .live) (l .words) (l .bench)) (l .store) (l .log) (l .inv .0 .reach)),
+    let l = c .before .before .lines in (
+      fed-on _ _ _ _ _ _ _ _ (l .inv .0 .within) (l .inv .0 .fits) _ (l .inv .0 .heard) (λ e. never e) (λ e. omega (arith, l .inv .3, c .if1 .taken)),
+      reach-left (sessionOf (l .live) (l .words) (l .bench)) (l .store) (l .log) (l .inv .0 .reach),
     )
 
 line-end-requires : tie.Need-line-end-requires Inv-loop μ-loop Inv-lines μ-lines
 line-end-requires c κs = c .before .before .lines .inv .0 .within
 
-session-of-requires-2 : tie.Need-session-of-requires-2 Inv-loop μ-loop Inv-lines μ-lines
-session-of-requires-2 c κs = search needs
-
 same-length-4 : tie.Need-same-length-4 Inv-loop μ-loop Inv-lines μ-lines
-same-length-4 c = c .before .before .before .before .before .lines .inv .1
+same-length-4 c = c .before .before .before .before .lines .inv .1
 
 same-length-5 : tie.Need-same-length-5 Inv-loop μ-loop Inv-lines μ-lines
-same-length-5 c = c .before .before .before .before .before .lines .inv .2
+same-length-5 c = c .before .before .before .before .lines .inv .2
 
 same-length-6 : tie.Need-same-length-6 Inv-loop μ-loop Inv-lines μ-lines
-same-length-6 c = c .before .before .before .before .before .lines .inv .3
+same-length-6 c = c .before .before .before .before .lines .inv .3
 
 returns-2 : tie.Need-returns-2 Inv-loop μ-loop Inv-lines μ-lines
 returns-2 c =
-    let l = c .before .before .before .before .before .lines in
-    let s = c .before .before .before .before .before .before .before .before .before .before .before .before .args .buf .now in (
-      subst (λ (t : Session). FedBy (programOf (c .before .before .before .before .before .before .before .before .before .before .before .before .args .session) (c .before .before .before .before .before .before .before .before .before .before .before .before .args .store .now) (c .before .before .before .before .before .before .before .before .before .before .before .before .args .log .now)) (c .before .before .before .before .before .before .before .before .before .before .before .before .args .buf .now) (record { session = t; used = l .used; wrote = l .wrote; stops = false; full = false }) (l .store) (l .log) (l .out)) (sym (c .session-of2 .ensures))
-          (fed-on _ _ _ _ _ _ _ _ (l .inv .0 .within) (l .inv .0 .fits) _ (l .inv .0 .heard) (λ e. let o : spec.Open (drop (l .used) s) = omega (arith, length-drop (l .used) s, l .inv .0 .within, c .before .before .line-end .ensures, c .before .if2 .taken) in o) (λ e. never (sym e))),
-      subst (λ (t : Session). Reachable (leftBy false t (l .store) (l .log))) (sym (c .session-of2 .ensures)) (reach-left (sessionOf (l .live) (l .words) (l .bench)) (l .store) (l .log) (l .inv .0 .reach)),
+    let l = c .before .before .before .before .lines in
+    let s = c .before .before .before .before .before .before .before .before .before .before .args .buf .now in (
+      fed-on _ _ _ _ _ _ _ _ (l .inv .0 .within) (l .inv .0 .fits) _ (l .inv .0 .heard) (λ e. let o : spec.Open (drop (l .used) s) = omega (arith, length-drop (l .used) s, l .inv .0 .within, c .before .line-end .ensures, c .if2 .taken) in o) (λ e. never (sym e)),
+      reach-left (sessionOf (l .live) (l .words) (l .bench)) (l .store) (l .log) (l .inv .0 .reach),
     )
 
 sub-parse : tie.Need-sub-parse Inv-loop μ-loop Inv-lines μ-lines
@@ -102,13 +92,13 @@ part-parse-start : tie.Need-part-parse-start Inv-loop μ-loop Inv-lines μ-lines
 part-parse-start c = omega (arith, c .before .line-end .ensures)
 
 part-parse-end : tie.Need-part-parse-end Inv-loop μ-loop Inv-lines μ-lines
-part-parse-end c = let l = c .before .before .before .before .lines in omega (arith, c .before .line-end .ensures, front-fits (drop (l .used) (c .before .before .before .before .before .before .before .before .before .before .before .args .buf .now)), length-drop (l .used) (c .before .before .before .before .before .before .before .before .before .before .before .args .buf .now), l .inv .0 .within)
+part-parse-end c = let l = c .before .before .before .before .lines in omega (arith, c .before .line-end .ensures, front-fits (drop (l .used) (c .before .before .before .before .before .before .before .before .before .before .args .buf .now)), length-drop (l .used) (c .before .before .before .before .before .before .before .before .before .before .args .buf .now), l .inv .0 .within)
 
 parse-requires : tie.Need-parse-requires Inv-loop μ-loop Inv-lines μ-lines
 parse-requires c κs = search needs
 
 add-used : tie.Need-add-used Inv-loop μ-loop Inv-lines μ-lines
-add-used c = omega (arith, c .before .before .before .line-end .ensures, front-fits (drop (c .before .before .before .before .before .before .lines .used) (c .before .before .before .before .before .before .before .before .before .before .before .before .before .args .buf .now)), length-drop (c .before .before .before .before .before .before .lines .used) (c .before .before .before .before .before .before .before .before .before .before .before .before .before .args .buf .now), c .before .before .before .before .before .before .lines .inv .0 .within, c .before .before .if2 .left)
+add-used c = omega (arith, c .before .before .before .line-end .ensures, front-fits (drop (c .before .before .before .before .before .before .lines .used) (c .before .before .before .before .before .before .before .before .before .before .before .before .args .buf .now)), length-drop (c .before .before .before .before .before .before .lines .used) (c .before .before .before .before .before .before .before .before .before .before .before .before .args .buf .now), c .before .before .before .before .before .before .lines .inv .0 .within, c .before .before .if2 .left)
 
 ask-requires : tie.Need-ask-requires Inv-loop μ-loop Inv-lines μ-lines
 ask-requires c κs = search needs
@@ -149,45 +139,42 @@ lines-again c =
 enum-told-2 : tie.Need-enum-told-2 Inv-loop μ-loop Inv-lines μ-lines
 enum-told-2 c = search needs
 
-session-of-requires-3 : tie.Need-session-of-requires-3 Inv-loop μ-loop Inv-lines μ-lines
-session-of-requires-3 c κs = search needs
-
 play-requires : tie.Need-play-requires Inv-loop μ-loop Inv-lines μ-lines
 play-requires c κs =
-    let l = c .before .before .before .before .before .before .before .before .before .before .before .before .before .before .before .before .lines in
+    let l = c .before .before .before .before .before .before .before .before .before .before .before .before .before .before .before .lines in
     let s = sessionOf (l .live) (l .words) (l .bench) in
-    ((let z : l .wrote + 72 ≤ length (l .out) = omega (arith, l .inv .0 .fits, l .inv .3, c .before .before .before .before .before .before .before .before .before .before .before .before .before .before .if1 .left) in z), ap (λ (x : Session). askedOf (x .live) (c .before .before .before .before .before .before .before .before .before .before .parse .result)) (c .before .before .before .session-of3 .ensures) ∙ sym (c .before .before .before .before .before .before .before .before .before .ask .ensures) ∙ c .before .before .before .before .before .before .before .enum-told .given .1)
+    ((let z : l .wrote + 72 ≤ length (l .out) = omega (arith, l .inv .0 .fits, l .inv .3, c .before .before .before .before .before .before .before .before .before .before .before .before .before .if1 .left) in z), sym (c .before .before .before .before .before .before .before .before .ask .ensures) ∙ c .before .before .before .before .before .before .enum-told .given .1)
 
 same-length-7 : tie.Need-same-length-7 Inv-loop μ-loop Inv-lines μ-lines
-same-length-7 c = c .before .before .before .before .before .before .before .before .before .before .play .kept .1 .1 .0 ∙ c .before .before .before .before .before .before .before .before .before .before .before .before .before .before .before .before .before .before .before .before .before .before .before .before .before .before .before .lines .inv .1
+same-length-7 c = c .before .before .before .before .before .before .before .before .before .play .kept .1 .1 .0 ∙ c .before .before .before .before .before .before .before .before .before .before .before .before .before .before .before .before .before .before .before .before .before .before .before .before .before .lines .inv .1
 
 same-length-8 : tie.Need-same-length-8 Inv-loop μ-loop Inv-lines μ-lines
-same-length-8 c = c .before .before .before .before .before .before .before .before .before .before .play .kept .1 .1 .1 .0 ∙ c .before .before .before .before .before .before .before .before .before .before .before .before .before .before .before .before .before .before .before .before .before .before .before .before .before .before .before .lines .inv .2
+same-length-8 c = c .before .before .before .before .before .before .before .before .before .play .kept .1 .1 .1 .0 ∙ c .before .before .before .before .before .before .before .before .before .before .before .before .before .before .before .before .before .before .before .before .before .before .before .before .before .lines .inv .2
 
 same-length-9 : tie.Need-same-length-9 Inv-loop μ-loop Inv-lines μ-lines
-same-length-9 c = c .before .before .before .before .before .before .before .before .before .before .play .kept .1 .1 .1 .1 .0 ∙ c .before .before .before .before .before .before .before .before .before .before .before .before .before .before .before .before .before .before .before .before .before .before .before .before .before .before .before .lines .inv .3
+same-length-9 c = c .before .before .before .before .before .before .before .before .before .play .kept .1 .1 .1 .1 .0 ∙ c .before .before .before .before .before .before .before .before .before .before .before .before .before .before .before .before .before .before .before .before .before .before .before .before .before .lines .inv .3
 
 returns-3 : tie.Need-returns-3 Inv-loop μ-loop Inv-lines μ-lines
 returns-3 c =
-    let l = c .before .before .before .before .before .before .before .before .before .before .before .before .before .before .before .before .before .before .before .before .before .before .before .before .before .before .before .lines in
+    let l = c .before .before .before .before .before .before .before .before .before .before .before .before .before .before .before .before .before .before .before .before .before .before .before .before .before .lines in
     let s = sessionOf (l .live) (l .words) (l .bench) in (
-      standing-over _ _ s (l .store) (l .log) (l .out) (l .used) (l .wrote) _ _ _ _ _ _ (l .inv .0) (c .before .before .before .before .before .before .before .before .before .before .before .before .before .before .before .before .before .before .before .before .before .before .before .before .line-end .ensures) (c .before .before .before .before .before .before .before .before .before .before .before .before .before .before .before .before .before .before .before .before .before .before .before .if2 .left) (let z : l .wrote + 72 ≤ length (l .out) = omega (arith, l .inv .0 .fits, l .inv .3, c .before .before .before .before .before .before .before .before .before .before .before .before .before .before .before .before .before .before .before .before .before .before .before .before .before .if1 .left) in z) (c .before .before .before .before .before .before .before .before .before .before .before .before .before .before .before .before .before .before .before .before .before .parse .ensures)
-          (subst (λ (x : Session). PlayedBy (respond (programOf x (l .store) (l .log)) (c .before .before .before .before .before .before .before .before .before .before .before .before .before .before .before .before .before .before .before .before .before .parse .result)) (c .before .before .before .before .before .before .before .before .before .before .play .result) (c .before .before .before .before .before .before .before .before .before .before .play .last .1 .1 .0) (c .before .before .before .before .before .before .before .before .before .before .play .last .1 .1 .1 .0) (l .out) (l .wrote) (c .before .before .before .before .before .before .before .before .before .before .play .last .1 .1 .1 .1 .0)) (c .before .before .before .before .before .before .before .before .before .before .before .before .before .before .session-of3 .ensures) (c .before .before .before .before .before .before .before .before .before .before .play .ensures)) (c .if3 .taken),
-      reach-over (c .before .before .before .before .before .before .before .before .before .before .play .result .session) (c .before .before .before .before .before .before .before .before .before .before .play .last .1 .1 .0) (c .before .before .before .before .before .before .before .before .before .before .play .last .1 .1 .1 .0),
+      standing-over _ _ s (l .store) (l .log) (l .out) (l .used) (l .wrote) _ _ _ _ _ _ (l .inv .0) (c .before .before .before .before .before .before .before .before .before .before .before .before .before .before .before .before .before .before .before .before .before .before .line-end .ensures) (c .before .before .before .before .before .before .before .before .before .before .before .before .before .before .before .before .before .before .before .before .before .if2 .left) (let z : l .wrote + 72 ≤ length (l .out) = omega (arith, l .inv .0 .fits, l .inv .3, c .before .before .before .before .before .before .before .before .before .before .before .before .before .before .before .before .before .before .before .before .before .before .before .if1 .left) in z) (c .before .before .before .before .before .before .before .before .before .before .before .before .before .before .before .before .before .before .before .parse .ensures)
+          (c .before .before .before .before .before .before .before .before .before .play .ensures) (c .if3 .taken),
+      reach-over (c .before .before .before .before .before .before .before .before .before .play .result .session) (c .before .before .before .before .before .before .before .before .before .play .last .1 .1 .0) (c .before .before .before .before .before .before .before .before .before .play .last .1 .1 .1 .0),
     )
 
 lines-less-2 : tie.Need-lines-less-2 Inv-loop μ-loop Inv-lines μ-lines
-lines-less-2 c = omega (arith, c .before .before .before .before .before .before .before .before .before .before .before .before .before .before .before .before .before .before .before .before .before .before .before .before .line-end .ensures, c .before .before .before .before .before .before .before .before .before .before .before .before .before .before .before .before .before .before .before .before .before .before .before .before .before .before .lines-test .taken)
+lines-less-2 c = omega (arith, c .before .before .before .before .before .before .before .before .before .before .before .before .before .before .before .before .before .before .before .before .before .before .line-end .ensures, c .before .before .before .before .before .before .before .before .before .before .before .before .before .before .before .before .before .before .before .before .before .before .before .before .lines-test .taken)
 
 lines-again-2 : tie.Need-lines-again-2 Inv-loop μ-loop Inv-lines μ-lines
 lines-again-2 c =
-    let l = c .before .before .before .before .before .before .before .before .before .before .before .before .before .before .before .before .before .before .before .before .before .before .before .before .before .before .before .lines in
+    let l = c .before .before .before .before .before .before .before .before .before .before .before .before .before .before .before .before .before .before .before .before .before .before .before .before .before .lines in
     let s = sessionOf (l .live) (l .words) (l .bench) in (
-      standing-on _ _ s (l .store) (l .log) (l .out) (l .used) (l .wrote) _ _ _ _ _ _ (l .inv .0) (c .before .before .before .before .before .before .before .before .before .before .before .before .before .before .before .before .before .before .before .before .before .before .before .before .line-end .ensures) (c .before .before .before .before .before .before .before .before .before .before .before .before .before .before .before .before .before .before .before .before .before .before .before .if2 .left) (let z : l .wrote + 72 ≤ length (l .out) = omega (arith, l .inv .0 .fits, l .inv .3, c .before .before .before .before .before .before .before .before .before .before .before .before .before .before .before .before .before .before .before .before .before .before .before .before .before .if1 .left) in z) (c .before .before .before .before .before .before .before .before .before .before .before .before .before .before .before .before .before .before .before .before .before .parse .ensures)
-          (subst (λ (x : Session). PlayedBy (respond (programOf x (l .store) (l .log)) (c .before .before .before .before .before .before .before .before .before .before .before .before .before .before .before .before .before .before .before .before .before .parse .result)) (c .before .before .before .before .before .before .before .before .before .before .play .result) (c .before .before .before .before .before .before .before .before .before .before .play .last .1 .1 .0) (c .before .before .before .before .before .before .before .before .before .before .play .last .1 .1 .1 .0) (l .out) (l .wrote) (c .before .before .before .before .before .before .before .before .before .before .play .last .1 .1 .1 .1 .0)) (c .before .before .before .before .before .before .before .before .before .before .before .before .before .before .session-of3 .ensures) (c .before .before .before .before .before .before .before .before .before .before .play .ensures)) (c .if3 .left),
-      c .before .before .before .before .before .before .before .before .before .before .play .kept .1 .1 .0 ∙ l .inv .1,
-      c .before .before .before .before .before .before .before .before .before .before .play .kept .1 .1 .1 .0 ∙ l .inv .2,
-      c .before .before .before .before .before .before .before .before .before .before .play .kept .1 .1 .1 .1 .0 ∙ l .inv .3,
+      standing-on _ _ s (l .store) (l .log) (l .out) (l .used) (l .wrote) _ _ _ _ _ _ (l .inv .0) (c .before .before .before .before .before .before .before .before .before .before .before .before .before .before .before .before .before .before .before .before .before .before .line-end .ensures) (c .before .before .before .before .before .before .before .before .before .before .before .before .before .before .before .before .before .before .before .before .before .if2 .left) (let z : l .wrote + 72 ≤ length (l .out) = omega (arith, l .inv .0 .fits, l .inv .3, c .before .before .before .before .before .before .before .before .before .before .before .before .before .before .before .before .before .before .before .before .before .before .before .if1 .left) in z) (c .before .before .before .before .before .before .before .before .before .before .before .before .before .before .before .before .before .before .before .parse .ensures)
+          (c .before .before .before .before .before .before .before .before .before .play .ensures) (c .if3 .left),
+      c .before .before .before .before .before .before .before .before .before .play .kept .1 .1 .0 ∙ l .inv .1,
+      c .before .before .before .before .before .before .before .before .before .play .kept .1 .1 .1 .0 ∙ l .inv .2,
+      c .before .before .before .before .before .before .before .before .before .play .kept .1 .1 .1 .1 .0 ∙ l .inv .3,
     )
 
 place-of-requires : tie.Need-place-of-requires Inv-loop μ-loop Inv-lines μ-lines
@@ -355,8 +342,8 @@ loop-again c =
 count-restart-requires : tie.Need-count-restart-requires Inv-loop μ-loop Inv-lines μ-lines
 count-restart-requires c κs = search needs
 
-mul-t58 : tie.Need-mul-t58 Inv-loop μ-loop Inv-lines μ-lines
-mul-t58 c = search needs
+mul-t56 : tie.Need-mul-t56 Inv-loop μ-loop Inv-lines μ-lines
+mul-t56 c = search needs
 
 element-set-from-bench : tie.Need-element-set-from-bench Inv-loop μ-loop Inv-lines μ-lines
 element-set-from-bench c = search needs
@@ -384,24 +371,20 @@ loop-again-2 c =
       k .inv .4,
     )
 
-session-of-requires-4 : tie.Need-session-of-requires-4 Inv-loop μ-loop Inv-lines μ-lines
-session-of-requires-4 c κs = search needs
-
 same-length-10 : tie.Need-same-length-10 Inv-loop μ-loop Inv-lines μ-lines
-same-length-10 c = c .before .before .lines .inv .1
+same-length-10 c = c .before .lines .inv .1
 
 same-length-11 : tie.Need-same-length-11 Inv-loop μ-loop Inv-lines μ-lines
-same-length-11 c = c .before .before .lines .inv .2
+same-length-11 c = c .before .lines .inv .2
 
 same-length-12 : tie.Need-same-length-12 Inv-loop μ-loop Inv-lines μ-lines
-same-length-12 c = c .before .before .lines .inv .3
+same-length-12 c = c .before .lines .inv .3
 
 returns-4 : tie.Need-returns-4 Inv-loop μ-loop Inv-lines μ-lines
 returns-4 c =
-    let l = c .before .before .lines in (
-      subst (λ (t : Session). FedBy (programOf (c .before .before .before .before .before .before .before .before .before .args .session) (c .before .before .before .before .before .before .before .before .before .args .store .now) (c .before .before .before .before .before .before .before .before .before .args .log .now)) (c .before .before .before .before .before .before .before .before .before .args .buf .now) (record { session = t; used = l .used; wrote = l .wrote; stops = false; full = false }) (l .store) (l .log) (l .out)) (sym (c .session-of4 .ensures))
-          (fed-on _ _ _ _ _ _ _ _ (l .inv .0 .within) (l .inv .0 .fits) _ (l .inv .0 .heard) (λ e. nothing-open (c .before .before .before .before .before .before .before .before .before .args .buf .now) (l .used) (omega (arith, c .before .lines-test .left))) (λ e. never (sym e))),
-      subst (λ (t : Session). Reachable (leftBy false t (l .store) (l .log))) (sym (c .session-of4 .ensures)) (reach-left (sessionOf (l .live) (l .words) (l .bench)) (l .store) (l .log) (l .inv .0 .reach)),
+    let l = c .before .lines in (
+      fed-on _ _ _ _ _ _ _ _ (l .inv .0 .within) (l .inv .0 .fits) _ (l .inv .0 .heard) (λ e. nothing-open (c .before .before .before .before .before .before .before .args .buf .now) (l .used) (omega (arith, c .lines-test .left))) (λ e. never (sym e)),
+      reach-left (sessionOf (l .live) (l .words) (l .bench)) (l .store) (l .log) (l .inv .0 .reach),
     )
 
 pub feed-spec : {M : Type 1} → statement M
@@ -414,13 +397,11 @@ feed-spec =
     μ-lines
     lines-holds
     sub-if1
-    session-of-requires
     same-length
     same-length-2
     same-length-3
     returns
     line-end-requires
-    session-of-requires-2
     same-length-4
     same-length-5
     same-length-6
@@ -439,7 +420,6 @@ feed-spec =
     lines-less
     lines-again
     enum-told-2
-    session-of-requires-3
     play-requires
     same-length-7
     same-length-8
@@ -475,12 +455,11 @@ feed-spec =
     loop-less
     loop-again
     count-restart-requires
-    mul-t58
+    mul-t56
     element-set-from-bench
     sub-left-2
     loop-less-2
     loop-again-2
-    session-of-requires-4
     same-length-10
     same-length-11
     same-length-12

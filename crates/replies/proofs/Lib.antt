@@ -1,0 +1,4 @@
+pub mod Ways
+pub mod Shows
+pub mod Fronts
+pub mod Replies

@@ -1,0 +1,167 @@
+-- What the calls on a bench leave of the program.
+use Prim.Native.Nat.{ℕ, min}
+use native.Mathlib.Omega.{arith}
+use mathlib.Core.Path.{_≡_, refl, ap, sym, subst, _∙_}
+use mathlib.Core.Bool.{Bool, true, false}
+use mathlib.Core.List.{List, [], _∷_, _++_}
+use lib.ListN.{length, take, drop}
+use lib.Dec.{T}
+use Rattle.model.specs.declared.Bench.{Bench}
+use Rattle.model.specs.declared.Answer.{Answer}
+use Rattle.model.specs.declared.Answer.the-variants.{Accepted, Numbered, GoesOn, Finished, HandedOut, Empty, Full, Refused}
+use Rattle.model.specs.declared.Operation.{Operation}
+use Rattle.model.specs.declared.Command.{Command}
+use Rattle.model.specs.declared.Command.the-variants.{Steps}
+use Rattle.model.specs.declared.Counts.{Counts}
+use Rattle.model.specs.Tests.{if_then_else_}
+use Rattle.model.specs.World.{World, Outcome}
+use Rattle.model.specs.Calls.{lent, freshOf, beginOf, commit}
+use Rattle.lines.specs.declared.Act.{Act}
+use Rattle.lines.specs.Act.{enact}
+use Rattle.machine.specs.declared.Stop.{Stop}
+use Rattle.machine.specs.declared.Stop.the-variants.{No, Why}
+use Rattle.machine.specs.Turns.{BeginStops}
+use Rattle.model.specs.Counts.{countsOf}
+use Rattle.model.specs.Listing.{Program, waiting, playing, ended, printed, isRefused, totals, reply, opened, told, bad, respond}
+use Rattle.text.specs.Numbers.{lineOf, Placed}
+use Rattle.replies.specs.declared.Judged.the-variants.{Made, Stopped}
+use Rattle.replies.specs.declared.Asked.the-variants.{Other, Step}
+use Rattle.replies.specs.declared.Session.{Session}
+use Rattle.replies.specs.declared.Played.{Played}
+use Rattle.replies.specs.Shown.{shown, shownAll}
+use Rattle.replies.specs.Sessions.{worldOf, programOf, leftBy, PlayedBy}
+use Rattle.replies.specs.Choices.{judgedOf, askedOf, CalmBy}
+use Rattle.replies.proofs.Shows.{shows-one}
+use Rattle.replies.proofs.Fronts.{lent-front, given-back, unchanged}
+use Rattle.replies.proofs.Ways.{either, never}
+
+-- a session that plays, and one that waits
+abbrev pub live : ℕ → Bench → Session
+live w b = record { live = true; words = w; bench = b }
+
+abbrev pub played : Session → ℕ → Played
+played s e = record { session = s; end = e; stops = false }
+
+pub program-live : (s : Session) (m l : List ℕ) → s .live ≡ true → programOf s m l ≡ playing (worldOf s m l)
+unfolding if_then_else_
+program-live s m l e = ap (λ (b : Bool). if b then playing (worldOf s m l) else waiting m l) e
+
+pub program-waits : (s : Session) (m l : List ℕ) → s .live ≡ false → programOf s m l ≡ waiting m l
+unfolding if_then_else_
+program-waits s m l e = ap (λ (b : Bool). if b then playing (worldOf s m l) else waiting m l) e
+
+pub left-on : (b : Bool) (s : Session) (m l : List ℕ) → b ≡ false → leftBy b s m l ≡ programOf s m l
+unfolding if_then_else_
+left-on b s m l e = ap (λ (x : Bool). leftBy x s m l) e
+
+-- a begin or a step: the bench and its memory as the outcome has them, and the answer's text
+pub told-by : (d : Outcome) (b : Bench) (a : Answer) (w : ℕ) (m l : List ℕ) (e : ℕ) (before : List ℕ) (at : ℕ) (after : List ℕ) → record { world = lent b (take w m) l; answer = a } ≡ d → Placed before at (shownAll (printed a)) e after →
+    PlayedBy (told d) (played (live w b) e) m l before at after
+told-by d b a w m l e before at after o t = record {
+  program = left-on false (live w b) m l refl ∙ program-live (live w b) m l refl ∙ ap (λ (x : Outcome). playing (x .world)) o;
+  text = subst (λ (x : Outcome). Placed before at (shownAll (printed (x .answer))) e after) o t;
+}
+
+-- a begin on the words that were lent
+pub begun-by : (s b : Bench) (a : Answer) (i : ℕ) (op : Operation) (w n : ℕ) (m l : List ℕ) → n ≡ min w (length m) → record { world = lent b (take n m) l; answer = a } ≡ beginOf (lent s (take n m) l) i op →
+    record { world = lent b (take w m) l; answer = a } ≡ beginOf (lent s (take w m) l) i op
+begun-by s b a i op w n m l e o = subst (λ (x : List ℕ). record { world = lent b x l; answer = a } ≡ beginOf (lent s x l) i op) (lent-front w n m e) o
+
+-- an act on the words that were lent, p as it leaves them
+pub acted-by : (s b : Bench) (a : Answer) (x : Act) (i w n : ℕ) (m l p l′ : List ℕ) → n ≡ min w (length m) → length p ≡ length (take n m) → record { world = lent b p l′; answer = a } ≡ commit (lent s (take n m) l) i (enact (s .queue) (take n m) x) →
+    record { world = lent b (take w (p ++ drop n m)) l′; answer = a } ≡ commit (lent s (take w m) l) i (enact (s .queue) (take w m) x)
+acted-by s b a x i w n m l p l′ e f o =
+    ap (λ (y : List ℕ). record { world = lent b y l′; answer = a }) (given-back w n m e p f) ∙ o ∙ ap (λ (y : List ℕ). commit (lent s y l) i (enact (s .queue) y x)) (lent-front w n m e)
+
+-- a begin that is refused at once
+pub calm-begin : (v : Bool) (W : World) (i : ℕ) (op : Operation) (c : Command) (r : Stop) → v ≡ true → BeginStops W i op r → respond (playing W) c ≡ told (beginOf W i op) → CalmBy v W c r
+calm-begin v W i op c No h b e = tt
+calm-begin v W i op c (Why x) h b e = (h, e ∙ ap told b)
+
+-- a `step` while a bench is played asks for steps
+pub asks-steps : (c : Command) (i n : ℕ) → c ≡ Steps i n → askedOf true c ≡ Other → ⊥
+unfolding if_then_else_
+asks-steps c i n e h = let z : Step i n ≡ Other = ap (askedOf true) (sym e) ∙ h in let y : _≡_ {A = ℕ} 0 1 = cc in omega arith
+
+-- a refused fresh leaves the store as it was
+abbrev Leaves : List ℕ → Outcome → Type 0
+Leaves m d = isRefused (d .answer) ≡ true → d .world .store ≡ m
+
+fresh-leaves : (k w c n : ℕ) (m l : List ℕ) → Leaves m (freshOf k w c n m l)
+unfolding freshOf
+fresh-leaves k w c n m l =
+    either (Leaves m) _ _ _ (either (Leaves m) _ _ _ (either (Leaves m) _ _ _ (either (Leaves m) _ _ _ (either (Leaves m) _ _ _
+    (λ e. never (sym e)) (λ e. refl)) (λ e. refl)) (λ e. refl)) (λ e. refl)) (λ e. refl)
+
+-- `judge` tells a refusal
+pub judged-made : (a : Answer) → judgedOf a ≡ Made → isRefused a ≡ false
+judged-made Accepted e = refl
+judged-made (Numbered n) e = refl
+judged-made GoesOn e = refl
+judged-made (Finished i t) e = refl
+judged-made (HandedOut i t) e = refl
+judged-made (Empty i) e = refl
+judged-made (Full i t) e = refl
+judged-made (Refused r) e = cc
+
+pub judged-stopped : (a : Answer) → judgedOf a ≡ Stopped → isRefused a ≡ true
+judged-stopped Accepted e = cc
+judged-stopped (Numbered n) e = cc
+judged-stopped GoesOn e = cc
+judged-stopped (Finished i t) e = cc
+judged-stopped (HandedOut i t) e = cc
+judged-stopped (Empty i) e = cc
+judged-stopped (Full i t) e = cc
+judged-stopped (Refused r) e = refl
+
+-- a line out of place, where the program stands
+pub bad-at : {P Q : Program} (p : Played) (m l before : List ℕ) (at : ℕ) (after : List ℕ) → P ≡ Q → PlayedBy (bad P) p m l before at after → PlayedBy (bad Q) p m l before at after
+bad-at p m l before at after e by = subst (λ (X : Program). PlayedBy (bad X) p m l before at after) e by
+
+-- `queue`, on the words that were lent, p as fresh leaves them
+module _ (k v c i w n : ℕ) (m l p : List ℕ) (b : Bench) (a : Answer) (e : ℕ) (before : List ℕ) (at : ℕ) (after : List ℕ)
+    (lends : n ≡ min w (length m)) (kept : length p ≡ length (take n m))
+    (made : record { world = lent b p l; answer = a } ≡ freshOf k v c i (take n m) l) (t : Placed before at (shownAll (printed a)) e after) where
+  made-on : record { world = lent b p l; answer = a } ≡ freshOf k v c i (take w m) l
+  made-on = made ∙ ap (λ (x : List ℕ). freshOf k v c i x l) (lent-front w n m lends)
+
+  shows : Placed before at (shownAll (printed (freshOf k v c i (take w m) l .answer))) e after
+  shows = subst (λ (x : Outcome). Placed before at (shownAll (printed (x .answer))) e after) made-on t
+
+  verdict : (x : Bool) → isRefused a ≡ x → isRefused (freshOf k v c i (take w m) l .answer) ≡ x
+  verdict x h = ap (λ (d : Outcome). isRefused (d .answer)) (sym made-on) ∙ h
+
+  choose : (x : Bool) (P Q : Program) → isRefused (freshOf k v c i (take w m) l .answer) ≡ x → (if isRefused (freshOf k v c i (take w m) l .answer) then P else Q) ≡ (if x then P else Q)
+  choose x P Q h = ap (λ (y : Bool). if y then P else Q) h
+
+  pub opened-by : isRefused a ≡ false → PlayedBy (opened (waiting m l) (freshOf k v c i (take w m) l)) (played (live w b) e) (p ++ drop n m) l before at after
+  unfolding if_then_else_
+  opened-by h = record {
+    program =
+        left-on false (live w b) (p ++ drop n m) l refl ∙ program-live (live w b) (p ++ drop n m) l refl
+        ∙ ap (λ (x : List ℕ). playing (lent b x l)) (given-back w n m lends p kept)
+        ∙ ap (λ (x : Outcome). playing (x .world)) made-on ∙ sym (choose false (waiting m l) (playing (freshOf k v c i (take w m) l .world)) (verdict false h));
+    text = shows;
+  }
+
+  pub refused-by : (s : Session) → s .live ≡ false → isRefused a ≡ true → PlayedBy (opened (waiting m l) (freshOf k v c i (take w m) l)) (played s e) (p ++ drop n m) l before at after
+  unfolding if_then_else_
+  refused-by s q h =
+      let same : p ≡ take n m = ap (λ (x : Outcome). x .world .store) made ∙ fresh-leaves k v c i (take n m) l (ap (λ (d : Outcome). isRefused (d .answer)) (sym made) ∙ h) in record {
+        program =
+            left-on false s (p ++ drop n m) l refl ∙ program-waits s (p ++ drop n m) l q ∙ ap (λ (x : List ℕ). waiting x l) (unchanged w n m lends p same)
+            ∙ sym (choose true (waiting m l) (playing (freshOf k v c i (take w m) l .world)) (verdict true h));
+        text = shows;
+      }
+
+-- `end`: the counts of the words that were lent
+pub total-by : (s : Session) (n : ℕ) (m l : List ℕ) (c : Counts) (e : ℕ) (before : List ℕ) (at : ℕ) (after : List ℕ) → n ≡ min (s .words) (length m) → c ≡ countsOf (lent (s .bench) (take n m) l) →
+    Placed before at (lineOf 84 (c .finished ∷ c .handouts ∷ c .different ∷ c .restarts ∷ c .window ∷ c .lost ∷ [])) e after →
+    PlayedBy (reply ended (totals (countsOf (worldOf s m l)) ∷ [])) (record { session = s; end = e; stops = true }) m l before at after
+unfolding if_then_else_ shown
+total-by s n m l c e before at after h f t = record {
+  program = refl;
+  text = shows-one 84 (totals (countsOf (worldOf s m l))) _ (refl) before at e after
+      (subst (λ (x : Counts). Placed before at (lineOf 84 (x .finished ∷ x .handouts ∷ x .different ∷ x .restarts ∷ x .window ∷ x .lost ∷ [])) e after)
+      (f ∙ ap (λ (x : List ℕ). countsOf (lent (s .bench) x l)) (lent-front (s .words) n m h)) t);
+}

@@ -1,0 +1,68 @@
+-- The text of what is printed, and its length.
+use Prim.Native.Nat.{ℕ, _+_, _*_, _≤_}
+use native.Mathlib.Omega.{arith}
+use mathlib.Core.Path.{_≡_, refl, ap, sym, _∙_}
+use mathlib.Core.List.{List, [], _∷_, _++_, append-assoc, append-nil}
+use lib.ListN.{length}
+use Rattle.model.specs.declared.Answer.{Answer}
+use Rattle.model.specs.declared.Answer.the-variants.{Accepted, Numbered, GoesOn, Finished, HandedOut, Empty, Full, Refused}
+use Rattle.model.specs.declared.Counts.{Counts}
+use Rattle.model.specs.Answers.{numberOf}
+use Rattle.model.specs.Listing.{Print, D, H, E, F, R, printed, totals}
+use Rattle.text.specs.Numbers.{lineOf, Placed}
+use Rattle.text.proofs.Spell.{line-most}
+use Rattle.replies.specs.Shown.{shown, shownAll}
+
+pub show-none : shownAll [] ≡ []
+unfolding shownAll
+show-none = refl
+
+pub show-one : (p : Print) → shownAll (p ∷ []) ≡ shown p
+unfolding shownAll
+show-one p = append-nil (shown p)
+
+pub show-append : (ps qs : List Print) → shownAll (ps ++ qs) ≡ shownAll ps ++ shownAll qs
+unfolding shownAll
+show-append [] qs = refl
+show-append (p ∷ ps) qs = ap (λ (l : List ℕ). shown p ++ l) (show-append ps qs) ∙ sym (append-assoc (shown p) (shownAll ps) (shownAll qs))
+
+most : (x k : ℕ) (p : Print) (ns : List ℕ) → shown p ≡ lineOf x ns → 2 + 11 * length ns ≤ k → length (shownAll (p ∷ [])) ≤ k
+most x k p ns e h = rw (show-one p, e) (omega (arith, line-most x ns))
+
+-- an answer prints at most one line, of at most three numbers
+pub answer-lines : (a : Answer) → length (printed a) ≤ 1
+answer-lines Accepted = omega arith
+answer-lines (Numbered n) = omega arith
+answer-lines GoesOn = omega arith
+answer-lines (Finished i t) = omega arith
+answer-lines (HandedOut i t) = omega arith
+answer-lines (Empty i) = omega arith
+answer-lines (Full i t) = omega arith
+answer-lines (Refused r) = omega arith
+
+pub answer-most : (a : Answer) → length (shownAll (printed a)) ≤ 35
+unfolding shown
+answer-most Accepted = rw show-none (omega arith)
+answer-most (Numbered n) = rw show-none (omega arith)
+answer-most GoesOn = rw show-none (omega arith)
+answer-most (Finished i t) = most _ 35 (D (t .number)) (t .number ∷ []) refl (omega arith)
+answer-most (HandedOut i t) = most _ 35 (H i (t .number) (t .payload)) (i ∷ t .number ∷ t .payload ∷ []) refl (omega arith)
+answer-most (Empty i) = most _ 35 (E i) (i ∷ []) refl (omega arith)
+answer-most (Full i t) = most _ 35 (F (t .number)) (t .number ∷ []) refl (omega arith)
+answer-most (Refused r) = most _ 35 (R (numberOf r)) (numberOf r ∷ []) refl (omega arith)
+
+pub totals-most : (c : Counts) → length (shownAll (totals c ∷ [])) ≤ 72
+unfolding shown
+totals-most c =
+    most _ 72 (totals c) (c .finished ∷ c .handouts ∷ c .different ∷ c .restarts ∷ c .window ∷ c .lost ∷ []) refl (omega arith)
+
+-- what an answer prints, as the code puts it into the output: nothing, or one line
+pub shows-none : (b : List ℕ) (at : ℕ) → Placed b at (shownAll []) at b
+shows-none b at = rw show-none (record { ends = omega arith; put = refl })
+
+module _ (x : ℕ) (p : Print) (ns : List ℕ) (is : shown p ≡ lineOf x ns) where
+  pub shows-room : (at n : ℕ) → at + length (shownAll (p ∷ [])) ≤ n → at + length (lineOf x ns) ≤ n
+  shows-room at n h = omega (arith, ap length (show-one p ∙ is))
+
+  pub shows-one : (b : List ℕ) (at e : ℕ) (a : List ℕ) → Placed b at (lineOf x ns) e a → Placed b at (shownAll (p ∷ [])) e a
+  shows-one b at e a h = rw (show-one p, is) h

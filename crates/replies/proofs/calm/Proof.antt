@@ -1,0 +1,92 @@
+use borrow.Author.Needs.{needs}
+use mathlib.Core.Path.{_≡_, refl, sym, ap, subst}
+use mathlib.Core.Bool.{true}
+use borrow.Author.Tests.{not-false}
+use Rattle.model.specs.declared.Operation.the-variants.{Put, Take, Steal}
+use Rattle.model.specs.Calls.{lent}
+use Rattle.model.specs.Listing.{playing, respond}
+use Rattle.replies.proofs.Replies.{calm-begin}
+use Rattle.replies.proofs.calm.Statement.{statement}
+use Rattle.replies.proofs.calm.Tie as tie
+
+returns : tie.Need-returns
+returns c = search needs
+
+enum-told : tie.Need-enum-told
+enum-told c = search needs
+
+enum-known-command : tie.Need-enum-known-command
+enum-known-command c = search needs
+
+begin-stop-requires : tie.Need-begin-stop-requires
+begin-stop-requires c κs = c .before .before .before .before .pre (not-false _ (c .before .before .before .if1 .left))
+
+enum-told-2 : tie.Need-enum-told-2
+enum-told-2 c = search needs
+
+begin-stop-requires-2 : tie.Need-begin-stop-requires-2
+begin-stop-requires-2 c κs = c .before .before .before .pre (not-false _ (c .before .before .if1 .left))
+
+enum-known-command-2 : tie.Need-enum-known-command-2
+enum-known-command-2 c = search needs
+
+begin-stop-requires-3 : tie.Need-begin-stop-requires-3
+begin-stop-requires-3 c κs = c .before .before .before .before .pre (not-false _ (c .before .before .before .if1 .left))
+
+enum-told-3 : tie.Need-enum-told-3
+enum-told-3 c = search needs
+
+enum-told-4 : tie.Need-enum-told-4
+enum-told-4 c = search needs
+
+enum-told-5 : tie.Need-enum-told-5
+enum-told-5 c = search needs
+
+returns-2 : tie.Need-returns-2
+unfolding respond
+returns-2 c = λ m l v. (not-false _ (c .before .before .if1 .left), rw (c .enum-told .given .1) refl)
+
+returns-3 : tie.Need-returns-3
+unfolding respond
+returns-3 c = λ m l v. let h = not-false _ (c .before .before .before .before .if1 .left) in calm-begin _ _ _ _ (c .before .before .before .before .before .args .command) (c .begin-stop .result) h (c .begin-stop .ensures m l (v h)) (ap (respond (playing (lent (c .before .before .before .before .before .args .bench) m l))) (c .before .before .command .given .1))
+
+returns-4 : tie.Need-returns-4
+unfolding respond
+returns-4 c = λ m l v. let h = not-false _ (c .before .before .before .if1 .left) in calm-begin _ _ _ _ (c .before .before .before .before .args .command) (c .begin-stop2 .result) h (c .begin-stop2 .ensures m l (v h)) (ap (respond (playing (lent (c .before .before .before .before .args .bench) m l))) (c .before .enum-told2 .given .1))
+
+returns-5 : tie.Need-returns-5
+unfolding respond
+returns-5 c = λ m l v. let h = not-false _ (c .before .before .before .before .if1 .left) in calm-begin _ _ _ _ (c .before .before .before .before .before .args .command) (c .begin-stop3 .result) h (c .begin-stop3 .ensures m l (v h)) (ap (respond (playing (lent (c .before .before .before .before .before .args .bench) m l))) (c .before .before .command2 .given .1))
+
+returns-6 : tie.Need-returns-6
+returns-6 c = search needs
+
+returns-7 : tie.Need-returns-7
+returns-7 c = search needs
+
+returns-8 : tie.Need-returns-8
+unfolding respond
+returns-8 c = λ m l v. (not-false _ (c .before .before .if1 .left), rw (c .enum-told5 .given .1) refl)
+
+pub calm-spec : {M : Type 1} → statement M
+calm-spec =
+    tie.close
+    (tie.spec
+    returns
+    enum-told
+    enum-known-command
+    begin-stop-requires
+    enum-told-2
+    begin-stop-requires-2
+    enum-known-command-2
+    begin-stop-requires-3
+    enum-told-3
+    enum-told-4
+    enum-told-5
+    returns-2
+    returns-3
+    returns-4
+    returns-5
+    returns-6
+    returns-7
+    returns-8)

@@ -1,0 +1,73 @@
+use mathlib.Core.Path.{sym, _∙_}
+use Rattle.replies.proofs.Replies.{judged-made, judged-stopped, opened-by, refused-by}
+use native.Mathlib.Omega.{arith}
+use lib.Seq.{length-take-le}
+use Rattle.replies.proofs.Shows.{answer-most}
+use borrow.Author.Needs.{needs}
+use Rattle.replies.proofs.open_queue.Statement.{statement}
+use Rattle.replies.proofs.open_queue.Tie as tie
+
+span-requires : tie.Need-span-requires
+span-requires c κs = search needs
+
+slice-relend-prefix-fresh : tie.Need-slice-relend-prefix-fresh
+slice-relend-prefix-fresh c = search needs
+
+slice-aggregate-fresh : tie.Need-slice-aggregate-fresh
+slice-aggregate-fresh c = sym (length-take-le _ _ (omega (arith, c .before .span .ensures)))
+
+fresh-requires : tie.Need-fresh-requires
+fresh-requires c κs = search needs
+
+show-requires : tie.Need-show-requires
+show-requires c κs = omega (arith, answer-most (c .before .before .before .fresh .result .answer))
+
+judge-requires : tie.Need-judge-requires
+judge-requires c κs = search needs
+
+enum-told : tie.Need-enum-told
+enum-told c = search needs
+
+enum-told-2 : tie.Need-enum-told-2
+enum-told-2 c = search needs
+
+same-length : tie.Need-same-length
+same-length c = search needs
+
+same-length-2 : tie.Need-same-length-2
+same-length-2 c = search needs
+
+returns : tie.Need-returns
+returns c = let a = c .before .before .before .before .before .before .before .before .before .before .before .before .before .before .before .args in λ l.
+    refused-by (a .kind) (a .width) (a .size) (a .workers) (a .words) _ (a .store .now) l _ (c .before .before .before .before .before .before .before .before .before .fresh .result .bench) (c .before .before .before .before .before .before .before .before .before .fresh .result .answer) _ _ _ _ (c .before .before .before .before .before .before .before .before .before .before .before .span .ensures) (c .before .before .before .before .before .before .before .before .before .fresh .kept .1 .1 .1 .1 .0) (c .before .before .before .before .before .before .before .before .before .fresh .ensures l) (c .before .before .before .before .before .show .ensures)
+    (a .session) (c .before .before .before .before .before .before .before .before .before .before .before .before .before .before .before .pre .1) (judged-stopped (c .before .before .before .before .before .before .before .before .before .fresh .result .answer) (sym (c .before .before .judge .ensures) ∙ c .enum-told2 .given .1))
+
+same-length-3 : tie.Need-same-length-3
+same-length-3 c = search needs
+
+same-length-4 : tie.Need-same-length-4
+same-length-4 c = search needs
+
+returns-2 : tie.Need-returns-2
+returns-2 c = let a = c .before .before .before .before .before .before .before .before .before .before .before .before .before .before .before .before .args in λ l.
+    opened-by (a .kind) (a .width) (a .size) (a .workers) (a .words) _ (a .store .now) l _ (c .before .before .before .before .before .before .before .before .before .before .fresh .result .bench) (c .before .before .before .before .before .before .before .before .before .before .fresh .result .answer) _ _ _ _ (c .before .before .before .before .before .before .before .before .before .before .before .before .span .ensures) (c .before .before .before .before .before .before .before .before .before .before .fresh .kept .1 .1 .1 .1 .0) (c .before .before .before .before .before .before .before .before .before .before .fresh .ensures l) (c .before .before .before .before .before .before .show .ensures)
+    (judged-made (c .before .before .before .before .before .before .before .before .before .before .fresh .result .answer) (sym (c .before .before .before .judge .ensures) ∙ c .before .enum-told .given .1))
+
+pub open-queue-spec : {M : Type 1} → statement M
+open-queue-spec =
+    tie.close
+    (tie.spec
+    span-requires
+    slice-relend-prefix-fresh
+    slice-aggregate-fresh
+    fresh-requires
+    show-requires
+    judge-requires
+    enum-told
+    enum-told-2
+    same-length
+    same-length-2
+    returns
+    same-length-3
+    same-length-4
+    returns-2)

@@ -1,0 +1,41 @@
+use native.Mathlib.Omega.{arith}
+use mathlib.Core.Path.{sym}
+use lib.Seq.{length-take-le}
+use Rattle.text.proofs.Spell.{line-fits}
+use Rattle.replies.proofs.Replies.{total-by}
+use borrow.Author.Needs.{needs}
+use Rattle.replies.proofs.total.Statement.{statement}
+use Rattle.replies.proofs.total.Tie as tie
+
+span-requires : tie.Need-span-requires
+span-requires c κs = search needs
+
+slice-aggregate-counts : tie.Need-slice-aggregate-counts
+slice-aggregate-counts c = sym (length-take-le _ _ (omega (arith, c .before .before .span .ensures)))
+
+counts-requires : tie.Need-counts-requires
+counts-requires c κs = search needs
+
+slice-aggregate-print : tie.Need-slice-aggregate-print
+slice-aggregate-print c = search needs
+
+print-requires : tie.Need-print-requires
+print-requires c κs = line-fits _ _ _ _ (c .before .before .before .before .before .before .before .before .before .pre) (omega arith)
+
+same-length : tie.Need-same-length
+same-length c = search needs
+
+returns : tie.Need-returns
+returns c = let a = c .before .before .before .before .before .before .before .before .before .before .before .before .args in total-by (a .session) _ (a .store .now) (a .log .now) (c .before .before .before .before .before .counts .result) _ _ _ _ (c .before .before .before .before .before .before .before .before .span .ensures) (c .before .before .before .before .before .counts .ensures) (c .before .before .print .ensures)
+
+pub total-spec : {M : Type 1} → statement M
+total-spec =
+    tie.close
+    (tie.spec
+    span-requires
+    slice-aggregate-counts
+    counts-requires
+    slice-aggregate-print
+    print-requires
+    same-length
+    returns)
