@@ -21,8 +21,8 @@ use Rattle.model.specs.Listing.{Program, playing, printed, respond, stepsOf, Re
 use Rattle.theorems.specs.Reached.{Reached}
 use Rattle.theorems.proofs.Reached.{reached-call, reached-valid}
 use Rattle.machine.specs.declared.Stop.the-variants.{Why}
-use Rattle.machine.specs.declared.Turn.{Turn}
-use Rattle.machine.specs.Turns.{TurnOf}
+use Rattle.machine.specs.declared.Decision.{Decision}
+use Rattle.machine.specs.Decisions.{DecisionOf}
 use Rattle.machine.proofs.Bounds.{bounds-of}
 use Rattle.text.specs.Numbers.{Placed}
 use Rattle.text.specs.Commands.{commandOf}
@@ -32,7 +32,7 @@ use Rattle.replies.specs.declared.Played.{Played}
 use Rattle.replies.specs.Shown.{shownAll}
 use Rattle.listing.specs.Listing.{front}
 use Rattle.replies.specs.Sessions.{worldOf, programOf, leftBy, PlayedBy}
-use Rattle.replies.specs.Choices.{askedOf, CalmBy}
+use Rattle.replies.specs.Choices.{askedOf, RefusedAtOnce}
 use Rattle.listing.specs.Feeding.{Reachable, FedBy}
 use Rattle.replies.proofs.Fronts.{lent-front}
 use Rattle.replies.proofs.Ways.{never}
@@ -84,9 +84,9 @@ module _ (P : Program) (buf : List ℕ) (s : Session) (m l out : List ℕ) (used
   standing-over q = fed-over P buf (p .session) m′ l′ out′ (end + 1) (p .end) (on .within) (on .fits) (p .stops) q (on .heard)
 
 -- a line refused at once
-pub calm-by : (s : Session) (m l : List ℕ) (c : Command) (r : Refusal) (before : List ℕ) (at e : ℕ) (after : List ℕ) → CalmBy (s .live) (worldOf s m l) c (Why r) → Placed before at (shownAll (printed (Refused r))) e after →
+pub at-once-by : (s : Session) (m l : List ℕ) (c : Command) (r : Refusal) (before : List ℕ) (at e : ℕ) (after : List ℕ) → RefusedAtOnce (s .live) (worldOf s m l) c (Why r) → Placed before at (shownAll (printed (Refused r))) e after →
     PlayedBy (respond (programOf s m l) c) (played s e) m l before at after
-calm-by s m l c r before at e after (v, q) t =
+at-once-by s m l c r before at e after (v, q) t =
     let known : respond (programOf s m l) c ≡ record { program = playing (worldOf s m l); output = printed (Refused r) } = ap (λ (P : Program). respond P c) (program-live s m l v) ∙ q in record {
       program = left-on false s m l refl ∙ program-live s m l v ∙ ap (λ (x : Reply). x .program) (sym known);
       text = subst (λ (x : Reply). Placed before at (shownAll (x .output)) e after) (sym known) t;
@@ -132,9 +132,9 @@ crew-of s m l r v = bounds-of (worldOf s m l) (valid-of s m l r v) .crew
 pub valid-front : (b : Bench) (w n : ℕ) (m l : List ℕ) → n ≡ min w (length m) → Reached (lent b (take w m) l) → validOf (lent b (take n m) l) ≡ true
 valid-front b w n m l e r = subst (λ (x : List ℕ). validOf (lent b x l) ≡ true) (sym (lent-front w n m e)) (reached-valid r)
 
--- a look at the words that were lent
-pub turn-front : (b : Bench) (w n : ℕ) (m l : List ℕ) (i : ℕ) (t : Turn) → n ≡ min w (length m) → TurnOf (lent b (take n m) l) i t → TurnOf (lent b (take w m) l) i t
-turn-front b w n m l i t e h = subst (λ (x : List ℕ). TurnOf (lent b x l) i t) (lent-front w n m e) h
+-- a decision on the words that were lent
+pub decision-front : (b : Bench) (w n : ℕ) (m l : List ℕ) (i : ℕ) (t : Decision) → n ≡ min w (length m) → DecisionOf (lent b (take n m) l) i t → DecisionOf (lent b (take w m) l) i t
+decision-front b w n m l i t e h = subst (λ (x : List ℕ). DecisionOf (lent b x l) i t) (lent-front w n m e) h
 
 -- a step leads on to what is reached
 pub reached-step : (W X : World) (i : ℕ) (a : Answer) → record { world = X; answer = a } ≡ stepOf W i → Reached W → Reached X

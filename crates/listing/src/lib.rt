@@ -7,8 +7,8 @@ ghost use Rattle.replies.specs.Sessions.{programOf, leftBy};
 ghost use Rattle.listing.specs.Listing.{front};
 ghost use Rattle.listing.specs.Feeding.{Reachable, FedBy, CarriedBy};
 use lines::Act;
+use machine::Decision;
 use machine::Stop;
-use machine::Turn;
 use model::Answer;
 use model::Worker;
 use replies::Asked;
@@ -82,7 +82,7 @@ pub fn feed(session: Session, buf: &[u8], store: &mut [u32], log: &mut [u32], ou
         used = end + 1;
         let asked = replies::ask(live, command);
         let Asked::Step { worker, times } = asked else {
-            let stop = replies::calm(live, bench, command);
+            let stop = replies::refused_at_once(live, bench, command);
             if let Stop::Why { why } = stop {
                 let answer = Answer::Refused { why };
                 wrote = replies::show(answer, out, wrote);
@@ -118,9 +118,9 @@ pub fn feed(session: Session, buf: &[u8], store: &mut [u32], log: &mut [u32], ou
         while 0 < left {
             let own = bench.workers[i];
             let line = own.line;
-            let turn = machine::look(bench, worker, line, &store[..n], log);
-            let Turn::Acts { act } = turn else {
-                let answer = replies::refusal_of(turn);
+            let decision = machine::decide(bench, worker, line, &store[..n], log);
+            let Decision::Acts { act } = decision else {
+                let answer = replies::refusal_of(decision);
                 wrote = replies::show(answer, out, wrote);
                 continue 'lines;
             };

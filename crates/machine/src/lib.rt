@@ -1,4 +1,4 @@
-// The calls on a bench: fresh, begin, and a step's two halves: what it does (look), and doing it (apply). This is the only code
+// The calls on a bench: fresh, begin, and a step's two halves: deciding what it does (decide), and doing it (apply). This is the only code
 // that writes a store or a log, and it writes only once the whole outcome of the call is known.
 // Uses `model`, `lines`, `limits` and `state`. It is used by `queues`, `replies` and `listing`.
 ghost use mathlib.Core.Path.{_≡_};
@@ -32,7 +32,7 @@ ghost use Rattle.model.specs.Calls.{
 ghost use Rattle.lines.specs.Act.{withArray, changedQueue, changedStore, Fits, enact, InStore};
 ghost use Rattle.state.specs.Pieces.{moved};
 ghost use Rattle.machine.specs.Left.{left};
-ghost use Rattle.machine.specs.Turns.{BeginStops, TurnOf};
+ghost use Rattle.machine.specs.Decisions.{BeginStops, DecisionOf};
 use lines::Act;
 use lines::Change;
 use model::Anchor;
@@ -60,7 +60,7 @@ pub enum Stop {
 }
 
 // What a step does: it is refused, or its line is done, which may still find the log full.
-pub enum Turn {
+pub enum Decision {
     Refused { why: Refusal },
     Acts { act: Act },
 }
@@ -298,25 +298,25 @@ pub fn place_of(worker: u32) -> usize
     7
 }
 
-// The step of a worker that is at `line`, in a state within the limits, looked at and not made. A caller that keeps its bench
+// The step of a worker that is at `line`, in a state within the limits, decided and not made. A caller that keeps its bench
 // in place can so make a step that leaves all but the worker's record as it was by replacing that record.
-pub fn look(bench: Bench, worker: u32, line: Line, store: &[u32], log: &[u32]) -> Turn
+pub fn decide(bench: Bench, worker: u32, line: Line, store: &[u32], log: &[u32]) -> Decision
     requires { ⌜ validOf (lent bench (now store) (now log)) ≡ true ⌝ }
     requires { ⌜ (worker < 8 → line ≡ lineAt (bench .workers) worker) ⌝ }
-    ensures { λ r. ⌜ TurnOf (lent bench (now (store .entry)) (now (log .entry))) worker r ⌝ }
+    ensures { λ r. ⌜ DecisionOf (lent bench (now (store .entry)) (now (log .entry))) worker r ⌝ }
 {
     if bench.crew <= worker {
-        return Turn::Refused {
+        return Decision::Refused {
             why: Refusal::NoSuchWorker,
         };
     }
     if limits::is_idle(line) {
-        return Turn::Refused {
+        return Decision::Refused {
             why: Refusal::IdleWorker,
         };
     }
     let kind = bench.kind;
     let queue = bench.queue;
     let act = lines::decide(kind, bench.width, queue, store, worker, line);
-    Turn::Acts { act }
+    Decision::Acts { act }
 }

@@ -9,13 +9,14 @@ pub enum Kind {
     Deque,
 }
 
-// A task: its put number and the caller's payload.
+// A task: its put number and the caller's payload. The figures' task is the payload alone; the number is the bench's, and tells
+// two tasks with one payload apart.
 pub struct Task {
     pub number: u32,
     pub payload: u32,
 }
 
-// What line 1 reads whole and a compare compares. Double-ended: (h, s, g). LIFO: (t, g) is `count`
+// What line 1 reads whole and a compare (the field's compare-and-swap) compares. Double-ended: (h, s, g). LIFO: (t, g) is `count`
 // and `tag`, `head` is 0. FIFO: head, and the tail in `count`; `tag` is 0.
 pub struct Anchor {
     pub head: u32,
@@ -23,8 +24,9 @@ pub struct Anchor {
     pub tag: u32,
 }
 
-// The line a worker is at, with the values read so far; `read` is the anchor as it read it. Beside
-// each case: the line's number in figures 1 and 3, then in figure 2.
+// The line a worker is at, with the values read so far, a thread's own variables; `read` is the anchor as it read it. Put, take
+// and steal are the figures' names; X1 to X4 are their `expand`. Beside each case: the line's number in figures 1 and 3, then in
+// figure 2.
 pub enum Line {
     Idle,
     // put 1; 1
@@ -137,12 +139,13 @@ pub enum Line {
     },
 }
 
-// A worker's record.
+// A worker's record; a worker is the field's thread.
 pub struct Worker {
     pub line: Line,
 }
 
-// A pair of the directory: an array's offset and length in the store, in words.
+// A pair of the directory: an array's offset and length in the store, in words. Where a figure has a pointer to an array, the
+// bench has the pair's place in the directory: a thief notes the place, as the figure's thief reads the pointer.
 pub struct Region {
     pub offset: u32,
     pub length: u32,
@@ -157,8 +160,8 @@ pub struct Queue {
     pub claimed: u32,
 }
 
-// The bench's state. `crew` counts the workers, `used` the put numbers given out; `written` is the
-// log's length, in words.
+// The bench's state. `crew` counts the workers, `used` the put numbers given out, `restarts` the returns to line 1 (the field's
+// retries); `written` is the log's length, in words.
 pub struct Bench {
     pub kind: Kind,
     pub width: u32,
@@ -194,8 +197,9 @@ pub enum Refusal {
     BadLine,
 }
 
-// What a call answers: a fresh or a begin is accepted (a put with its number); a step goes on, or
-// ends its operation with an entry of the log; or the call is refused.
+// What a call answers: a fresh or a begin is accepted (a put with its number); a step goes on, or ends its operation with an
+// entry of the log; or the call is refused. A hand-out is what the field calls an extraction: a take or a steal returns a task.
+// FULL is the bench's own: the figures' `expand` always finds memory.
 pub enum Answer {
     Accepted,
     Numbered { number: u32 },

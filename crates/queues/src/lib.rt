@@ -11,7 +11,7 @@ ghost use Rattle.model.specs.declared.Answer.the-variants.{Refused};
 ghost use Rattle.model.specs.Calls.{lent, freshOf, beginOf, stepOf, frontOf};
 ghost use Rattle.queues.specs.Left.{left};
 use lines::Act;
-use machine::Turn;
+use machine::Decision;
 use model::Answer;
 use model::Operation;
 use model::Refusal;
@@ -78,10 +78,10 @@ impl Bench {
         let i = machine::place_of(worker);
         let own = next.workers[i];
         let line = own.line;
-        let turn = machine::look(next, worker, line, store, log);
-        match turn {
-            Turn::Refused { why } => return refused(self, why),
-            Turn::Acts { act } => {
+        let decision = machine::decide(next, worker, line, store, log);
+        match decision {
+            Decision::Refused { why } => return refused(self, why),
+            Decision::Acts { act } => {
                 let Act::Goes { line: to } = act else {
                     return faced(machine::apply(next, worker, act, store, log));
                 };

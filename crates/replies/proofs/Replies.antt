@@ -20,7 +20,7 @@ use Rattle.lines.specs.declared.Act.{Act}
 use Rattle.lines.specs.Act.{enact}
 use Rattle.machine.specs.declared.Stop.{Stop}
 use Rattle.machine.specs.declared.Stop.the-variants.{No, Why}
-use Rattle.machine.specs.Turns.{BeginStops}
+use Rattle.machine.specs.Decisions.{BeginStops}
 use Rattle.model.specs.Counts.{countsOf}
 use Rattle.model.specs.Listing.{Program, waiting, playing, ended, printed, isRefused, totals, reply, opened, told, bad, respond}
 use Rattle.text.specs.Numbers.{lineOf, Placed}
@@ -30,7 +30,7 @@ use Rattle.replies.specs.declared.Session.{Session}
 use Rattle.replies.specs.declared.Played.{Played}
 use Rattle.replies.specs.Shown.{shown, shownAll}
 use Rattle.replies.specs.Sessions.{worldOf, programOf, leftBy, PlayedBy}
-use Rattle.replies.specs.Choices.{judgedOf, askedOf, CalmBy}
+use Rattle.replies.specs.Choices.{judgedOf, askedOf, RefusedAtOnce}
 use Rattle.replies.proofs.Shows.{shows-one}
 use Rattle.replies.proofs.Fronts.{lent-front, given-back, unchanged}
 use Rattle.replies.proofs.Ways.{either, never}
@@ -74,9 +74,9 @@ acted-by s b a x i w n m l p l′ e f o =
     ap (λ (y : List ℕ). record { world = lent b y l′; answer = a }) (given-back w n m e p f) ∙ o ∙ ap (λ (y : List ℕ). commit (lent s y l) i (enact (s .queue) y x)) (lent-front w n m e)
 
 -- a begin that is refused at once
-pub calm-begin : (v : Bool) (W : World) (i : ℕ) (op : Operation) (c : Command) (r : Stop) → v ≡ true → BeginStops W i op r → respond (playing W) c ≡ told (beginOf W i op) → CalmBy v W c r
-calm-begin v W i op c No h b e = tt
-calm-begin v W i op c (Why x) h b e = (h, e ∙ ap told b)
+pub begin-at-once : (v : Bool) (W : World) (i : ℕ) (op : Operation) (c : Command) (r : Stop) → v ≡ true → BeginStops W i op r → respond (playing W) c ≡ told (beginOf W i op) → RefusedAtOnce v W c r
+begin-at-once v W i op c No h b e = tt
+begin-at-once v W i op c (Why x) h b e = (h, e ∙ ap told b)
 
 -- a `step` while a bench is played asks for steps
 pub asks-steps : (c : Command) (i n : ℕ) → c ≡ Steps i n → askedOf true c ≡ Other → ⊥

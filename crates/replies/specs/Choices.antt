@@ -10,8 +10,8 @@ use Rattle.model.specs.World.{World}
 use Rattle.model.specs.Listing.{playing, reply, printed, respond}
 use Rattle.machine.specs.declared.Stop.{Stop}
 use Rattle.machine.specs.declared.Stop.the-variants.{No, Why}
-use Rattle.machine.specs.declared.Turn.{Turn}
-use Rattle.machine.specs.declared.Turn.the-variants as turn
+use Rattle.machine.specs.declared.Decision.{Decision}
+use Rattle.machine.specs.declared.Decision.the-variants as decision
 use Rattle.replies.specs.declared.Asked.{Asked}
 use Rattle.replies.specs.declared.Asked.the-variants.{Other, Step}
 use Rattle.replies.specs.declared.Judged.{Judged}
@@ -29,9 +29,9 @@ judgedOf (Full i t) = Made
 judgedOf (Refused r) = Stopped
 
 -- what a step answers that is refused before its line is done
-abbrev pub refusalOf : Turn → Answer
-refusalOf (turn.Refused r) = Refused r
-refusalOf (turn.Acts a) = GoesOn
+abbrev pub refusalOf : Decision → Answer
+refusalOf (decision.Refused r) = Refused r
+refusalOf (decision.Acts a) = GoesOn
 
 -- a line asks a bench that is played for steps, or for something else
 abbrev pub askedOf : Bool → Command → Asked
@@ -44,6 +44,6 @@ askedOf v End = Other
 askedOf v Bad = Other
 
 -- the line is refused and changes nothing, while the bench W is played; or nothing is said of it
-abbrev pub CalmBy : Bool → World → Command → Stop → Type 0
-CalmBy v W c No = Unit {0}
-CalmBy v W c (Why r) = (v ≡ true) × (respond (playing W) c ≡ reply (playing W) (printed (Refused r)))
+abbrev pub RefusedAtOnce : Bool → World → Command → Stop → Type 0
+RefusedAtOnce v W c No = Unit {0}
+RefusedAtOnce v W c (Why r) = (v ≡ true) × (respond (playing W) c ≡ reply (playing W) (printed (Refused r)))

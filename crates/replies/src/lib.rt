@@ -28,10 +28,10 @@ ghost use Rattle.text.specs.Numbers.{Placed};
 ghost use Rattle.replies.specs.declared.Asked.the-variants.{Other};
 ghost use Rattle.replies.specs.Shown.{shownAll};
 ghost use Rattle.replies.specs.Sessions.{worldOf, programOf, PlayedBy};
-ghost use Rattle.replies.specs.Choices.{judgedOf, refusalOf, askedOf, CalmBy};
+ghost use Rattle.replies.specs.Choices.{judgedOf, refusalOf, askedOf, RefusedAtOnce};
 use lines::Act;
+use machine::Decision;
 use machine::Stop;
-use machine::Turn;
 use model::Answer;
 use model::Bench;
 use model::Command;
@@ -158,12 +158,12 @@ pub fn judge(answer: Answer) -> Judged
 }
 
 // What a step that is refused answers.
-pub fn refusal_of(turn: Turn) -> Answer
-    ensures { λ r. ⌜ r ≡ refusalOf turn ⌝ }
+pub fn refusal_of(decision: Decision) -> Answer
+    ensures { λ r. ⌜ r ≡ refusalOf decision ⌝ }
 {
-    match turn {
-        Turn::Refused { why } => Answer::Refused { why },
-        Turn::Acts { act: _ } => Answer::GoesOn,
+    match decision {
+        Decision::Refused { why } => Answer::Refused { why },
+        Decision::Acts { act: _ } => Answer::GoesOn,
     }
 }
 
@@ -439,9 +439,9 @@ pub fn ask(live: bool, command: Command) -> Asked
 }
 
 // Whether a line is refused at once and changes nothing, while a bench is played. `step` is not looked at.
-pub fn calm(live: bool, bench: Bench, command: Command) -> Stop
+pub fn refused_at_once(live: bool, bench: Bench, command: Command) -> Stop
     requires { ⌜ (live ≡ true → bench .crew ≤ 8) ⌝ }
-    ensures { λ r. ⌜ ((m l : List ℕ) → (live ≡ true → validOf (lent bench m l) ≡ true) → CalmBy live (lent bench m l) command r) ⌝ }
+    ensures { λ r. ⌜ ((m l : List ℕ) → (live ≡ true → validOf (lent bench m l) ≡ true) → RefusedAtOnce live (lent bench m l) command r) ⌝ }
 {
     if !live {
         return Stop::No;

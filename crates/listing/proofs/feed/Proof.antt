@@ -12,18 +12,18 @@ use Rattle.model.specs.Listing.{isRefused, stepsOf}
 use Rattle.theorems.specs.Reached.{Reached}
 use Rattle.lines.specs.declared.Act.{Act}
 use Rattle.lines.specs.Act.{enact}
-use Rattle.machine.specs.Turns.{TurnOf}
+use Rattle.machine.specs.Decisions.{DecisionOf}
 use Rattle.machine.proofs.Commits.{goes-by}
 use Rattle.listing.specs.Listing as spec
 use Rattle.replies.specs.Sessions.{worldOf, programOf}
-use Rattle.replies.specs.Choices.{refusalOf, CalmBy}
+use Rattle.replies.specs.Choices.{refusalOf, RefusedAtOnce}
 use Rattle.replies.proofs.Ways.{never}
 use Rattle.listing.proofs.Lines.{front-fits}
 use Rattle.replies.proofs.Shows.{shows-none}
 use Rattle.replies.proofs.Replies.{judged-made, judged-stopped}
 use Rattle.listing.proofs.Stepping.{Stepping, stepping-start, stepping-room, stepping-over, stepping-stops, stepping-on}
 use Rattle.listing.proofs.Feeding.{fed-on, nothing-open}
-use Rattle.listing.proofs.Standing.{sessionOf, Standing, standing-start, standing-on, standing-over, calm-by, asked-live, steps-by, reached-of, crew-of, valid-front, turn-front, reached-step, reach-left, reach-over, valid-of, refusal-room}
+use Rattle.listing.proofs.Standing.{sessionOf, Standing, standing-start, standing-on, standing-over, at-once-by, asked-live, steps-by, reached-of, crew-of, valid-front, decision-front, reached-step, reach-left, reach-over, valid-of, refusal-room}
 use Rattle.listing.proofs.feed.Statement.{statement}
 use Rattle.listing.proofs.feed.Tie as tie
 
@@ -109,8 +109,8 @@ enum-known-asked c = search needs
 enum-told : tie.Need-enum-told Inv-loop μ-loop Inv-lines μ-lines
 enum-told c = search needs
 
-calm-requires : tie.Need-calm-requires Inv-loop μ-loop Inv-lines μ-lines
-calm-requires c κs = crew-of (sessionOf (c .before .before .before .before .before .before .before .before .before .lines .live) (c .before .before .before .before .before .before .before .before .before .lines .words) (c .before .before .before .before .before .before .before .before .before .lines .bench)) (c .before .before .before .before .before .before .before .before .before .lines .store) (c .before .before .before .before .before .before .before .before .before .lines .log) (c .before .before .before .before .before .before .before .before .before .lines .inv .0 .reach)
+refused-at-once-requires : tie.Need-refused-at-once-requires Inv-loop μ-loop Inv-lines μ-lines
+refused-at-once-requires c κs = crew-of (sessionOf (c .before .before .before .before .before .before .before .before .before .lines .live) (c .before .before .before .before .before .before .before .before .before .lines .words) (c .before .before .before .before .before .before .before .before .before .lines .bench)) (c .before .before .before .before .before .before .before .before .before .lines .store) (c .before .before .before .before .before .before .before .before .before .lines .log) (c .before .before .before .before .before .before .before .before .before .lines .inv .0 .reach)
 
 enum-known-stop : tie.Need-enum-known-stop Inv-loop μ-loop Inv-lines μ-lines
 enum-known-stop c = search needs
@@ -128,9 +128,9 @@ lines-again : tie.Need-lines-again Inv-loop μ-loop Inv-lines μ-lines
 lines-again c =
     let l = c .before .before .before .before .before .before .before .before .before .before .before .before .before .before .before .before .before .lines in
     let s = sessionOf (l .live) (l .words) (l .bench) in
-    let calm = subst (CalmBy (l .live) (worldOf s (l .store) (l .log)) (c .before .before .before .before .before .before .before .before .before .before .before .parse .result)) (c .before .before .before .before .before .stop .given .1) (c .before .before .before .before .before .before .before .calm .ensures (take (l .words) (l .store)) (l .log) (valid-of s (l .store) (l .log) (l .inv .0 .reach))) in (
+    let at-once = subst (RefusedAtOnce (l .live) (worldOf s (l .store) (l .log)) (c .before .before .before .before .before .before .before .before .before .before .before .parse .result)) (c .before .before .before .before .before .stop .given .1) (c .before .before .before .before .before .before .before .refused-at-once .ensures (take (l .words) (l .store)) (l .log) (valid-of s (l .store) (l .log) (l .inv .0 .reach))) in (
       standing-on _ _ s (l .store) (l .log) (l .out) (l .used) (l .wrote) _ _ _ _ _ _ (l .inv .0) (c .before .before .before .before .before .before .before .before .before .before .before .before .before .before .line-end .ensures) (c .before .before .before .before .before .before .before .before .before .before .before .before .before .if2 .left) (let z : l .wrote + 72 ≤ length (l .out) = omega (arith, l .inv .0 .fits, l .inv .3, c .before .before .before .before .before .before .before .before .before .before .before .before .before .before .before .if1 .left) in z) (c .before .before .before .before .before .before .before .before .before .before .before .parse .ensures)
-          (calm-by s (l .store) (l .log) (c .before .before .before .before .before .before .before .before .before .before .before .parse .result) (c .before .before .before .before .before .stop .given .0 .0) _ _ _ _ calm (c .before .before .show .ensures)) (refl),
+          (at-once-by s (l .store) (l .log) (c .before .before .before .before .before .before .before .before .before .before .before .parse .result) (c .before .before .before .before .before .stop .given .0 .0) _ _ _ _ at-once (c .before .before .show .ensures)) (refl),
       l .inv .1,
       l .inv .2,
       c .before .before .show .kept .1 .0 ∙ l .inv .3,
@@ -211,14 +211,14 @@ mul-own c = search needs
 element-copy-out-own : tie.Need-element-copy-out-own Inv-loop μ-loop Inv-lines μ-lines
 element-copy-out-own c = omega (arith, c .before .before .before .before .place-of .ensures .0)
 
-slice-reshare-prefix-look : tie.Need-slice-reshare-prefix-look Inv-loop μ-loop Inv-lines μ-lines
-slice-reshare-prefix-look c = omega (arith, c .before .before .before .span .ensures, c .before .before .loop .inv .2)
+slice-reshare-prefix-decide : tie.Need-slice-reshare-prefix-decide Inv-loop μ-loop Inv-lines μ-lines
+slice-reshare-prefix-decide c = omega (arith, c .before .before .before .span .ensures, c .before .before .loop .inv .2)
 
-slice-aggregate-look : tie.Need-slice-aggregate-look Inv-loop μ-loop Inv-lines μ-lines
-slice-aggregate-look c = sym (length-take-le _ _ (omega (arith, c .before .before .before .before .span .ensures, c .before .before .before .loop .inv .2)))
+slice-aggregate-decide : tie.Need-slice-aggregate-decide Inv-loop μ-loop Inv-lines μ-lines
+slice-aggregate-decide c = sym (length-take-le _ _ (omega (arith, c .before .before .before .before .span .ensures, c .before .before .before .loop .inv .2)))
 
-look-requires : tie.Need-look-requires Inv-loop μ-loop Inv-lines μ-lines
-look-requires c κs =
+decide-requires : tie.Need-decide-requires Inv-loop μ-loop Inv-lines μ-lines
+decide-requires c κs =
     let l = c .before .before .before .before .before .before .before .before .before .before .before .before .before .before .before .before .before .before .lines in
     let s = sessionOf (l .live) (l .words) (l .bench) in
     let k = c .before .before .before .before .loop in
@@ -226,8 +226,8 @@ look-requires c κs =
     let e = c .before .before .before .before .before .span .ensures ∙ ap (min (l .words)) (sym (k .inv .2)) in
     (valid-front (k .bench) (l .words) _ (k .store) (k .log) e (k .inv .1), λ h. ap (lineAt (k .bench .workers)) (c .before .before .before .before .before .before .before .place-of .ensures .1 h))
 
-enum-known-turn : tie.Need-enum-known-turn Inv-loop μ-loop Inv-lines μ-lines
-enum-known-turn c = search needs
+enum-known-decision : tie.Need-enum-known-decision Inv-loop μ-loop Inv-lines μ-lines
+enum-known-decision c = search needs
 
 enum-told-3 : tie.Need-enum-told-3 Inv-loop μ-loop Inv-lines μ-lines
 enum-told-3 c = search needs
@@ -242,8 +242,8 @@ show-requires-2 c κs =
     let k = c .before .before .before .before .before .before .before .before .before .loop in
     let t = sessionOf (l .live) (l .words) (k .bench) in
     let e = c .before .before .before .before .before .before .before .before .before .before .span .ensures ∙ ap (min (l .words)) (sym (k .inv .2)) in
-    let look = subst (TurnOf (worldOf t (k .store) (k .log)) (c .before .before .before .before .before .before .before .before .before .before .before .before .before .before .asked .given .0 .0)) (c .before .before .enum-told3 .given .1) (turn-front (k .bench) (l .words) _ (k .store) (k .log) (c .before .before .before .before .before .before .before .before .before .before .before .before .before .before .asked .given .0 .0) (c .before .before .before .before .look .result) e (c .before .before .before .before .look .ensures)) in
-    stepping-room _ _ _ _ _ _ (k .left) _ _ _ _ (k .inv .0) _ (let z : l .wrote + 72 ≤ length (l .out) = omega (arith, l .inv .0 .fits, l .inv .3, c .before .before .before .before .before .before .before .before .before .before .before .before .before .before .before .before .before .before .before .before .before .if1 .left) in z) (c .before .before .before .before .before .before .before .before .loop-test .taken) (c .before .refusal-of .ensures ∙ ap refusalOf (c .before .before .enum-told3 .given .1) ∙ ap (λ (d : Outcome). d .answer) (sym look))
+    let decided = subst (DecisionOf (worldOf t (k .store) (k .log)) (c .before .before .before .before .before .before .before .before .before .before .before .before .before .before .asked .given .0 .0)) (c .before .before .enum-told3 .given .1) (decision-front (k .bench) (l .words) _ (k .store) (k .log) (c .before .before .before .before .before .before .before .before .before .before .before .before .before .before .asked .given .0 .0) (c .before .before .before .before .decide .result) e (c .before .before .before .before .decide .ensures)) in
+    stepping-room _ _ _ _ _ _ (k .left) _ _ _ _ (k .inv .0) _ (let z : l .wrote + 72 ≤ length (l .out) = omega (arith, l .inv .0 .fits, l .inv .3, c .before .before .before .before .before .before .before .before .before .before .before .before .before .before .before .before .before .before .before .before .before .if1 .left) in z) (c .before .before .before .before .before .before .before .before .loop-test .taken) (c .before .refusal-of .ensures ∙ ap refusalOf (c .before .before .enum-told3 .given .1) ∙ ap (λ (d : Outcome). d .answer) (sym decided))
 
 lines-less-4 : tie.Need-lines-less-4 Inv-loop μ-loop Inv-lines μ-lines
 lines-less-4 c = omega (arith, c .before .before .before .before .before .before .before .before .before .before .before .before .before .before .before .before .before .before .before .before .before .before .before .line-end .ensures, c .before .before .before .before .before .before .before .before .before .before .before .before .before .before .before .before .before .before .before .before .before .before .before .before .before .lines-test .taken)
@@ -255,10 +255,10 @@ lines-again-4 c =
     let k = c .before .before .before .before .before .before .before .before .before .before .before .before .loop in
     let t = sessionOf (l .live) (l .words) (k .bench) in
     let e = c .before .before .before .before .before .before .before .before .before .before .before .before .before .span .ensures ∙ ap (min (l .words)) (sym (k .inv .2)) in
-    let look = subst (TurnOf (worldOf t (k .store) (k .log)) (c .before .before .before .before .before .before .before .before .before .before .before .before .before .before .before .before .before .asked .given .0 .0)) (c .before .before .before .before .before .enum-told3 .given .1) (turn-front (k .bench) (l .words) _ (k .store) (k .log) (c .before .before .before .before .before .before .before .before .before .before .before .before .before .before .before .before .before .asked .given .0 .0) (c .before .before .before .before .before .before .before .look .result) e (c .before .before .before .before .before .before .before .look .ensures)) in
+    let decided = subst (DecisionOf (worldOf t (k .store) (k .log)) (c .before .before .before .before .before .before .before .before .before .before .before .before .before .before .before .before .before .asked .given .0 .0)) (c .before .before .before .before .before .enum-told3 .given .1) (decision-front (k .bench) (l .words) _ (k .store) (k .log) (c .before .before .before .before .before .before .before .before .before .before .before .before .before .before .before .before .before .asked .given .0 .0) (c .before .before .before .before .before .before .before .decide .result) e (c .before .before .before .before .before .before .before .decide .ensures)) in
     let says = c .before .before .before .before .refusal-of .ensures ∙ ap refusalOf (c .before .before .before .before .before .enum-told3 .given .1) in (
       standing-on _ _ s (l .store) (l .log) (l .out) (l .used) (l .wrote) _ _ _ _ _ _ (l .inv .0) (c .before .before .before .before .before .before .before .before .before .before .before .before .before .before .before .before .before .before .before .before .before .before .before .line-end .ensures) (c .before .before .before .before .before .before .before .before .before .before .before .before .before .before .before .before .before .before .before .before .before .before .if2 .left) (let z : l .wrote + 72 ≤ length (l .out) = omega (arith, l .inv .0 .fits, l .inv .3, c .before .before .before .before .before .before .before .before .before .before .before .before .before .before .before .before .before .before .before .before .before .before .before .before .if1 .left) in z) (c .before .before .before .before .before .before .before .before .before .before .before .before .before .before .before .before .before .before .before .before .parse .ensures)
-          (steps-by s _ _ _ _ _ _ _ _ _ _ _ (sym (c .before .before .before .before .before .before .before .before .before .before .before .before .before .before .before .before .before .before .before .ask .ensures) ∙ c .before .before .before .before .before .before .before .before .before .before .before .before .before .before .before .before .before .asked .given .1) (stepping-stops _ _ _ _ _ _ (k .left) _ _ _ _ (k .inv .0) (c .before .before .before .before .before .before .before .before .before .before .before .loop-test .taken) t (c .before .before .before .before .refusal-of .result) (k .store) (k .log) (ap (λ (a : Answer). record { world = worldOf t (k .store) (k .log); answer = a }) says ∙ sym look) (k .inv .0 .live) _ _ (c .before .before .show2 .ensures) (ap isRefused says))) (refl),
+          (steps-by s _ _ _ _ _ _ _ _ _ _ _ (sym (c .before .before .before .before .before .before .before .before .before .before .before .before .before .before .before .before .before .before .before .ask .ensures) ∙ c .before .before .before .before .before .before .before .before .before .before .before .before .before .before .before .before .before .asked .given .1) (stepping-stops _ _ _ _ _ _ (k .left) _ _ _ _ (k .inv .0) (c .before .before .before .before .before .before .before .before .before .before .before .loop-test .taken) t (c .before .before .before .before .refusal-of .result) (k .store) (k .log) (ap (λ (a : Answer). record { world = worldOf t (k .store) (k .log); answer = a }) says ∙ sym decided) (k .inv .0 .live) _ _ (c .before .before .show2 .ensures) (ap isRefused says))) (refl),
       k .inv .2 ∙ l .inv .1,
       k .inv .3 ∙ l .inv .2,
       c .before .before .show2 .kept .1 .0 ∙ k .inv .4 ∙ l .inv .3,
@@ -274,8 +274,8 @@ do-act-requires c κs =
     let k = c .before .before .before .before .before .before .before .before .before .before .before .loop in
     let t = sessionOf (l .live) (l .words) (k .bench) in
     let e = c .before .before .before .before .before .before .before .before .before .before .before .before .span .ensures ∙ ap (min (l .words)) (sym (k .inv .2)) in
-    let look = subst (TurnOf (worldOf t (k .store) (k .log)) (c .before .before .before .before .before .before .before .before .before .before .before .before .before .before .before .before .asked .given .0 .0)) (c .before .before .before .before .turn .given .1) (turn-front (k .bench) (l .words) _ (k .store) (k .log) (c .before .before .before .before .before .before .before .before .before .before .before .before .before .before .before .before .asked .given .0 .0) (c .before .before .before .before .before .before .look .result) e (c .before .before .before .before .before .before .look .ensures)) in
-    ((look .0, look .1), look .2)
+    let decided = subst (DecisionOf (worldOf t (k .store) (k .log)) (c .before .before .before .before .before .before .before .before .before .before .before .before .before .before .before .before .asked .given .0 .0)) (c .before .before .before .before .decision .given .1) (decision-front (k .bench) (l .words) _ (k .store) (k .log) (c .before .before .before .before .before .before .before .before .before .before .before .before .before .before .before .before .asked .given .0 .0) (c .before .before .before .before .before .before .decide .result) e (c .before .before .before .before .before .before .decide .ensures)) in
+    ((decided .0, decided .1), decided .2)
 
 show-requires-3 : tie.Need-show-requires-3 Inv-loop μ-loop Inv-lines μ-lines
 show-requires-3 c κs =
@@ -284,8 +284,8 @@ show-requires-3 c κs =
     let k = c .before .before .before .before .before .before .before .before .before .before .before .before .before .before .before .before .before .before .loop in
     let t = sessionOf (l .live) (l .words) (k .bench) in
     let e = c .before .before .before .before .before .before .before .before .before .before .before .before .before .before .before .before .before .before .before .span .ensures ∙ ap (min (l .words)) (sym (k .inv .2)) in
-    let look = subst (TurnOf (worldOf t (k .store) (k .log)) (c .before .before .before .before .before .before .before .before .before .before .before .before .before .before .before .before .before .before .before .before .before .before .before .asked .given .0 .0)) (c .before .before .before .before .before .before .before .before .before .before .before .turn .given .1) (turn-front (k .bench) (l .words) _ (k .store) (k .log) (c .before .before .before .before .before .before .before .before .before .before .before .before .before .before .before .before .before .before .before .before .before .before .before .asked .given .0 .0) (c .before .before .before .before .before .before .before .before .before .before .before .before .before .look .result) e (c .before .before .before .before .before .before .before .before .before .before .before .before .before .look .ensures)) in
-    stepping-room _ _ _ _ _ _ (k .left) _ _ _ _ (k .inv .0) (c .before .before .before .before .before .before .do-act .result .answer) (let z : l .wrote + 72 ≤ length (l .out) = omega (arith, l .inv .0 .fits, l .inv .3, c .before .before .before .before .before .before .before .before .before .before .before .before .before .before .before .before .before .before .before .before .before .before .before .before .before .before .before .before .before .before .if1 .left) in z) (c .before .before .before .before .before .before .before .before .before .before .before .before .before .before .before .before .before .loop-test .taken) (ap (λ (d : Outcome). d .answer) (c .before .before .before .before .before .before .do-act .ensures ∙ sym (look .3)))
+    let decided = subst (DecisionOf (worldOf t (k .store) (k .log)) (c .before .before .before .before .before .before .before .before .before .before .before .before .before .before .before .before .before .before .before .before .before .before .before .asked .given .0 .0)) (c .before .before .before .before .before .before .before .before .before .before .before .decision .given .1) (decision-front (k .bench) (l .words) _ (k .store) (k .log) (c .before .before .before .before .before .before .before .before .before .before .before .before .before .before .before .before .before .before .before .before .before .before .before .asked .given .0 .0) (c .before .before .before .before .before .before .before .before .before .before .before .before .before .decide .result) e (c .before .before .before .before .before .before .before .before .before .before .before .before .before .decide .ensures)) in
+    stepping-room _ _ _ _ _ _ (k .left) _ _ _ _ (k .inv .0) (c .before .before .before .before .before .before .do-act .result .answer) (let z : l .wrote + 72 ≤ length (l .out) = omega (arith, l .inv .0 .fits, l .inv .3, c .before .before .before .before .before .before .before .before .before .before .before .before .before .before .before .before .before .before .before .before .before .before .before .before .before .before .before .before .before .before .if1 .left) in z) (c .before .before .before .before .before .before .before .before .before .before .before .before .before .before .before .before .before .loop-test .taken) (ap (λ (d : Outcome). d .answer) (c .before .before .before .before .before .before .do-act .ensures ∙ sym (decided .3)))
 
 judge-requires : tie.Need-judge-requires Inv-loop μ-loop Inv-lines μ-lines
 judge-requires c κs = search needs
@@ -306,9 +306,9 @@ lines-again-5 c =
     let k = c .before .before .before .before .before .before .before .before .before .before .before .before .before .before .before .before .before .before .before .before .before .before .before .before .loop in
     let t = sessionOf (l .live) (l .words) (k .bench) in
     let e = c .before .before .before .before .before .before .before .before .before .before .before .before .before .before .before .before .before .before .before .before .before .before .before .before .before .span .ensures ∙ ap (min (l .words)) (sym (k .inv .2)) in
-    let look = subst (TurnOf (worldOf t (k .store) (k .log)) (c .before .before .before .before .before .before .before .before .before .before .before .before .before .before .before .before .before .before .before .before .before .before .before .before .before .before .before .before .before .asked .given .0 .0)) (c .before .before .before .before .before .before .before .before .before .before .before .before .before .before .before .before .before .turn .given .1) (turn-front (k .bench) (l .words) _ (k .store) (k .log) (c .before .before .before .before .before .before .before .before .before .before .before .before .before .before .before .before .before .before .before .before .before .before .before .before .before .before .before .before .before .asked .given .0 .0) (c .before .before .before .before .before .before .before .before .before .before .before .before .before .before .before .before .before .before .before .look .result) e (c .before .before .before .before .before .before .before .before .before .before .before .before .before .before .before .before .before .before .before .look .ensures)) in
+    let decided = subst (DecisionOf (worldOf t (k .store) (k .log)) (c .before .before .before .before .before .before .before .before .before .before .before .before .before .before .before .before .before .before .before .before .before .before .before .before .before .before .before .before .before .asked .given .0 .0)) (c .before .before .before .before .before .before .before .before .before .before .before .before .before .before .before .before .before .decision .given .1) (decision-front (k .bench) (l .words) _ (k .store) (k .log) (c .before .before .before .before .before .before .before .before .before .before .before .before .before .before .before .before .before .before .before .before .before .before .before .before .before .before .before .before .before .asked .given .0 .0) (c .before .before .before .before .before .before .before .before .before .before .before .before .before .before .before .before .before .before .before .decide .result) e (c .before .before .before .before .before .before .before .before .before .before .before .before .before .before .before .before .before .before .before .decide .ensures)) in
     let next = sessionOf (l .live) (l .words) (c .before .before .before .before .before .before .before .before .before .before .before .before .do-act .result .bench) in
-    let by = c .before .before .before .before .before .before .before .before .before .before .before .before .do-act .ensures ∙ sym (look .3) in (
+    let by = c .before .before .before .before .before .before .before .before .before .before .before .before .do-act .ensures ∙ sym (decided .3) in (
       standing-on _ _ s (l .store) (l .log) (l .out) (l .used) (l .wrote) _ _ _ _ _ _ (l .inv .0) (c .before .before .before .before .before .before .before .before .before .before .before .before .before .before .before .before .before .before .before .before .before .before .before .before .before .before .before .before .before .before .before .before .before .before .before .line-end .ensures) (c .before .before .before .before .before .before .before .before .before .before .before .before .before .before .before .before .before .before .before .before .before .before .before .before .before .before .before .before .before .before .before .before .before .before .if2 .left) (let z : l .wrote + 72 ≤ length (l .out) = omega (arith, l .inv .0 .fits, l .inv .3, c .before .before .before .before .before .before .before .before .before .before .before .before .before .before .before .before .before .before .before .before .before .before .before .before .before .before .before .before .before .before .before .before .before .before .before .before .if1 .left) in z) (c .before .before .before .before .before .before .before .before .before .before .before .before .before .before .before .before .before .before .before .before .before .before .before .before .before .before .before .before .before .before .before .before .parse .ensures)
           (steps-by s _ _ _ _ _ _ _ _ _ _ _ (sym (c .before .before .before .before .before .before .before .before .before .before .before .before .before .before .before .before .before .before .before .before .before .before .before .before .before .before .before .before .before .before .before .ask .ensures) ∙ c .before .before .before .before .before .before .before .before .before .before .before .before .before .before .before .before .before .before .before .before .before .before .before .before .before .before .before .before .before .asked .given .1) (stepping-stops _ _ _ _ _ _ (k .left) _ _ _ _ (k .inv .0) (c .before .before .before .before .before .before .before .before .before .before .before .before .before .before .before .before .before .before .before .before .before .before .before .loop-test .taken) next (c .before .before .before .before .before .before .before .before .before .before .before .before .do-act .result .answer) _ _ by (k .inv .0 .live) _ _ (c .before .before .before .before .before .show3 .ensures) (judged-stopped (c .before .before .before .before .before .before .before .before .before .before .before .before .do-act .result .answer) (sym (c .before .before .judge .ensures) ∙ c .enum-told5 .given .1)))) (refl),
       c .before .before .before .before .before .before .before .before .before .before .before .before .do-act .kept .1 .1 .1 .1 .0 ∙ k .inv .2 ∙ l .inv .1,
@@ -329,9 +329,9 @@ loop-again c =
     let k = c .before .before .before .before .before .before .before .before .before .before .before .before .before .before .before .before .before .before .before .before .before .before .before .before .loop in
     let t = sessionOf (l .live) (l .words) (k .bench) in
     let e = c .before .before .before .before .before .before .before .before .before .before .before .before .before .before .before .before .before .before .before .before .before .before .before .before .before .span .ensures ∙ ap (min (l .words)) (sym (k .inv .2)) in
-    let look = subst (TurnOf (worldOf t (k .store) (k .log)) (c .before .before .before .before .before .before .before .before .before .before .before .before .before .before .before .before .before .before .before .before .before .before .before .before .before .before .before .before .before .asked .given .0 .0)) (c .before .before .before .before .before .before .before .before .before .before .before .before .before .before .before .before .before .turn .given .1) (turn-front (k .bench) (l .words) _ (k .store) (k .log) (c .before .before .before .before .before .before .before .before .before .before .before .before .before .before .before .before .before .before .before .before .before .before .before .before .before .before .before .before .before .asked .given .0 .0) (c .before .before .before .before .before .before .before .before .before .before .before .before .before .before .before .before .before .before .before .look .result) e (c .before .before .before .before .before .before .before .before .before .before .before .before .before .before .before .before .before .before .before .look .ensures)) in
+    let decided = subst (DecisionOf (worldOf t (k .store) (k .log)) (c .before .before .before .before .before .before .before .before .before .before .before .before .before .before .before .before .before .before .before .before .before .before .before .before .before .before .before .before .before .asked .given .0 .0)) (c .before .before .before .before .before .before .before .before .before .before .before .before .before .before .before .before .before .decision .given .1) (decision-front (k .bench) (l .words) _ (k .store) (k .log) (c .before .before .before .before .before .before .before .before .before .before .before .before .before .before .before .before .before .before .before .before .before .before .before .before .before .before .before .before .before .asked .given .0 .0) (c .before .before .before .before .before .before .before .before .before .before .before .before .before .before .before .before .before .before .before .decide .result) e (c .before .before .before .before .before .before .before .before .before .before .before .before .before .before .before .before .before .before .before .decide .ensures)) in
     let next = sessionOf (l .live) (l .words) (c .before .before .before .before .before .before .before .before .before .before .before .before .do-act .result .bench) in
-    let by = c .before .before .before .before .before .before .before .before .before .before .before .before .do-act .ensures ∙ sym (look .3) in (
+    let by = c .before .before .before .before .before .before .before .before .before .before .before .before .do-act .ensures ∙ sym (decided .3) in (
       stepping-on _ _ _ _ _ _ (k .left) _ _ _ _ (k .inv .0) (c .before .before .before .before .before .before .before .before .before .before .before .before .before .before .before .before .before .before .before .before .before .before .before .loop-test .taken) next (c .before .before .before .before .before .before .before .before .before .before .before .before .do-act .result .answer) _ _ by (k .inv .0 .live) _ _ (c .before .before .before .before .before .show3 .ensures) (judged-made (c .before .before .before .before .before .before .before .before .before .before .before .before .do-act .result .answer) (sym (c .before .before .judge .ensures) ∙ c .enum-told4 .given .1)),
       reached-step (worldOf t (k .store) (k .log)) _ _ _ by (k .inv .1),
       c .before .before .before .before .before .before .before .before .before .before .before .before .do-act .kept .1 .1 .1 .1 .0 ∙ k .inv .2,
@@ -362,8 +362,8 @@ loop-again-2 c =
     let k = c .before .before .before .before .before .before .before .before .before .before .before .before .loop in
     let t = sessionOf (l .live) (l .words) (k .bench) in
     let e = c .before .before .before .before .before .before .before .before .before .before .before .before .before .span .ensures ∙ ap (min (l .words)) (sym (k .inv .2)) in
-    let look = subst (TurnOf (worldOf t (k .store) (k .log)) (c .before .before .before .before .before .before .before .before .before .before .before .before .before .before .before .before .before .asked .given .0 .0)) (c .before .before .before .before .before .turn .given .1) (turn-front (k .bench) (l .words) _ (k .store) (k .log) (c .before .before .before .before .before .before .before .before .before .before .before .before .before .before .before .before .before .asked .given .0 .0) (c .before .before .before .before .before .before .before .look .result) e (c .before .before .before .before .before .before .before .look .ensures)) in
-    let by = goes-by (k .bench) _ _ _ _ (take (l .words) (k .store)) (k .log) (c .before .before .before .before .before .before .before .before .before .before .before .before .before .before .before .place-of .ensures .1 (look .0)) (c .count-restart .ensures) (look .3 ∙ ap (λ (a : Act). commit (worldOf t (k .store) (k .log)) (c .before .before .before .before .before .before .before .before .before .before .before .before .before .before .before .before .before .asked .given .0 .0) (enact (k .bench .queue) (take (l .words) (k .store)) a)) (c .before .before .act .given .1)) in (
+    let decided = subst (DecisionOf (worldOf t (k .store) (k .log)) (c .before .before .before .before .before .before .before .before .before .before .before .before .before .before .before .before .before .asked .given .0 .0)) (c .before .before .before .before .before .decision .given .1) (decision-front (k .bench) (l .words) _ (k .store) (k .log) (c .before .before .before .before .before .before .before .before .before .before .before .before .before .before .before .before .before .asked .given .0 .0) (c .before .before .before .before .before .before .before .decide .result) e (c .before .before .before .before .before .before .before .decide .ensures)) in
+    let by = goes-by (k .bench) _ _ _ _ (take (l .words) (k .store)) (k .log) (c .before .before .before .before .before .before .before .before .before .before .before .before .before .before .before .place-of .ensures .1 (decided .0)) (c .count-restart .ensures) (decided .3 ∙ ap (λ (a : Act). commit (worldOf t (k .store) (k .log)) (c .before .before .before .before .before .before .before .before .before .before .before .before .before .before .before .before .before .asked .given .0 .0) (enact (k .bench .queue) (take (l .words) (k .store)) a)) (c .before .before .act .given .1)) in (
       stepping-on _ _ _ _ _ _ (k .left) _ _ _ _ (k .inv .0) (c .before .before .before .before .before .before .before .before .before .before .before .loop-test .taken) _ GoesOn (k .store) (k .log) by (k .inv .0 .live) _ _ (shows-none (k .out) (k .wrote)) refl,
       reached-step (worldOf t (k .store) (k .log)) _ _ _ by (k .inv .1),
       k .inv .2,
@@ -414,7 +414,7 @@ feed-spec =
     ask-requires
     enum-known-asked
     enum-told
-    calm-requires
+    refused-at-once-requires
     enum-known-stop
     show-requires
     lines-less
@@ -434,10 +434,10 @@ feed-spec =
     lines-again-3
     mul-own
     element-copy-out-own
-    slice-reshare-prefix-look
-    slice-aggregate-look
-    look-requires
-    enum-known-turn
+    slice-reshare-prefix-decide
+    slice-aggregate-decide
+    decide-requires
+    enum-known-decision
     enum-told-3
     refusal-of-requires
     show-requires-2

@@ -4,7 +4,7 @@ use native.Mathlib.Omega.{arith}
 use Rattle.model.specs.Calls.{lent, beginOf}
 use Rattle.model.proofs.Tests.{if-false, passed, refused}
 use Rattle.machine.specs.declared.Stop.{Stop}
-use Rattle.machine.specs.Turns.{BeginStops}
+use Rattle.machine.specs.Decisions.{BeginStops}
 use Rattle.machine.proofs.Bounds.{bounds-of}
 use Rattle.machine.proofs.Replies.{same-left}
 use Rattle.machine.proofs.begin.Statement.{statement}

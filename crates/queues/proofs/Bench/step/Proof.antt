@@ -7,7 +7,7 @@ use Rattle.model.specs.Calls.{lent, commit, stepOf}
 use Rattle.lines.specs.declared.Act.{Act}
 use Rattle.lines.specs.Act.{enact}
 use Rattle.model.proofs.Tests.{if-false, passed, refused}
-use Rattle.machine.specs.Turns.{TurnOf}
+use Rattle.machine.specs.Decisions.{DecisionOf}
 use Rattle.machine.proofs.Commits.{goes-by}
 use Rattle.queues.specs.declared.Reply.{Reply}
 use Rattle.queues.specs.Left.{left}
@@ -42,11 +42,11 @@ mul-own c = search needs
 element-copy-out-own : tie.Need-element-copy-out-own
 element-copy-out-own c = search needs
 
-look-requires : tie.Need-look-requires
-look-requires c κs = (passed (c .before .before .before .before .before .valid .ensures) (c .before .before .before .before .if1 .left), λ h. ap (lineAt (c .before .before .before .before .before .before .before .before .before .before .before .args .self .state .workers)) (c .before .before .before .place-of .ensures .1 h))
+decide-requires : tie.Need-decide-requires
+decide-requires c κs = (passed (c .before .before .before .before .before .valid .ensures) (c .before .before .before .before .if1 .left), λ h. ap (lineAt (c .before .before .before .before .before .before .before .before .before .before .before .args .self .state .workers)) (c .before .before .before .place-of .ensures .1 h))
 
-enum-known-turn : tie.Need-enum-known-turn
-enum-known-turn c = search needs
+enum-known-decision : tie.Need-enum-known-decision
+enum-known-decision c = search needs
 
 refused-requires-2 : tie.Need-refused-requires-2
 refused-requires-2 c κs = search needs
@@ -61,10 +61,10 @@ returns-2 : tie.Need-returns-2
 returns-2 c =
     let W : World = lent (c .before .before .before .before .before .before .before .before .before .before .before .before .before .before .before .before .args .self .state) (c .before .before .before .before .before .before .before .before .before .before .before .before .before .before .before .before .args .store .now) (c .before .before .before .before .before .before .before .before .before .before .before .before .before .before .before .before .args .log .now) in
     ap (λ (r : Reply). left r (c .before .before .before .before .before .before .before .before .before .before .before .before .before .before .before .before .args .store .now) (c .before .before .before .before .before .before .before .before .before .before .before .before .before .before .before .before .args .log .now)) (c .refused2 .ensures)
-    ∙ sym (subst (TurnOf W (c .before .before .before .before .before .before .before .before .before .before .before .before .before .before .before .before .args .worker)) (c .before .before .turn .given .1) (c .before .before .before .before .look .ensures))
+    ∙ sym (subst (DecisionOf W (c .before .before .before .before .before .before .before .before .before .before .before .before .before .before .before .before .args .worker)) (c .before .before .decision .given .1) (c .before .before .before .before .decide .ensures))
 
-enum-known-turn-2 : tie.Need-enum-known-turn-2
-enum-known-turn-2 c = search needs
+enum-known-decision-2 : tie.Need-enum-known-decision-2
+enum-known-decision-2 c = search needs
 
 enum-known-act : tie.Need-enum-known-act
 enum-known-act c = search needs
@@ -72,7 +72,7 @@ enum-known-act c = search needs
 apply-requires : tie.Need-apply-requires
 apply-requires c κs =
     let W : World = lent (c .before .before .before .before .before .before .before .before .before .before .before .before .before .before .before .before .before .before .args .self .state) (c .before .before .before .before .before .before .before .before .before .before .before .before .before .before .before .before .before .before .args .store .now) (c .before .before .before .before .before .before .before .before .before .before .before .before .before .before .before .before .before .before .args .log .now) in
-    let t = subst (TurnOf W (c .before .before .before .before .before .before .before .before .before .before .before .before .before .before .before .before .before .before .args .worker)) (c .before .before .before .before .turn2 .given .1) (c .before .before .before .before .before .before .look .ensures) in
+    let t = subst (DecisionOf W (c .before .before .before .before .before .before .before .before .before .before .before .before .before .before .before .before .before .before .args .worker)) (c .before .before .before .before .decision2 .given .1) (c .before .before .before .before .before .before .decide .ensures) in
     (t .0, (t .1, t .2))
 
 faced-requires : tie.Need-faced-requires
@@ -87,7 +87,7 @@ same-length-6 c = search needs
 returns-3 : tie.Need-returns-3
 returns-3 c =
     let W : World = lent (c .before .before .before .before .before .before .before .before .before .before .before .before .before .before .before .before .before .before .before .before .before .before .before .before .args .self .state) (c .before .before .before .before .before .before .before .before .before .before .before .before .before .before .before .before .before .before .before .before .before .before .before .before .args .store .now) (c .before .before .before .before .before .before .before .before .before .before .before .before .before .before .before .before .before .before .before .before .before .before .before .before .args .log .now) in
-    faced-left (c .faced .ensures) (c .before .before .before .before .before .apply .ensures ∙ sym (subst (TurnOf W (c .before .before .before .before .before .before .before .before .before .before .before .before .before .before .before .before .before .before .before .before .before .before .before .before .args .worker)) (c .before .before .before .before .before .before .before .before .before .before .turn2 .given .1) (c .before .before .before .before .before .before .before .before .before .before .before .before .look .ensures) .3))
+    faced-left (c .faced .ensures) (c .before .before .before .before .before .apply .ensures ∙ sym (subst (DecisionOf W (c .before .before .before .before .before .before .before .before .before .before .before .before .before .before .before .before .before .before .before .before .before .before .before .before .args .worker)) (c .before .before .before .before .before .before .before .before .before .before .decision2 .given .1) (c .before .before .before .before .before .before .before .before .before .before .before .before .decide .ensures) .3))
 
 count-restart-requires : tie.Need-count-restart-requires
 count-restart-requires c κs = search needs
@@ -108,7 +108,7 @@ returns-4 : tie.Need-returns-4
 unfolding enact
 returns-4 c =
     let W : World = lent (c .before .before .before .before .before .before .before .before .before .before .before .before .before .before .before .before .before .before .before .args .self .state) (c .before .before .before .before .before .before .before .before .before .before .before .before .before .before .before .before .before .before .before .args .store .now) (c .before .before .before .before .before .before .before .before .before .before .before .before .before .before .before .before .before .before .before .args .log .now) in
-    let t = subst (TurnOf W (c .before .before .before .before .before .before .before .before .before .before .before .before .before .before .before .before .before .before .before .args .worker)) (c .before .before .before .before .before .turn2 .given .1) (c .before .before .before .before .before .before .before .look .ensures) in
+    let t = subst (DecisionOf W (c .before .before .before .before .before .before .before .before .before .before .before .before .before .before .before .before .before .before .before .args .worker)) (c .before .before .before .before .before .decision2 .given .1) (c .before .before .before .before .before .before .before .decide .ensures) in
     goes-by (c .before .before .before .before .before .before .before .before .before .before .before .before .before .before .before .before .before .before .before .args .self .state) (c .before .before .before .before .before .before .before .before .before .before .before .before .before .before .before .before .before .before .before .args .worker) _ _ _ (c .before .before .before .before .before .before .before .before .before .before .before .before .before .before .before .before .before .before .before .args .store .now) (c .before .before .before .before .before .before .before .before .before .before .before .before .before .before .before .before .before .before .before .args .log .now) (c .before .before .before .before .before .before .before .before .before .before .before .place-of .ensures .1 (t .0)) (c .count-restart .ensures)
     (t .3 ∙ ap (λ (a : Act). commit W (c .before .before .before .before .before .before .before .before .before .before .before .before .before .before .before .before .before .before .before .args .worker) (enact (W .bench .queue) (W .store) a)) (c .before .before .act .given .1))
 
@@ -124,13 +124,13 @@ step-spec =
     place-of-requires
     mul-own
     element-copy-out-own
-    look-requires
-    enum-known-turn
+    decide-requires
+    enum-known-decision
     refused-requires-2
     same-length-3
     same-length-4
     returns-2
-    enum-known-turn-2
+    enum-known-decision-2
     enum-known-act
     apply-requires
     faced-requires

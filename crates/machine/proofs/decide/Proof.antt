@@ -12,8 +12,8 @@ use Rattle.lines.proofs.FromLimits.{ground-of-valid, ready-of-valid}
 use Rattle.model.proofs.Tests.{if-true, if-false}
 use Rattle.model.proofs.Arrays.{mapped-length}
 use Rattle.machine.proofs.Bounds.{bounds-of}
-use Rattle.machine.proofs.look.Statement.{statement}
-use Rattle.machine.proofs.look.Tie as tie
+use Rattle.machine.proofs.decide.Statement.{statement}
+use Rattle.machine.proofs.decide.Tie as tie
 
 eleven : (c : tie.Start) → length (c .args .bench .queue .arrays) ≡ 11
 eleven c = search (needs, mapped-length)
@@ -56,5 +56,5 @@ returns-3 c =
           ∙ ap (commit W (c .before .before .before .before .before .before .before .before .args .worker)) (ap (lineStep (W .bench .kind) (W .bench .width) (W .bench .queue) (W .store) (c .before .before .before .before .before .before .before .before .args .worker)) (sym at) ∙ sym (c .decide .ensures .0)),
     )
 
-pub look-spec : {M : Type 1} → statement M
-look-spec = tie.close (tie.spec returns is-idle-requires returns-2 decide-requires returns-3)
+pub decide-spec : {M : Type 1} → statement M
+decide-spec = tie.close (tie.spec returns is-idle-requires returns-2 decide-requires returns-3)

@@ -5,9 +5,9 @@ use borrow.Author.Tests.{not-false}
 use Rattle.model.specs.declared.Operation.the-variants.{Put, Take, Steal}
 use Rattle.model.specs.Calls.{lent}
 use Rattle.model.specs.Listing.{playing, respond}
-use Rattle.replies.proofs.Replies.{calm-begin}
-use Rattle.replies.proofs.calm.Statement.{statement}
-use Rattle.replies.proofs.calm.Tie as tie
+use Rattle.replies.proofs.Replies.{begin-at-once}
+use Rattle.replies.proofs.refused_at_once.Statement.{statement}
+use Rattle.replies.proofs.refused_at_once.Tie as tie
 
 returns : tie.Need-returns
 returns c = search needs
@@ -48,15 +48,15 @@ returns-2 c = λ m l v. (not-false _ (c .before .before .if1 .left), rw (c .enum
 
 returns-3 : tie.Need-returns-3
 unfolding respond
-returns-3 c = λ m l v. let h = not-false _ (c .before .before .before .before .if1 .left) in calm-begin _ _ _ _ (c .before .before .before .before .before .args .command) (c .begin-stop .result) h (c .begin-stop .ensures m l (v h)) (ap (respond (playing (lent (c .before .before .before .before .before .args .bench) m l))) (c .before .before .command .given .1))
+returns-3 c = λ m l v. let h = not-false _ (c .before .before .before .before .if1 .left) in begin-at-once _ _ _ _ (c .before .before .before .before .before .args .command) (c .begin-stop .result) h (c .begin-stop .ensures m l (v h)) (ap (respond (playing (lent (c .before .before .before .before .before .args .bench) m l))) (c .before .before .command .given .1))
 
 returns-4 : tie.Need-returns-4
 unfolding respond
-returns-4 c = λ m l v. let h = not-false _ (c .before .before .before .if1 .left) in calm-begin _ _ _ _ (c .before .before .before .before .args .command) (c .begin-stop2 .result) h (c .begin-stop2 .ensures m l (v h)) (ap (respond (playing (lent (c .before .before .before .before .args .bench) m l))) (c .before .enum-told2 .given .1))
+returns-4 c = λ m l v. let h = not-false _ (c .before .before .before .if1 .left) in begin-at-once _ _ _ _ (c .before .before .before .before .args .command) (c .begin-stop2 .result) h (c .begin-stop2 .ensures m l (v h)) (ap (respond (playing (lent (c .before .before .before .before .args .bench) m l))) (c .before .enum-told2 .given .1))
 
 returns-5 : tie.Need-returns-5
 unfolding respond
-returns-5 c = λ m l v. let h = not-false _ (c .before .before .before .before .if1 .left) in calm-begin _ _ _ _ (c .before .before .before .before .before .args .command) (c .begin-stop3 .result) h (c .begin-stop3 .ensures m l (v h)) (ap (respond (playing (lent (c .before .before .before .before .before .args .bench) m l))) (c .before .before .command2 .given .1))
+returns-5 c = λ m l v. let h = not-false _ (c .before .before .before .before .if1 .left) in begin-at-once _ _ _ _ (c .before .before .before .before .before .args .command) (c .begin-stop3 .result) h (c .begin-stop3 .ensures m l (v h)) (ap (respond (playing (lent (c .before .before .before .before .before .args .bench) m l))) (c .before .before .command2 .given .1))
 
 returns-6 : tie.Need-returns-6
 returns-6 c = search needs
@@ -68,8 +68,8 @@ returns-8 : tie.Need-returns-8
 unfolding respond
 returns-8 c = λ m l v. (not-false _ (c .before .before .if1 .left), rw (c .enum-told5 .given .1) refl)
 
-pub calm-spec : {M : Type 1} → statement M
-calm-spec =
+pub refused-at-once-spec : {M : Type 1} → statement M
+refused-at-once-spec =
     tie.close
     (tie.spec
     returns
