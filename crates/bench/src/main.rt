@@ -19,7 +19,7 @@ enum Input {
     More(usize),
 }
 
-struct Decision {
+struct Turn {
     session: Session,
     have: usize,
     goes: bool,
@@ -51,7 +51,7 @@ fn play_some(
     store: &mut [u32],
     log: &mut [u32],
     out: &mut [u8],
-) -> Decision
+) -> Turn
     requires { ⌜ n ≤ length (now buf) ⌝ }
     requires { ⌜ Reachable (programOf session (now store) (now log)) ⌝ }
     ensures { λ r. ⌜ (r .have ≤ 61) × (r .have ≤ length (now (buf .exit))) ⌝ }
@@ -69,14 +69,14 @@ fn play_some(
         from += used;
         if !io::write_all(STDOUT_FILENO, &out[..wrote]) {
             os::fail(b"write");
-            return Decision {
+            return Turn {
                 session: current,
                 have: 0,
                 goes: false,
             };
         }
         if f.stops {
-            return Decision {
+            return Turn {
                 session: current,
                 have: 0,
                 goes: false,
@@ -84,14 +84,14 @@ fn play_some(
         }
         if !f.full {
             let have = listing::carry(buf, from, n);
-            return Decision {
+            return Turn {
                 session: current,
                 have,
                 goes: true,
             };
         }
     }
-    Decision {
+    Turn {
         session: current,
         have: 0,
         goes: false,
