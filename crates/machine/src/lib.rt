@@ -1,6 +1,6 @@
 // The calls on a bench: fresh, begin, and a step's two halves: deciding what it does (decide), and doing it (apply). This is the only code
 // that writes a store or a log, and it writes only once the whole outcome of the call is known.
-// Uses `model`, `lines`, `limits` and `state`. It is used by `queues`, `replies` and `listing`.
+// Uses `model`, `lines`, `limits`, `memory` and `state`. It is used by `queues`, `replies` and `listing`.
 ghost use mathlib.Core.Path.{_≡_};
 ghost use mathlib.Core.Bool.{true};
 ghost use mathlib.Core.List.{List};
@@ -102,7 +102,7 @@ pub fn fresh(kind: u32, width: u32, size: u32, crew: u32, store: &mut [u32]) -> 
     if store.len() < words {
         return unmade(Refusal::ShortStore);
     }
-    state::zero(store, 0, words);
+    memory::zero(store, 0, words);
     Reply {
         bench: state::made(state::kind_of(kind), width, size, crew),
         answer: Answer::Accepted,
@@ -219,18 +219,18 @@ fn ends(bench: Bench, worker: u32, queue: Queue, answer: Answer, log: &mut [u32]
 {
     let i = worker as usize;
     let written = bench.written;
-    let entry = state::entry_of(answer);
+    let entry = memory::entry_of(answer);
     if entry.kind == 0 {
         return Reply {
             bench: state::moves(bench, i, queue, Line::Idle, written),
             answer: answer,
         };
     }
-    if !state::has_room(written, log) {
+    if !memory::has_room(written, log) {
         return refused(bench, Refusal::LogFull);
     }
     let at = written as usize;
-    state::write_entry(log, at, entry);
+    memory::write_entry(log, at, entry);
     Reply {
         bench: state::moves(bench, i, queue, Line::Idle, written + 4),
         answer: answer,
@@ -256,7 +256,7 @@ fn changed(queue: Queue, change: Change, store: &mut [u32]) -> Queue
             queue
         }
         Change::Claims { offset, length } => {
-            state::zero(store, offset as usize, length as usize);
+            memory::zero(store, offset as usize, length as usize);
             with_array(queue, offset, length)
         }
         Change::Publishes => state::publish(queue),

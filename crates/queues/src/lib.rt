@@ -2,7 +2,7 @@
 // a time in the order that the caller chooses. A bench is a value; each call takes it and hands the
 // next one back, beside the store and the log that the caller lends. A call may be handed any state,
 // any numbers and any memory: it is refused where document 01 says so, and then changes nothing.
-// Uses `model`, `lines`, `limits`, `state` and `machine`. It is used by `exercise` and `pace`.
+// Uses `model`, `lines`, `limits`, `memory`, `state` and `machine`. It is used by `exercise` and `pace`.
 ghost use mathlib.Core.Path.{_≡_};
 ghost use mathlib.Core.List.{List};
 ghost use Prim.Native.Nat.{ℕ, _≤_};
@@ -100,6 +100,6 @@ impl Bench {
     pub fn front(self, log: &[u32]) -> &[u32]
         ensures { λ r. ⌜ now r ≡ frontOf (self .state) (now (log .entry)) ⌝ }
     {
-        state::front(self.state, log)
+        memory::front(self.state, log)
     }
 }

@@ -4,13 +4,7 @@ use lib.ListN.{set}
 use Rattle.model.specs.declared.Line.{Line}
 use Rattle.model.specs.declared.Queue.{Queue}
 use Rattle.model.specs.declared.Bench.{Bench}
-use Rattle.model.specs.Answers.{Entry as Words}
 use Rattle.model.specs.Calls.{restarted}
-use Rattle.state.specs.declared.Entry.{Entry}
-
--- an entry's four words
-abbrev pub words : Entry → Words
-words e = record { kind = e .kind; worker = e .worker; number = e .number; payload = e .payload }
 
 -- worker i begins at the line l; u put numbers are used
 abbrev pub opened : Bench → ℕ → ℕ → Line → Bench

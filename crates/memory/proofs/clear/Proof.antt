@@ -5,9 +5,9 @@ use native.Mathlib.Omega.{arith}
 use lib.ListN.{length, drop, replicate, set}
 use borrow.Author.Fill.{fill-more}
 use borrow.Author.Needs.{needs}
-use Rattle.state.proofs.Zeros.{filled}
-use Rattle.state.proofs.clear.Statement.{statement}
-use Rattle.state.proofs.clear.Tie as tie
+use Rattle.memory.proofs.Zeros.{filled}
+use Rattle.memory.proofs.clear.Statement.{statement}
+use Rattle.memory.proofs.clear.Tie as tie
 
 abbrev Inv-loop : tie.InvT-loop
 Inv-loop words₀ i₀ words i =

@@ -1,6 +1,6 @@
 use borrow.Author.Needs.{needs}
-use Rattle.state.proofs.entry_of.Statement.{statement}
-use Rattle.state.proofs.entry_of.Tie as tie
+use Rattle.memory.proofs.entry_of.Statement.{statement}
+use Rattle.memory.proofs.entry_of.Tie as tie
 
 enum-told : tie.Need-enum-told
 enum-told c = search needs

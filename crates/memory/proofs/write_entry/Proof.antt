@@ -1,8 +1,8 @@
 use native.Mathlib.Omega.{arith}
 use lib.ListN.{length-set}
 use borrow.Author.Needs.{needs}
-use Rattle.state.proofs.write_entry.Statement.{statement}
-use Rattle.state.proofs.write_entry.Tie as tie
+use Rattle.memory.proofs.write_entry.Statement.{statement}
+use Rattle.memory.proofs.write_entry.Tie as tie
 
 mul-log : tie.Need-mul-log
 mul-log c = search needs

@@ -3,8 +3,8 @@ use native.Mathlib.Omega.{arith}
 use lib.Seq.{length-take-le, take-all}
 use borrow.Author.Needs.{needs}
 use Rattle.model.specs.Calls.{frontOf}
-use Rattle.state.proofs.front.Statement.{statement}
-use Rattle.state.proofs.front.Tie as tie
+use Rattle.memory.proofs.front.Statement.{statement}
+use Rattle.memory.proofs.front.Tie as tie
 
 cast-written : tie.Need-cast-written
 cast-written c = search needs

@@ -1,7 +1,7 @@
 use borrow.Author.Needs.{needs}
-use Rattle.state.proofs.Zeros.{zeroed}
-use Rattle.state.proofs.zero.Statement.{statement}
-use Rattle.state.proofs.zero.Tie as tie
+use Rattle.memory.proofs.Zeros.{zeroed}
+use Rattle.memory.proofs.zero.Statement.{statement}
+use Rattle.memory.proofs.zero.Tie as tie
 
 add-end : tie.Need-add-end
 add-end c = search needs

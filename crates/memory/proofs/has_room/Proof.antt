@@ -1,8 +1,8 @@
 use borrow.Author.Tests.{le-leb, lt-leb}
 use borrow.Author.Needs.{needs}
 use Rattle.model.specs.Tests.{_and_}
-use Rattle.state.proofs.has_room.Statement.{statement}
-use Rattle.state.proofs.has_room.Tie as tie
+use Rattle.memory.proofs.has_room.Statement.{statement}
+use Rattle.memory.proofs.has_room.Tie as tie
 
 add-end : tie.Need-add-end
 add-end c = search needs
