@@ -1,19 +1,14 @@
-// What differs from figure to figure, a function for each question that a line asks: which slot, which index, is it full,
-// is it empty, which anchor is left. `anchor` is the anchor now, `read` the anchor as a worker read it at line 1. Below them
-// stands the one place where an index becomes a word of the store.
+// What differs from figure to figure, a function for each question that a line asks: is it full, is it empty, which anchor is
+// left, which line is next. `anchor` is the anchor now, `read` the anchor as a worker read it at line 1. Which index, and where
+// it lies, is told by `slots`.
 // Uses `model`. It is used by `lines`.
 ghost use mathlib.Core.Path.{_≡_};
-ghost use Prim.Native.Nat.{_+_, _-_, _*_, _≤_, _<_, _^_, _%_};
-ghost use lib.ListN.{length};
+ghost use mathlib.Core.Bool.{true};
+ghost use Prim.Native.Nat.{_+_, _≤_, _^_, _%_};
 ghost use Rattle.model.specs.declared.Line.the-variants.{Claim, PutNumber};
 ghost use Rattle.model.specs.Tests.{if_then_else_};
-ghost use Rattle.model.specs.Memory.{offsetAt, sizeAt};
 ghost use Rattle.model.specs.Figures.{
   nextTag,
-  slot,
-  putIndex,
-  takeIndex,
-  stealIndex,
   isFull,
   isEmpty,
   afterPut,
@@ -27,12 +22,12 @@ ghost use Rattle.model.specs.Figures.{
   noteAll,
   note,
 };
-ghost use Rattle.model.specs.Lines.{wordOf, fits, copyOn};
-ghost use Rattle.figures.specs.Bounds.{Some, Ordered, Listed, Slotted, Inside, Small};
+ghost use Rattle.model.specs.Lines.{copyOn};
+ghost use Rattle.model.specs.Limits.{someOk};
+ghost use Rattle.figures.specs.Bounds.{Ordered};
 use model::Anchor;
 use model::Kind;
 use model::Line;
-use model::Queue;
 use model::Task;
 
 // An anchor of its three parts.
@@ -57,55 +52,6 @@ fn next_tag(width: u32, tag: u32) -> u32
 {
     let n = tags(width);
     std::num::wrapping_add_u32(tag, 1) % n
-}
-
-// LIFO names slots; in figures 2 and 3 index i lies in slot i modulo the array's size.
-fn slot_of(kind: Kind, size: u32, index: u32) -> u32
-    requires { ⌜ 0 < size ⌝ }
-    ensures { λ r. ⌜ r ≡ slot kind size index ⌝ }
-{
-    match kind {
-        Kind::Lifo => index,
-        Kind::Fifo => index % size,
-        Kind::Deque => index % size,
-    }
-}
-
-// The index that a put writes: t; tail; h+s.
-fn put_index(kind: Kind, read: Anchor) -> u32
-    requires { ⌜ (read .head ≤ 65535) × (read .count ≤ 65535) ⌝ }
-    ensures { λ r. ⌜ r ≡ putIndex kind read ⌝ }
-{
-    match kind {
-        Kind::Lifo => read.count,
-        Kind::Fifo => read.count,
-        Kind::Deque => read.head + read.count,
-    }
-}
-
-// The index that a take reads: t−1; head; h+s−1.
-fn take_index(kind: Kind, read: Anchor) -> u32
-    requires { ⌜ (read .head ≤ 65535) × (read .count ≤ 65535) ⌝ }
-    requires { ⌜ Some kind read ⌝ }
-    ensures { λ r. ⌜ r ≡ takeIndex kind read ⌝ }
-{
-    match kind {
-        Kind::Lifo => read.count - 1,
-        Kind::Fifo => read.head,
-        Kind::Deque => read.head + read.count - 1,
-    }
-}
-
-// The index that a steal reads: t−1; head; h.
-fn steal_index(kind: Kind, read: Anchor) -> u32
-    requires { ⌜ Some kind read ⌝ }
-    ensures { λ r. ⌜ r ≡ stealIndex kind read ⌝ }
-{
-    match kind {
-        Kind::Lifo => read.count - 1,
-        Kind::Fifo => read.head,
-        Kind::Deque => read.head,
-    }
 }
 
 // Put 2 (FIFO 3): t = size; tail = head + size; s = size.
@@ -145,10 +91,11 @@ pub fn after_put(kind: Kind, width: u32, anchor: Anchor, read: Anchor) -> Anchor
     }
 }
 
-// Take 4 (FIFO 5): (t−1, g) of the old pair read; the head read plus 1, the tail as it is now; (h, s−1, g).
+// Take 4 (FIFO 5): (t−1, g) of the old pair read; the head read plus 1, the tail as it is now; (h, s−1, g). `someOk`: past a
+// test for EMPTY t or s is at least 1; FIFO subtracts nothing from them.
 pub fn after_take(kind: Kind, anchor: Anchor, read: Anchor) -> Anchor
     requires { ⌜ read .head ≤ 65535 ⌝ }
-    requires { ⌜ Some kind read ⌝ }
+    requires { ⌜ someOk kind read ≡ true ⌝ }
     ensures { λ r. ⌜ r ≡ afterTake kind anchor read ⌝ }
 {
     match kind {
@@ -161,7 +108,7 @@ pub fn after_take(kind: Kind, anchor: Anchor, read: Anchor) -> Anchor
 // Steal 5 (FIFO and figure 3: 6), where the compare found the anchor as read: what a take leaves; in figure 3 (h2, s−1, g).
 pub fn after_steal(kind: Kind, anchor: Anchor, read: Anchor, next: u32) -> Anchor
     requires { ⌜ read .head ≤ 65535 ⌝ }
-    requires { ⌜ Some kind read ⌝ }
+    requires { ⌜ someOk kind read ≡ true ⌝ }
     ensures { λ r. ⌜ r ≡ afterSteal kind anchor read next ⌝ }
 {
     match kind {
@@ -312,119 +259,4 @@ pub fn copy_on(task: Task, head: u32, noted: u32, copied: u32) -> Line
             copied: up,
         }
     }
-}
-
-// The array at place `at` of the directory: its size in tasks.
-pub fn size_at(queue: Queue, at: usize) -> u32
-    requires { ⌜ Listed queue at ⌝ }
-    ensures { λ r. ⌜ r ≡ sizeAt (queue .arrays) at ⌝ }
-{
-    let region = queue.arrays[at];
-    region.length / 2
-}
-
-// The first word behind it.
-pub fn end_of(queue: Queue, at: usize) -> u32
-    requires { ⌜ Listed queue at ⌝ }
-    requires { ⌜ Small queue at ⌝ }
-    ensures { λ r. ⌜ r ≡ offsetAt (queue .arrays) at + 2 * sizeAt (queue .arrays) at ⌝ }
-{
-    let region = queue.arrays[at];
-    let size = region.length / 2;
-    region.offset + 2 * size
-}
-
-// Where word `word` of index `index` lies in that array: word 0 is the put number, word 1 the payload.
-pub fn place(kind: Kind, queue: Queue, at: usize, index: u32, word: usize) -> usize
-    requires { ⌜ Listed queue at ⌝ }
-    requires { ⌜ Slotted kind queue at index ⌝ }
-    requires { ⌜ word ≤ 1 ⌝ }
-    ensures { λ r. ⌜ r ≡ offsetAt (queue .arrays) at + 2 * slot kind (sizeAt (queue .arrays) at) index + word ⌝ }
-{
-    let region = queue.arrays[at];
-    let size = region.length / 2;
-    let s = slot_of(kind, size, index);
-    let first = region.offset as usize;
-    let task = s as usize;
-    first + 2 * task + word
-}
-
-// That word, read.
-pub fn read_word(kind: Kind, queue: Queue, at: usize, index: u32, word: usize, store: &[u32]) -> u32
-    requires { ⌜ Listed queue at ⌝ }
-    requires { ⌜ Slotted kind queue at index ⌝ }
-    requires { ⌜ Inside queue (length (now store)) at ⌝ }
-    requires { ⌜ word ≤ 1 ⌝ }
-    ensures { λ r. ⌜ r ≡ wordOf kind queue (now (store .entry)) at index word ⌝ }
-{
-    let p = place(kind, queue, at, index, word);
-    store[p]
-}
-
-// Put 3a, 3b (FIFO 4a, 4b): where the task's word is written.
-pub fn put_place(kind: Kind, queue: Queue, at: usize, read: Anchor, word: usize) -> usize
-    requires { ⌜ Listed queue at ⌝ }
-    requires { ⌜ (read .head ≤ 65535) × (read .count ≤ 65535) ⌝ }
-    requires { ⌜ Slotted kind queue at (putIndex kind read) ⌝ }
-    requires { ⌜ word ≤ 1 ⌝ }
-    ensures { λ r. ⌜ r ≡ offsetAt (queue .arrays) at + 2 * slot kind (sizeAt (queue .arrays) at) (putIndex kind read) + word ⌝ }
-{
-    let index = put_index(kind, read);
-    place(kind, queue, at, index, word)
-}
-
-// Take 3a, 3b (FIFO 4a, 4b): the task's word, in the array at place `at`.
-pub fn taken_word(
-    kind: Kind,
-    queue: Queue,
-    at: usize,
-    read: Anchor,
-    word: usize,
-    store: &[u32],
-) -> u32
-    requires { ⌜ Listed queue at ⌝ }
-    requires { ⌜ (read .head ≤ 65535) × (read .count ≤ 65535) ⌝ }
-    requires { ⌜ Some kind read ⌝ }
-    requires { ⌜ Slotted kind queue at (takeIndex kind read) ⌝ }
-    requires { ⌜ Inside queue (length (now store)) at ⌝ }
-    requires { ⌜ word ≤ 1 ⌝ }
-    ensures { λ r. ⌜ r ≡ wordOf kind queue (now (store .entry)) at (takeIndex kind read) word ⌝ }
-{
-    let index = take_index(kind, read);
-    read_word(kind, queue, at, index, word, store)
-}
-
-// Steal 4a, 4b (FIFO 5a, 5b): the task's word, in the noted array, at place `at`.
-pub fn stolen_word(
-    kind: Kind,
-    queue: Queue,
-    at: usize,
-    read: Anchor,
-    word: usize,
-    store: &[u32],
-) -> u32
-    requires { ⌜ Listed queue at ⌝ }
-    requires { ⌜ Some kind read ⌝ }
-    requires { ⌜ Slotted kind queue at (stealIndex kind read) ⌝ }
-    requires { ⌜ Inside queue (length (now store)) at ⌝ }
-    requires { ⌜ word ≤ 1 ⌝ }
-    ensures { λ r. ⌜ r ≡ wordOf kind queue (now (store .entry)) at (stealIndex kind read) word ⌝ }
-{
-    let index = steal_index(kind, read);
-    read_word(kind, queue, at, index, word, store)
-}
-
-// X1's condition: twice the size is at most 1,024, and the store's words left are enough.
-pub fn has_room(queue: Queue, store: &[u32]) -> bool
-    requires { ⌜ (0 < queue .published) × (queue .published ≤ 11) × (length (queue .arrays) ≡ 11) ⌝ }
-    requires { ⌜ Small queue (queue .published - 1) ⌝ }
-    ensures { λ r. ⌜ r ≡ fits queue (now (store .entry)) ⌝ }
-{
-    let here = queue.published - 1;
-    let at = here as usize;
-    let size = size_at(queue, at);
-    let from = end_of(queue, at);
-    let end = (from + 2 * (2 * size)) as usize;
-    let n = store.len();
-    2 * size <= 1024 && end <= n
 }

@@ -67,7 +67,8 @@ use Rattle.model.specs.Limits.{
   thievesOk,
   validOf,
 }
-use Rattle.figures.specs.Bounds.{Some, Ordered, Inside}
+use Rattle.figures.specs.Bounds.{Ordered}
+use Rattle.slots.specs.Bounds.{Inside}
 use Rattle.lines.specs.Act.{Ground, Ready, Range, Lies, Free}
 use Rattle.model.proofs.Tests.{and-left, and-right, if-true}
 use Rattle.lines.proofs.Directory.{Laid, Arrays, arrays-of}
@@ -125,27 +126,20 @@ ordered Lifo z a e = tt
 ordered Fifo z a e = e .0
 ordered Deque z a e = tt
 
-some : (κ : Kind) (r : Anchor) → someOk κ r ≡ true → Some κ r
-unfolding Some
-some Lifo r e = ltb-true _ _ e
-some Fifo r e = tt
-some Deque r e = ltb-true _ _ e
-
 -- the slot of each index exists
 put-slot : (κ : Kind) (z : ℕ) (r : Anchor) → 0 < z → roomOk κ z r ≡ true → slot κ z (putIndex κ r) < z
 put-slot Lifo z r b e = ltb-true _ _ e
 put-slot Fifo z r b e = mod-lt _ b
 put-slot Deque z r b e = mod-lt _ b
 
-take-slot : (κ : Kind) (z : ℕ) (r : Anchor) → 0 < z → Within κ z r → Some κ r → slot κ z (takeIndex κ r) < z
-unfolding Some
-take-slot Lifo z r b e f = omega (arith, e, f)
+take-slot : (κ : Kind) (z : ℕ) (r : Anchor) → 0 < z → Within κ z r → someOk κ r ≡ true → slot κ z (takeIndex κ r) < z
+take-slot Lifo z r b e f = let g : 0 < r .count = ltb-true _ _ f in omega (arith, e, g)
 take-slot Fifo z r b e f = mod-lt _ b
 take-slot Deque z r b e f = mod-lt _ b
 
-steal-slot : (κ : Kind) (z : ℕ) (r : Anchor) → 0 < z → slotOk κ z r ≡ true → Some κ r → slot κ z (stealIndex κ r) < z
-unfolding Some
-steal-slot Lifo z r b e f = let g : r .count ≤ z = leb-true _ _ e in omega (arith, f, g)
+steal-slot : (κ : Kind) (z : ℕ) (r : Anchor) → 0 < z → slotOk κ z r ≡ true → someOk κ r ≡ true → slot κ z (stealIndex κ r) < z
+steal-slot Lifo z r b e f =
+    let g : r .count ≤ z = leb-true _ _ e in let h : 0 < r .count = ltb-true _ _ f in omega (arith, g, h)
 steal-slot Fifo z r b e f = mod-lt _ b
 steal-slot Deque z r b e f = mod-lt _ b
 
@@ -185,18 +179,16 @@ module _ (κ : Kind) (w : ℕ) (q : Queue) (n : ℕ) (o : Line) (A : Arrays q n 
       (range r (and-left _ _ e), lies _ _ h (put-slot κ (size q) r (there _ h .1) (and-right _ _ e)))
 
   take-ready : (r : Anchor) → readOk κ w (size q) r ≡ true → someOk κ r ≡ true
-      → Range r × Some κ r × Lies κ q n (q .published - 1) (takeIndex κ r)
+      → Range r × (someOk κ r ≡ true) × Lies κ q n (q .published - 1) (takeIndex κ r)
   take-ready r e f =
       let h : q .published - 1 < q .claimed = omega (arith, A .some, A .behind) in
-      let s = some κ r f in
-      (range r e, s, lies _ _ h (take-slot κ (size q) r (there _ h .1) (within κ w (size q) r e) s))
+      (range r e, f, lies _ _ h (take-slot κ (size q) r (there _ h .1) (within κ w (size q) r e) f))
 
   steal-ready : (r : Anchor) (k : ℕ) → readOk κ w (size q) r ≡ true → someOk κ r ≡ true → placeOk κ q r k ≡ true
-      → Range r × Some κ r × Lies κ q n k (stealIndex κ r)
+      → Range r × (someOk κ r ≡ true) × Lies κ q n k (stealIndex κ r)
   steal-ready r k e f p =
       let h : k < q .claimed = behind k (ltb-true _ _ (and-left _ _ p)) in
-      let s = some κ r f in
-      (range r e, s, lies k _ h (steal-slot κ (sizeAt (q .arrays) k) r (there k h .1) (and-right _ _ p) s))
+      (range r e, f, lies k _ h (steal-slot κ (sizeAt (q .arrays) k) r (there k h .1) (and-right _ _ p) f))
 
   free : Free q
   free d = go (eq-or-lt-of-le {n = q .published} {m = 11} (omega (arith, A .behind, A .listed)))
@@ -244,7 +236,7 @@ module _ (κ : Kind) (w : ℕ) (q : Queue) (n : ℕ) (o : Line) (A : Arrays q n 
   ready (TakeTest r) a x e = tt
   ready (TakeNumber r) a x e = take-ready r (and-left _ _ e) (and-right _ _ e)
   ready (TakePayload r m) a x e = take-ready r (and-left _ _ e) (and-left _ _ (and-right _ _ e))
-  ready (TakeFinish r t) a x e = (range r (and-left _ _ e), some κ r (and-left _ _ (and-right _ _ e)))
+  ready (TakeFinish r t) a x e = (range r (and-left _ _ e), and-left _ _ (and-right _ _ e))
   ready StealRead a x e = tt
   ready (StealTail h) a x e = tt
   ready (StealTest r) a x e = tt
@@ -255,7 +247,7 @@ module _ (κ : Kind) (w : ℕ) (q : Queue) (n : ℕ) (o : Line) (A : Arrays q n 
       let e1 = and-right _ _ e in
       steal-ready r k (and-left _ _ e) (and-left _ _ e1) (and-left _ _ (and-right _ _ e1))
   ready (StealNext r t) a x e = range r (and-left _ _ e)
-  ready (StealCompare r i t) a x e = (range r (and-left _ _ e), some κ r (and-left _ _ (and-right _ _ e)))
+  ready (StealCompare r i t) a x e = (range r (and-left _ _ e), and-left _ _ (and-right _ _ e))
 
 -- a thief is at no line of an expansion
 thief-not : (l : Line) → isThiefs l ≡ true → isExpanding l ≡ true → ⊥

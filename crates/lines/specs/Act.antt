@@ -1,5 +1,6 @@
 -- What an act does to queue and store, and what a line needs to be done.
 use mathlib.Core.Path.{_≡_}
+use mathlib.Core.Bool.{true}
 use mathlib.Core.List.{List}
 use Prim.Native.Nat.{ℕ, _+_, _-_, _*_, _≤_, _<_}
 use lib.ListN.{length, set}
@@ -38,7 +39,9 @@ use Rattle.model.specs.declared.Answer.the-variants.{GoesOn}
 use Rattle.model.specs.Memory.{zeros}
 use Rattle.model.specs.Figures.{putIndex, takeIndex, stealIndex}
 use Rattle.model.specs.Lines.{Effect, eff, off, size, anchored, publishing}
-use Rattle.figures.specs.Bounds.{Some, Ordered, Slotted, Inside}
+use Rattle.model.specs.Limits.{someOk}
+use Rattle.figures.specs.Bounds.{Ordered}
+use Rattle.slots.specs.Bounds.{Slotted, Inside}
 use Rattle.lines.specs.declared.Change.{Change}
 use Rattle.lines.specs.declared.Change.the-variants.{Word, Copies, Claims, Publishes}
 use Rattle.lines.specs.declared.Act.{Act}
@@ -130,14 +133,14 @@ Ready κ q n (Publish t) = Unit {0}
 Ready κ q n TakeRead = Unit {0}
 Ready κ q n (TakeTail h) = Unit {0}
 Ready κ q n (TakeTest r) = Unit {0}
-Ready κ q n (TakeNumber r) = Range r × Some κ r × Lies κ q n (q .published - 1) (takeIndex κ r)
-Ready κ q n (TakePayload r x) = Range r × Some κ r × Lies κ q n (q .published - 1) (takeIndex κ r)
-Ready κ q n (TakeFinish r t) = Range r × Some κ r
+Ready κ q n (TakeNumber r) = Range r × (someOk κ r ≡ true) × Lies κ q n (q .published - 1) (takeIndex κ r)
+Ready κ q n (TakePayload r x) = Range r × (someOk κ r ≡ true) × Lies κ q n (q .published - 1) (takeIndex κ r)
+Ready κ q n (TakeFinish r t) = Range r × (someOk κ r ≡ true)
 Ready κ q n StealRead = Unit {0}
 Ready κ q n (StealTail h) = Unit {0}
 Ready κ q n (StealTest r) = Unit {0}
 Ready κ q n (StealNote r) = Unit {0}
-Ready κ q n (StealNumber r k) = Range r × Some κ r × Lies κ q n k (stealIndex κ r)
-Ready κ q n (StealPayload r k x) = Range r × Some κ r × Lies κ q n k (stealIndex κ r)
+Ready κ q n (StealNumber r k) = Range r × (someOk κ r ≡ true) × Lies κ q n k (stealIndex κ r)
+Ready κ q n (StealPayload r k x) = Range r × (someOk κ r ≡ true) × Lies κ q n k (stealIndex κ r)
 Ready κ q n (StealNext r t) = Range r
-Ready κ q n (StealCompare r e t) = Range r × Some κ r
+Ready κ q n (StealCompare r e t) = Range r × (someOk κ r ≡ true)

@@ -1,13 +1,15 @@
 // What one line of figures 1, 2 and 3 does: a pure function from the line to an act. Applying the act is another crate's.
-// Uses `model` and `figures`. It is used by `machine`, `queues`, `replies` and `listing`.
+// Uses `model`, `figures` and `slots`. It is used by `machine`, `queues`, `replies` and `listing`.
 ghost use mathlib.Core.Path.{_≡_};
+ghost use mathlib.Core.Bool.{true};
 ghost use mathlib.Core.List.{List};
 ghost use Prim.Native.Nat.{ℕ, _-_, _≤_, _<_};
 ghost use lib.ListN.{length};
 ghost use Rattle.model.specs.declared.Queue.{Queue};
 ghost use Rattle.model.specs.Memory.{sizeAt};
 ghost use Rattle.model.specs.Lines.{unlessEmpty, compares, claims, lineStep};
-ghost use Rattle.figures.specs.Bounds.{Some, Small};
+ghost use Rattle.model.specs.Limits.{someOk};
+ghost use Rattle.slots.specs.Bounds.{Small};
 ghost use Rattle.lines.specs.Act.{enact, InStore, Ground, Ready, Range, Free};
 use model::Anchor;
 use model::Answer;
@@ -52,7 +54,7 @@ fn unless_empty(kind: Kind, worker: u32, read: Anchor, next: Line) -> Act
 // The compare: the task is handed out, or back to line 1.
 fn compare(kind: Kind, queue: Queue, worker: u32, read: Anchor, next: u32, task: Task) -> Act
     requires { ⌜ Range read ⌝ }
-    requires { ⌜ Some kind read ⌝ }
+    requires { ⌜ someOk kind read ≡ true ⌝ }
     ensures { λ r. ⌜ ((m : List ℕ) → enact queue m r ≡ compares kind queue m worker read next task) ⌝ }
     ensures { λ r. ⌜ ((n : ℕ) → InStore queue n r) ⌝ }
 {
@@ -80,10 +82,10 @@ fn claim(queue: Queue, size: u32, store: &[u32], worker: u32, task: Task) -> Act
     ensures { λ r. ⌜ enact queue (now (store .entry)) r ≡ claims queue (now (store .entry)) worker task ⌝ }
     ensures { λ r. ⌜ InStore queue (length (now (store .entry))) r ⌝ }
 {
-    let room = figures::has_room(queue, store);
+    let room = slots::has_room(queue, store);
     if room {
         let here = queue.published - 1;
-        let from = figures::end_of(queue, here as usize);
+        let from = slots::end_of(queue, here as usize);
         let words = 2 * (2 * size);
         let change = Change::Claims {
             offset: from,
@@ -126,13 +128,13 @@ pub fn decide(kind: Kind, width: u32, queue: Queue, store: &[u32], worker: u32, 
         }
         // put 2; 3
         Line::PutTest { task, read } => {
-            let size = figures::size_at(queue, at);
+            let size = slots::size_at(queue, at);
             let next = figures::put_test(kind, size, read, task);
             Act::Goes { line: next }
         }
         // put 3a; 4a
         Line::PutNumber { task, read } => {
-            let place = figures::put_place(kind, queue, at, read, 0);
+            let place = slots::put_place(kind, queue, at, read, 0);
             let change = Change::Word {
                 place,
                 value: task.number,
@@ -144,7 +146,7 @@ pub fn decide(kind: Kind, width: u32, queue: Queue, store: &[u32], worker: u32, 
         }
         // put 3b; 4b
         Line::PutPayload { task, read } => {
-            let place = figures::put_place(kind, queue, at, read, 1);
+            let place = slots::put_place(kind, queue, at, read, 1);
             let change = Change::Word {
                 place,
                 value: task.payload,
@@ -164,12 +166,12 @@ pub fn decide(kind: Kind, width: u32, queue: Queue, store: &[u32], worker: u32, 
         }
         // X1
         Line::Claim { task } => {
-            let size = figures::size_at(queue, at);
+            let size = slots::size_at(queue, at);
             claim(queue, size, store, worker, task)
         }
         // X2
         Line::Note { task } => {
-            let size = figures::size_at(queue, at);
+            let size = slots::size_at(queue, at);
             let next = figures::note_for(kind, size, anchor, task);
             Act::Goes { line: next }
         }
@@ -181,10 +183,10 @@ pub fn decide(kind: Kind, width: u32, queue: Queue, store: &[u32], worker: u32, 
             copied,
         } => {
             let index = head + copied;
-            let number = figures::read_word(kind, queue, at, index, 0, store);
-            let payload = figures::read_word(kind, queue, at, index, 1, store);
+            let number = slots::read_word(kind, queue, at, index, 0, store);
+            let payload = slots::read_word(kind, queue, at, index, 1, store);
             let claimed = queue.published as usize;
-            let place = figures::place(kind, queue, claimed, index, 0);
+            let place = slots::place(kind, queue, claimed, index, 0);
             let next = figures::copy_on(task, head, noted, copied);
             let change = Change::Copies {
                 place,
@@ -213,14 +215,14 @@ pub fn decide(kind: Kind, width: u32, queue: Queue, store: &[u32], worker: u32, 
         Line::TakeTest { read } => unless_empty(kind, worker, read, Line::TakeNumber { read }),
         // take 3a; 4a
         Line::TakeNumber { read } => {
-            let number = figures::taken_word(kind, queue, at, read, 0, store);
+            let number = slots::taken_word(kind, queue, at, read, 0, store);
             Act::Goes {
                 line: Line::TakePayload { read, number },
             }
         }
         // take 3b; 4b
         Line::TakePayload { read, number } => {
-            let payload = figures::taken_word(kind, queue, at, read, 1, store);
+            let payload = slots::taken_word(kind, queue, at, read, 1, store);
             Act::Goes {
                 line: Line::TakeFinish {
                     read,
@@ -256,7 +258,7 @@ pub fn decide(kind: Kind, width: u32, queue: Queue, store: &[u32], worker: u32, 
         },
         // steal 4a; 5a
         Line::StealNumber { read, place } => {
-            let number = figures::stolen_word(kind, queue, place as usize, read, 0, store);
+            let number = slots::stolen_word(kind, queue, place as usize, read, 0, store);
             Act::Goes {
                 line: Line::StealPayload {
                     read,
@@ -271,7 +273,7 @@ pub fn decide(kind: Kind, width: u32, queue: Queue, store: &[u32], worker: u32, 
             place,
             number,
         } => {
-            let payload = figures::stolen_word(kind, queue, place as usize, read, 1, store);
+            let payload = slots::stolen_word(kind, queue, place as usize, read, 1, store);
             let next = figures::steal_last(kind, read, Task { number, payload });
             Act::Goes { line: next }
         }

@@ -1,6 +1,5 @@
-use native.Mathlib.Omega.{arith}
+use borrow.Author.Tests.{ltb-true}
 use borrow.Author.Needs.{needs}
-use Rattle.figures.specs.Bounds.{Some}
 use Rattle.figures.proofs.after_steal.Statement.{statement}
 use Rattle.figures.proofs.after_steal.Tie as tie
 
@@ -20,8 +19,7 @@ enum-told-3 : tie.Need-enum-told-3
 enum-told-3 c = search needs
 
 sub-anchor-of : tie.Need-sub-anchor-of
-unfolding Some
-sub-anchor-of c = omega (arith, rw (c .before .enum-told3 .given .1) at (c .before .before .before .pre .1))
+sub-anchor-of c = ltb-true _ _ (rw (c .before .enum-told3 .given .1) at (c .before .before .before .pre .1))
 
 anchor-of-requires : tie.Need-anchor-of-requires
 anchor-of-requires c κs = search needs

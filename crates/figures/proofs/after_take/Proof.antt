@@ -1,6 +1,5 @@
-use native.Mathlib.Omega.{arith}
+use borrow.Author.Tests.{ltb-true}
 use borrow.Author.Needs.{needs}
-use Rattle.figures.specs.Bounds.{Some}
 use Rattle.figures.proofs.after_take.Statement.{statement}
 use Rattle.figures.proofs.after_take.Tie as tie
 
@@ -8,8 +7,7 @@ enum-told : tie.Need-enum-told
 enum-told c = search needs
 
 sub-anchor-of : tie.Need-sub-anchor-of
-unfolding Some
-sub-anchor-of c = omega (arith, rw (c .before .enum-told .given .1) at (c .before .before .before .pre .1))
+sub-anchor-of c = ltb-true _ _ (rw (c .before .enum-told .given .1) at (c .before .before .before .pre .1))
 
 anchor-of-requires : tie.Need-anchor-of-requires
 anchor-of-requires c κs = search needs
@@ -27,8 +25,7 @@ enum-told-3 : tie.Need-enum-told-3
 enum-told-3 c = search needs
 
 sub-anchor-of-2 : tie.Need-sub-anchor-of-2
-unfolding Some
-sub-anchor-of-2 c = omega (arith, rw (c .before .enum-told3 .given .1) at (c .before .before .before .pre .1))
+sub-anchor-of-2 c = ltb-true _ _ (rw (c .before .enum-told3 .given .1) at (c .before .before .before .pre .1))
 
 anchor-of-requires-3 : tie.Need-anchor-of-requires-3
 anchor-of-requires-3 c κs = search needs

@@ -1,7 +1,7 @@
 use native.Mathlib.Omega.{arith}
 use borrow.Author.Needs.{needs}
-use Rattle.figures.proofs.stolen_word.Statement.{statement}
-use Rattle.figures.proofs.stolen_word.Tie as tie
+use Rattle.slots.proofs.stolen_word.Statement.{statement}
+use Rattle.slots.proofs.stolen_word.Tie as tie
 
 steal-index-requires : tie.Need-steal-index-requires
 steal-index-requires c κs = search needs

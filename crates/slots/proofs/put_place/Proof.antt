@@ -1,7 +1,7 @@
 use native.Mathlib.Omega.{arith}
 use borrow.Author.Needs.{needs}
-use Rattle.figures.proofs.put_place.Statement.{statement}
-use Rattle.figures.proofs.put_place.Tie as tie
+use Rattle.slots.proofs.put_place.Statement.{statement}
+use Rattle.slots.proofs.put_place.Tie as tie
 
 put-index-requires : tie.Need-put-index-requires
 put-index-requires c κs = search needs

@@ -1,7 +1,7 @@
 use borrow.Author.Needs.{needs}
 use Rattle.model.specs.Memory.{sizeAt}
-use Rattle.figures.proofs.size_at.Statement.{statement}
-use Rattle.figures.proofs.size_at.Tie as tie
+use Rattle.slots.proofs.size_at.Statement.{statement}
+use Rattle.slots.proofs.size_at.Tie as tie
 
 mul-region : tie.Need-mul-region
 mul-region c = search needs

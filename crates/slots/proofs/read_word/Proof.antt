@@ -1,7 +1,7 @@
 use borrow.Author.Needs.{needs}
 use Rattle.model.specs.Memory.{wordAt}
-use Rattle.figures.proofs.read_word.Statement.{statement}
-use Rattle.figures.proofs.read_word.Tie as tie
+use Rattle.slots.proofs.read_word.Statement.{statement}
+use Rattle.slots.proofs.read_word.Tie as tie
 
 place-requires : tie.Need-place-requires
 place-requires c κs = search needs

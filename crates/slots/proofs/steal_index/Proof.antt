@@ -1,15 +1,13 @@
-use native.Mathlib.Omega.{arith}
+use borrow.Author.Tests.{ltb-true}
 use borrow.Author.Needs.{needs}
-use Rattle.figures.specs.Bounds.{Some}
-use Rattle.figures.proofs.steal_index.Statement.{statement}
-use Rattle.figures.proofs.steal_index.Tie as tie
+use Rattle.slots.proofs.steal_index.Statement.{statement}
+use Rattle.slots.proofs.steal_index.Tie as tie
 
 enum-told : tie.Need-enum-told
 enum-told c = search needs
 
 sub-result : tie.Need-sub-result
-unfolding Some
-sub-result c = omega (arith, rw (c .before .enum-told .given .1) at (c .before .before .before .pre))
+sub-result c = ltb-true _ _ (rw (c .before .enum-told .given .1) at (c .before .before .before .pre))
 
 enum-told-2 : tie.Need-enum-told-2
 enum-told-2 c = search needs

@@ -1,7 +1,7 @@
 use native.Mathlib.Omega.{arith}
 use borrow.Author.Needs.{needs}
-use Rattle.figures.proofs.taken_word.Statement.{statement}
-use Rattle.figures.proofs.taken_word.Tie as tie
+use Rattle.slots.proofs.taken_word.Statement.{statement}
+use Rattle.slots.proofs.taken_word.Tie as tie
 
 take-index-requires : tie.Need-take-index-requires
 take-index-requires c κs = search needs

@@ -1,8 +1,8 @@
 use borrow.Author.Tests.{le-leb, lt-leb}
 use borrow.Author.Needs.{needs}
 use Rattle.model.specs.Tests.{if_then_else_, _and_}
-use Rattle.figures.proofs.has_room.Statement.{statement}
-use Rattle.figures.proofs.has_room.Tie as tie
+use Rattle.slots.proofs.has_room.Statement.{statement}
+use Rattle.slots.proofs.has_room.Tie as tie
 
 sub-here : tie.Need-sub-here
 sub-here c = search needs

@@ -1,15 +1,15 @@
+use Prim.Native.Nat.{_<_}
 use native.Mathlib.Omega.{arith}
+use borrow.Author.Tests.{ltb-true}
 use borrow.Author.Needs.{needs}
-use Rattle.figures.specs.Bounds.{Some}
-use Rattle.figures.proofs.take_index.Statement.{statement}
-use Rattle.figures.proofs.take_index.Tie as tie
+use Rattle.slots.proofs.take_index.Statement.{statement}
+use Rattle.slots.proofs.take_index.Tie as tie
 
 enum-told : tie.Need-enum-told
 enum-told c = search needs
 
 sub-result : tie.Need-sub-result
-unfolding Some
-sub-result c = omega (arith, rw (c .before .enum-told .given .1) at (c .before .before .before .pre .1))
+sub-result c = ltb-true _ _ (rw (c .before .enum-told .given .1) at (c .before .before .before .pre .1))
 
 enum-told-2 : tie.Need-enum-told-2
 enum-told-2 c = search needs
@@ -21,8 +21,10 @@ add-result : tie.Need-add-result
 add-result c = search needs
 
 sub-result-2 : tie.Need-sub-result-2
-unfolding Some
-sub-result-2 c = omega (arith, rw (c .before .enum-told3 .given .1) at (c .before .before .before .pre .1))
+sub-result-2 c =
+    let s : 0 < c .before .before .before .args .read .count =
+    ltb-true _ _ (rw (c .before .enum-told3 .given .1) at (c .before .before .before .pre .1)) in
+    omega (arith, s)
 
 returns : tie.Need-returns
 returns c = simp (c .before .enum-told .given .1)
