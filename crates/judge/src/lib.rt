@@ -1,0 +1,148 @@
+// Judges a log that a running matcher wrote: whether its hand-outs are those of finished puts, and every finished put is handed
+// out or still stored.
+// Uses `model`. No crate uses it yet.
+ghost use mathlib.Core.Path.{_≡_};
+ghost use mathlib.Core.Bool.{true, false};
+ghost use Prim.Native.Nat.{ℕ, _+_, _*_, _≤_, _<_};
+ghost use lib.Dec.{eqb};
+ghost use lib.ListN.{length, getD};
+ghost use Rattle.model.specs.Tests.{_and_, _or_};
+ghost use Rattle.model.specs.Counts.{entryAt};
+ghost use Rattle.judge.specs.Judgement.{wordsOf, allBelow, known, rises};
+ghost use Rattle.judge.specs.Puts.{Rising, FoundBy, Gathered, RepeatsPut};
+
+// What the judge answers: a list is too long, or its length is none of whole entries (of whole numbers); the log is not accepted;
+// or it is, with its hand-outs and, among them, the repeats.
+pub enum Verdict {
+    TooLong,
+    BadLength,
+    No,
+    Accepted { handouts: u32, repeats: u32 },
+}
+
+fn wide(byte: u8) -> u32
+    ensures { λ r. ⌜ (r ≡ byte) × (r ≤ 255) ⌝ }
+{
+    byte as u32
+}
+
+// Word `k` of the bytes, lowest byte first.
+fn word(bytes: &[u8], k: usize) -> u32
+    requires { ⌜ 4 * k + 3 < length (now bytes) ⌝ }
+    ensures { λ r. ⌜ r ≡ getD (wordsOf (now (bytes .entry))) k 0 ⌝ }
+{
+    let at = 4 * k;
+    let a = wide(bytes[at]);
+    let b = wide(bytes[at + 1]);
+    let c = wide(bytes[at + 2]);
+    let d = wide(bytes[at + 3]);
+    a + 256 * b + 65536 * c + 16777216 * d
+}
+
+// The put number of an entry.
+fn number_at(log: &[u8], entry: u32) -> u32
+    requires { ⌜ 16 * entry + 16 ≤ length (now log) ⌝ }
+    ensures { λ r. ⌜ r ≡ entryAt (wordsOf (now (log .entry))) entry .number ⌝ }
+{
+    word(log, 4 * (entry as usize) + 2)
+}
+
+// Which of the first `count` finished puts has the number, found by halving, for their numbers rise; `count` if none has.
+fn find(log: &[u8], puts: &[u32], count: usize, number: u32) -> usize
+    requires { ⌜ count ≤ length (now puts) ⌝ }
+    requires { ⌜ ((k : ℕ) → k < count → 16 * getD (now puts) k 0 + 16 ≤ length (now log)) ⌝ }
+    requires { ⌜ Rising (wordsOf (now log)) (now puts) count ⌝ }
+    ensures { λ r. ⌜ FoundBy (wordsOf (now (log .entry))) (now (puts .entry)) count number r ⌝ }
+{
+    let mut low: usize = 0;
+    let mut high = count;
+    while low < high {
+        let middle = low + (high - low) / 2;
+        let here = number_at(log, puts[middle]);
+        if here == number {
+            return middle;
+        }
+        if here < number {
+            low = middle + 1;
+        } else {
+            high = middle;
+        }
+    }
+    count
+}
+
+// Whether kinds are 1 to 4 and the numbers of kinds 1 and 4 rise. `floor` is one above the last of them, at first 0.
+fn in_order(log: &[u8], entries: usize) -> bool
+    requires { ⌜ 16 * entries ≤ length (now log) ⌝ }
+    ensures { λ r. ⌜ r ≡ (allBelow (known (wordsOf (now (log .entry)))) entries and allBelow (rises (wordsOf (now (log .entry)))) entries) ⌝ }
+{
+    let mut floor: u64 = 0;
+    let mut j: usize = 0;
+    while j < entries {
+        let kind = word(log, 4 * j);
+        if kind < 1 {
+            return false;
+        }
+        if 4 < kind {
+            return false;
+        }
+        if kind == 2 {
+            j += 1;
+            continue;
+        }
+        if kind == 3 {
+            j += 1;
+            continue;
+        }
+        let number = word(log, 4 * j + 2) as u64;
+        if number < floor {
+            return false;
+        }
+        floor = number + 1;
+        j += 1;
+    }
+    true
+}
+
+// The places of the finished puts, in order; how many there are.
+fn gather(log: &[u8], entries: usize, puts: &mut [u32]) -> usize
+    requires { ⌜ (16 * entries ≤ length (now log)) × (entries ≤ length (now puts)) × (entries ≤ 4096) ⌝ }
+    ensures { λ r. ⌜ Gathered (wordsOf (now (log .entry))) entries (now (puts .exit)) r ⌝ }
+{
+    let mut count: usize = 0;
+    let mut j: usize = 0;
+    while j < entries {
+        let kind = word(log, 4 * j);
+        if kind != 1 {
+            j += 1;
+            continue;
+        }
+        puts[count] = j as u32;
+        count += 1;
+        j += 1;
+    }
+    count
+}
+
+// Which of the finished puts hand-out `j` repeats, number and payload, if that put stands before it; `count` if none.
+fn repeated(log: &[u8], entries: usize, puts: &[u32], count: usize, j: usize) -> usize
+    requires { ⌜ (16 * entries ≤ length (now log)) × (entries ≤ 4096) × (count ≤ length (now puts)) × (j < entries) ⌝ }
+    requires { ⌜ Gathered (wordsOf (now log)) entries (now puts) count ⌝ }
+    requires { ⌜ Rising (wordsOf (now log)) (now puts) count ⌝ }
+    ensures { λ r. ⌜ RepeatsPut (wordsOf (now (log .entry))) (now (puts .entry)) count j r ⌝ }
+{
+    let k = find(log, puts, count, word(log, 4 * j + 2));
+    if k == count {
+        return count;
+    }
+    let place = puts[k] as usize;
+    if j <= place {
+        return count;
+    }
+    let payload = word(log, 4 * j + 3);
+    let own = word(log, 4 * place + 3);
+    if payload != own {
+        return count;
+    }
+    k
+}
