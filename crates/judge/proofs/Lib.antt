@@ -5,3 +5,4 @@ pub mod All
 pub mod Order
 pub mod Gathering
 pub mod Repeating
+pub mod Marking

@@ -20,17 +20,20 @@ none-below p zero h = refl
 none-below p (suc n) h = rw (h n (omega arith)) (none-below p n (λ i g. h i (omega (arith, g))))
 
 module _ (l : List ℕ) (n : ℕ) (puts : List ℕ) (c : ℕ) (G : Gathered l n puts c) (R : Rising l puts c) where
-  one-place : (i k : ℕ) (y z : Bool) → ltb i k ≡ y → ltb k i ≡ z → i < c → k < c → numberOfPut l puts i ≡ numberOfPut l puts k → i ≡ k
-  one-place i k true z e f a b q = absurd (let r = R i k (ltb-true i k e) b in omega (arith, r, q))
-  one-place i k false true e f a b q = absurd (let r = R k i (ltb-true k i f) a in omega (arith, r, q))
-  one-place i k false false e f a b q = let d = ltb-false i k e in let g = ltb-false k i f in omega (arith, d, g)
+  one-by : (i k : ℕ) (y z : Bool) → ltb i k ≡ y → ltb k i ≡ z → i < c → k < c → numberOfPut l puts i ≡ numberOfPut l puts k → i ≡ k
+  one-by i k true z e f a b q = absurd (let r = R i k (ltb-true i k e) b in omega (arith, r, q))
+  one-by i k false true e f a b q = absurd (let r = R k i (ltb-true k i f) a in omega (arith, r, q))
+  one-by i k false false e f a b q = let d = ltb-false i k e in let g = ltb-false k i f in omega (arith, d, g)
+
+  pub one-place : (i k : ℕ) → i < c → k < c → numberOfPut l puts i ≡ numberOfPut l puts k → i ≡ k
+  one-place i k a b q = one-by i k (ltb i k) (ltb k i) refl refl a b q
 
   -- the finished put with the number of the k-th is the k-th
   pub same-put : (i k : ℕ) → i < n → isKind l 1 i ≡ true → k < c → entryAt l i .number ≡ numberOfPut l puts k → i ≡ getD puts k 0
   same-put i k h p b q =
       let g = G .all i h p in
       sym (g .2) ∙ ap (λ (x : ℕ). getD puts x 0)
-      (one-place (g .0) k (ltb (g .0) k) (ltb k (g .0)) refl refl (g .1) b (ap (λ (x : ℕ). entryAt l x .number) (g .2) ∙ q))
+      (one-place (g .0) k (g .1) b (ap (λ (x : ℕ). entryAt l x .number) (g .2) ∙ q))
 
   module _ (j : ℕ) (within : j < n) where
     -- no entry before j is a finished put with j's number and payload, unless the condition on it fails
