@@ -14,7 +14,7 @@ use Rattle.judge.specs.Judgement.{allBelow, numbered, rises}
 use Rattle.judge.specs.Puts.{numberOfPut, Rising, Gathered}
 use Rattle.judge.proofs.All.{all-at}
 
-clash : true ≡ false → ⊥
+pub clash : true ≡ false → ⊥
 clash e = let z : _≡_ {A = ℕ} 0 1 = cc in omega (arith, z)
 
 module _ (l : List ℕ) where

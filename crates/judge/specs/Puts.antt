@@ -6,8 +6,9 @@ use Prim.Native.Nat.{ℕ, _≤_, _<_}
 use lib.Dec.{eqb}
 use lib.ListN.{getD}
 use Rattle.model.specs.Tests.{_or_}
-use Rattle.model.specs.Counts.{entryAt, taskAt, isKind, someBelow, outWhole}
-use Rattle.judge.specs.Judgement.{finishedAs, listed}
+use Rattle.model.specs.Counts.{entryAt, taskAt, isKind, someBelow, countBelow, outWhole, outFirst}
+use Rattle.judge.specs.declared.Outs.{Outs}
+use Rattle.judge.specs.Judgement.{allBelow, finishedAs, honest, listed}
 
 -- the number of the k-th of them
 abbrev pub numberOfPut : List ℕ → List ℕ → ℕ → ℕ
@@ -42,3 +43,10 @@ pub record RepeatsPut (l puts : List ℕ) (c j r : ℕ) : Type 0 where
   pub within : r ≤ c
   pub found : r < c → (getD puts r 0 < j) × (finishedAs l j (getD puts r 0) ≡ true)
   pub none : r ≡ c → someBelow (finishedAs l j) j ≡ false
+
+-- the hand-outs were judged: where all are honest, their counts, and each put that one of them hands out is marked
+pub record OutsBy (l : List ℕ) (n : ℕ) (puts : List ℕ) (c : ℕ) (r : Outs) (seen : List ℕ) : Type 0 where
+  pub fine : r .fine ≡ allBelow (honest l) n
+  pub handouts : r .fine ≡ true → r .handouts ≡ countBelow (isKind l 2) n
+  pub different : r .fine ≡ true → r .different ≡ countBelow (outFirst l) n
+  pub marked : r .fine ≡ true → (stored : List ℕ) → Marked l n stored 0 puts c seen

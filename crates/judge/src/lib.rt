@@ -9,7 +9,7 @@ ghost use lib.ListN.{length, getD};
 ghost use Rattle.model.specs.Tests.{_and_, _or_};
 ghost use Rattle.model.specs.Counts.{entryAt};
 ghost use Rattle.judge.specs.Judgement.{wordsOf, allBelow, known, rises};
-ghost use Rattle.judge.specs.Puts.{Rising, FoundBy, Gathered, RepeatsPut};
+ghost use Rattle.judge.specs.Puts.{Rising, FoundBy, Gathered, RepeatsPut, OutsBy};
 
 // What the judge answers: a list is too long, or its length is none of whole entries (of whole numbers); the log is not accepted;
 // or it is, with its hand-outs and, among them, the repeats.
@@ -145,4 +145,51 @@ fn repeated(log: &[u8], entries: usize, puts: &[u32], count: usize, j: usize) ->
         return count;
     }
     k
+}
+
+// What the hand-outs told: whether each repeats an earlier finished put, how many there are, and of how many puts.
+struct Outs {
+    fine: bool,
+    handouts: u32,
+    different: u32,
+}
+
+// The hand-outs counted, and the puts that they hand out marked in `seen`, where nothing was marked before.
+fn hand_outs(log: &[u8], entries: usize, puts: &[u32], count: usize, seen: &mut [u32]) -> Outs
+    requires { ⌜ (16 * entries ≤ length (now log)) × (entries ≤ 4096) × (count ≤ length (now puts)) × (count ≤ length (now seen)) ⌝ }
+    requires { ⌜ Gathered (wordsOf (now log)) entries (now puts) count ⌝ }
+    requires { ⌜ Rising (wordsOf (now log)) (now puts) count ⌝ }
+    requires { ⌜ ((k : ℕ) → getD (now seen) k 0 ≡ 0) ⌝ }
+    ensures { λ r. ⌜ OutsBy (wordsOf (now (log .entry))) entries (now (puts .entry)) count r (now (seen .exit)) ⌝ }
+{
+    let mut handouts: u32 = 0;
+    let mut different: u32 = 0;
+    let mut j: usize = 0;
+    while j < entries {
+        let kind = word(log, 4 * j);
+        if kind != 2 {
+            j += 1;
+            continue;
+        }
+        let k = repeated(log, entries, puts, count, j);
+        if k == count {
+            return Outs {
+                fine: false,
+                handouts: 0,
+                different: 0,
+            };
+        }
+        handouts += 1;
+        j += 1;
+        if seen[k] != 0 {
+            continue;
+        }
+        seen[k] = 1;
+        different += 1;
+    }
+    Outs {
+        fine: true,
+        handouts,
+        different,
+    }
 }
