@@ -16,6 +16,10 @@ and-false true = refl
 and-false false = refl
 
 module _ (p : ℕ → Bool) where
+  pub all-none : allBelow p 0 ≡ true
+  unfolding allBelow
+  all-none = refl
+
   pub all-fails : (n j : ℕ) → j < n → p j ≡ false → allBelow p n ≡ false
   unfolding allBelow
   all-fails zero j h e = absurd (omega (arith, h))

@@ -6,3 +6,4 @@ pub mod Order
 pub mod Gathering
 pub mod Repeating
 pub mod Marking
+pub mod Keeping

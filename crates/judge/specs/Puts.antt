@@ -1,6 +1,6 @@
 -- The finished puts of a log, by their entries' places: what looking one up needs, and what it finds.
 use mathlib.Core.Path.{_≡_}
-use mathlib.Core.Bool.{true, false, not}
+use mathlib.Core.Bool.{Bool, true, false, not}
 use mathlib.Core.List.{List}
 use Prim.Native.Nat.{ℕ, _≤_, _<_}
 use lib.Dec.{eqb}
@@ -50,3 +50,6 @@ pub record OutsBy (l : List ℕ) (n : ℕ) (puts : List ℕ) (c : ℕ) (r : Outs
   pub handouts : r .fine ≡ true → r .handouts ≡ countBelow (isKind l 2) n
   pub different : r .fine ≡ true → r .different ≡ countBelow (outFirst l) n
   pub marked : r .fine ≡ true → (stored : List ℕ) → Marked l n stored 0 puts c seen
+
+abbrev pub isMarked : List ℕ → ℕ → Bool
+isMarked seen k = not (eqb (getD seen k 0) 0)

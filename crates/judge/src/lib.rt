@@ -9,7 +9,7 @@ ghost use lib.ListN.{length, getD};
 ghost use Rattle.model.specs.Tests.{_and_, _or_};
 ghost use Rattle.model.specs.Counts.{entryAt};
 ghost use Rattle.judge.specs.Judgement.{wordsOf, allBelow, known, rises};
-ghost use Rattle.judge.specs.Puts.{Rising, FoundBy, Gathered, RepeatsPut, OutsBy};
+ghost use Rattle.judge.specs.Puts.{Rising, FoundBy, Gathered, RepeatsPut, OutsBy, Marked, isMarked};
 
 // What the judge answers: a list is too long, or its length is none of whole entries (of whole numbers); the log is not accepted;
 // or it is, with its hand-outs and, among them, the repeats.
@@ -192,4 +192,47 @@ fn hand_outs(log: &[u8], entries: usize, puts: &[u32], count: usize, seen: &mut 
         handouts,
         different,
     }
+}
+
+// The puts that the list names, marked in `seen` beside those that are handed out.
+fn mark_listed(
+    list: &[u8],
+    numbers: usize,
+    log: &[u8],
+    entries: usize,
+    puts: &[u32],
+    count: usize,
+    seen: &mut [u32],
+)
+    requires { ⌜ (4 * numbers ≤ length (now list)) × (16 * entries ≤ length (now log)) × (count ≤ length (now puts)) × (count ≤ length (now seen)) ⌝ }
+    requires { ⌜ Gathered (wordsOf (now log)) entries (now puts) count ⌝ }
+    requires { ⌜ Rising (wordsOf (now log)) (now puts) count ⌝ }
+    requires { ⌜ Marked (wordsOf (now log)) entries (wordsOf (now list)) 0 (now puts) count (now seen) ⌝ }
+    ensures { λ _. ⌜ Marked (wordsOf (now (log .entry))) entries (wordsOf (now (list .entry))) numbers (now (puts .entry)) count (now (seen .exit)) ⌝ }
+{
+    let mut i: usize = 0;
+    while i < numbers {
+        let number = word(list, i);
+        let k = find(log, puts, count, number);
+        i += 1;
+        if k == count {
+            continue;
+        }
+        seen[k] = 1;
+    }
+}
+
+// Whether all of the first `count` are marked.
+fn all_marked(seen: &[u32], count: usize) -> bool
+    requires { ⌜ count ≤ length (now seen) ⌝ }
+    ensures { λ r. ⌜ r ≡ allBelow (isMarked (now (seen .entry))) count ⌝ }
+{
+    let mut k: usize = 0;
+    while k < count {
+        if seen[k] == 0 {
+            return false;
+        }
+        k += 1;
+    }
+    true
 }
