@@ -7,3 +7,4 @@ pub mod Gathering
 pub mod Repeating
 pub mod Marking
 pub mod Keeping
+pub mod Whole

@@ -8,7 +8,7 @@ ghost use lib.Dec.{eqb};
 ghost use lib.ListN.{length, getD};
 ghost use Rattle.model.specs.Tests.{_and_, _or_};
 ghost use Rattle.model.specs.Counts.{entryAt};
-ghost use Rattle.judge.specs.Judgement.{wordsOf, allBelow, known, rises};
+ghost use Rattle.judge.specs.Judgement.{wordsOf, allBelow, known, rises, judgedWords};
 ghost use Rattle.judge.specs.Puts.{Rising, FoundBy, Gathered, RepeatsPut, OutsBy, Marked, isMarked};
 
 // What the judge answers: a list is too long, or its length is none of whole entries (of whole numbers); the log is not accepted;
@@ -235,4 +235,34 @@ fn all_marked(seen: &[u32], count: usize) -> bool
         k += 1;
     }
     true
+}
+
+// The judgement of a log of so many entries and a list of so many numbers; `puts` and `seen` are its tables, `seen` all 0.
+fn judge_entries(
+    log: &[u8],
+    entries: usize,
+    list: &[u8],
+    numbers: usize,
+    puts: &mut [u32],
+    seen: &mut [u32],
+) -> Verdict
+    requires { ⌜ (16 * entries ≤ length (now log)) × (entries ≤ 4096) × (4 * numbers ≤ length (now list)) × (entries ≤ length (now puts)) × (entries ≤ length (now seen)) ⌝ }
+    requires { ⌜ ((k : ℕ) → getD (now seen) k 0 ≡ 0) ⌝ }
+    ensures { λ r. ⌜ r ≡ judgedWords (wordsOf (now (log .entry))) entries (wordsOf (now (list .entry))) numbers ⌝ }
+{
+    if !in_order(log, entries) {
+        return Verdict::No;
+    }
+    let count = gather(log, entries, puts);
+    let outs = hand_outs(log, entries, puts, count, seen);
+    if !outs.fine {
+        return Verdict::No;
+    }
+    mark_listed(list, numbers, log, entries, puts, count, seen);
+    if !all_marked(seen, count) {
+        return Verdict::No;
+    }
+    let handouts = outs.handouts;
+    let repeats = handouts - outs.different;
+    Verdict::Accepted { handouts, repeats }
 }

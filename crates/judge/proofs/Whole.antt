@@ -1,0 +1,37 @@
+-- From the four parts of the judgement to the verdict.
+use mathlib.Core.Path.{_≡_, refl, sym, ap, _∙_}
+use mathlib.Core.Bool.{Bool, true, false}
+use mathlib.Core.List.{List}
+use Prim.Native.Nat.{ℕ, _-_}
+use Rattle.model.specs.Tests.{if_then_else_, _and_}
+use Rattle.model.specs.Counts.{isKind, countBelow, outFirst}
+use Rattle.model.proofs.Tests.{if-true, if-false, and-left, and-right, and-both, and-assoc, fails}
+use Rattle.judge.specs.declared.Verdict.{Verdict}
+use Rattle.judge.specs.declared.Verdict.the-variants.{No, Accepted}
+use Rattle.judge.specs.Judgement.{allBelow, known, rises, honest, kept, accepts, judgedWords}
+use Rattle.judge.proofs.All.{and-false}
+
+module _ (l : List ℕ) (n : ℕ) (stored : List ℕ) (m : ℕ) where
+  abbrev first-two : Bool
+  first-two = allBelow (known l) n and allBelow (rises l) n
+
+  parts : accepts l n stored m ≡ (first-two and allBelow (honest l) n and allBelow (kept l n stored m) n)
+  parts = and-assoc (allBelow (known l) n) (allBelow (rises l) n) (allBelow (honest l) n and allBelow (kept l n stored m) n)
+
+  refuses : accepts l n stored m ≡ false → No ≡ judgedWords l n stored m
+  refuses e = sym (if-false _ e)
+
+  pub not-in-order : first-two ≡ false → No ≡ judgedWords l n stored m
+  not-in-order e = refuses (parts ∙ fails _ e)
+
+  pub not-all-honest : allBelow (honest l) n ≡ false → No ≡ judgedWords l n stored m
+  not-all-honest e = refuses (parts ∙ ap (λ (y : Bool). first-two and y) (fails _ e) ∙ and-false first-two)
+
+  pub not-all-kept : allBelow (kept l n stored m) n ≡ false → No ≡ judgedWords l n stored m
+  not-all-kept e =
+      refuses
+      (parts ∙ ap (λ (y : Bool). first-two and y) (ap (λ (y : Bool). allBelow (honest l) n and y) e ∙ and-false (allBelow (honest l) n)) ∙ and-false first-two)
+
+  pub all-accepted : (h d : ℕ) → first-two ≡ true → allBelow (honest l) n ≡ true → allBelow (kept l n stored m) n ≡ true → h ≡ countBelow (isKind l 2) n
+      → d ≡ countBelow (outFirst l) n → Accepted h (h - d) ≡ judgedWords l n stored m
+  all-accepted h d a b c e f = rw (e, f) (sym (if-true _ (parts ∙ and-both _ _ a (and-both _ _ b c))))
