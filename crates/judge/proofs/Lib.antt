@@ -8,3 +8,4 @@ pub mod Repeating
 pub mod Marking
 pub mod Keeping
 pub mod Whole
+pub mod Lengths

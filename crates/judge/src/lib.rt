@@ -8,7 +8,7 @@ ghost use lib.Dec.{eqb};
 ghost use lib.ListN.{length, getD};
 ghost use Rattle.model.specs.Tests.{_and_, _or_};
 ghost use Rattle.model.specs.Counts.{entryAt};
-ghost use Rattle.judge.specs.Judgement.{wordsOf, allBelow, known, rises, judgedWords};
+ghost use Rattle.judge.specs.Judgement.{wordsOf, allBelow, known, rises, judgedWords, judged, numberOf};
 ghost use Rattle.judge.specs.Puts.{Rising, FoundBy, Gathered, RepeatsPut, OutsBy, Marked, isMarked};
 
 // What the judge answers: a list is too long, or its length is none of whole entries (of whole numbers); the log is not accepted;
@@ -265,4 +265,49 @@ fn judge_entries(
     let handouts = outs.handouts;
     let repeats = handouts - outs.different;
     Verdict::Accepted { handouts, repeats }
+}
+
+// The judgement of a log's bytes, with the put numbers that are said to be stored still. Any bytes and lengths will do.
+pub fn judge(log: &[u8], list: &[u8]) -> Verdict
+    ensures { λ r. ⌜ r ≡ judged (now (log .entry)) (now (list .entry)) ⌝ }
+{
+    let bytes = log.len();
+    let more = list.len();
+    if 65536 < bytes {
+        return Verdict::TooLong;
+    }
+    if 65536 < more {
+        return Verdict::TooLong;
+    }
+    if bytes % 16 != 0 {
+        return Verdict::BadLength;
+    }
+    if more % 4 != 0 {
+        return Verdict::BadLength;
+    }
+    let mut puts = [0u32; 4096];
+    let mut seen = [0u32; 4096];
+    judge_entries(log, bytes / 16, list, more / 4, &mut puts, &mut seen)
+}
+
+// A verdict as one number: the refusal, 0 for no, else 2^32 plus 65,536 times the hand-outs plus the repeats.
+fn number_of(verdict: Verdict) -> u64
+    ensures { λ r. ⌜ r ≡ numberOf verdict ⌝ }
+{
+    match verdict {
+        Verdict::TooLong => 15,
+        Verdict::BadLength => 14,
+        Verdict::No => 0,
+        Verdict::Accepted { handouts, repeats } => {
+            4294967296 + 65536 * (handouts as u64) + repeats as u64
+        }
+    }
+}
+
+// For callers in C and C++: see include/bomqelir.h.
+#[no_mangle]
+pub extern "C" fn bomqelir_judge(log: &[u8], list: &[u8]) -> u64
+    ensures { λ r. ⌜ r ≡ numberOf (judged (now (log .entry)) (now (list .entry))) ⌝ }
+{
+    number_of(judge(log, list))
 }
