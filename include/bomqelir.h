@@ -1,0 +1,49 @@
+/* The proved judge of a matcher's log, for C and C++.
+ *
+ * Link target/staticlib/libjudge.a, which `rt staticlib judge` proves and
+ * builds. It needs memset and about 32 KiB of stack, allocates nothing, keeps
+ * nothing between calls, and may be called from several threads at once.
+ */
+#ifndef BOMQELIR_H
+#define BOMQELIR_H
+
+#include <stddef.h>
+#include <stdint.h>
+
+#ifdef __cplusplus
+extern "C" {
+#endif
+
+/* What bomqelir_judge answers for a log that it can't judge, and for one that
+ * it does not accept. */
+#define BOMQELIR_NO UINT64_C(0)
+#define BOMQELIR_BAD_LENGTH UINT64_C(14) /* not whole entries (16 bytes), or not whole numbers (4 bytes) */
+#define BOMQELIR_TOO_LONG UINT64_C(15)   /* either of them over 65,536 bytes */
+
+/* Judges the log's bytes: entries of four words (kind, worker, put number,
+ * payload), each word four bytes, lowest first; with the put numbers that are
+ * said to be stored still, four bytes each in the same order.
+ *
+ * Accepts exactly when kinds are 1 to 4, the numbers of kinds 1 (put finished)
+ * and 4 (FULL) together strictly rise, each hand-out (kind 2) repeats number
+ * and payload of an earlier finished put, and each finished put is handed out
+ * or listed. Answers BOMQELIR_NO for a log that is not accepted, and else
+ *
+ *     2^32 + 65,536 * hand-outs + repeats
+ *
+ * where repeats are the hand-outs less the different put numbers among them.
+ * Neither pointer may be null, also where its length is 0; the bytes are only
+ * read.
+ */
+uint64_t bomqelir_judge(const uint8_t *log, size_t log_bytes, const uint8_t *stored, size_t stored_bytes);
+
+/* The two counts of an accepting answer. */
+static inline int bomqelir_accepted(uint64_t answer) { return (answer >> 32) != 0; }
+static inline uint32_t bomqelir_handouts(uint64_t answer) { return (uint32_t)(answer >> 16) & 0xffffu; }
+static inline uint32_t bomqelir_repeats(uint64_t answer) { return (uint32_t)answer & 0xffffu; }
+
+#ifdef __cplusplus
+}
+#endif
+
+#endif
