@@ -12,6 +12,8 @@
 //! - [`text`]: what a line of the input says; [`input`]: where it ends;
 //! - [`play`]: the program's rules, the refusals and their order;
 //! - [`witness`], [`judge`]: demand 3, judged from the history of the calls;
+//! - [`log_judge`]: the judgement of a matcher's own log, [`log_cases`]: logs to
+//!   judge, by seed;
 //! - [`random`], [`script`], [`episodes`], [`damage`]: long random runs by seed.
 
 pub mod account;
@@ -22,6 +24,8 @@ pub mod fifo;
 pub mod input;
 pub mod judge;
 pub mod lifo;
+pub mod log_cases;
+pub mod log_judge;
 pub mod outcome;
 pub mod play;
 pub mod random;

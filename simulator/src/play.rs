@@ -58,6 +58,13 @@ impl<W: Witness> Player<W> {
         self.bench.as_ref().is_some_and(|bench| with_queue!(&bench.queue, machine => machine.full()))
     }
 
+    /// The put numbers in the window; none without a bench.
+    pub fn standing(&self) -> Vec<u32> {
+        self.bench.as_ref().map_or(Vec::new(), |bench| {
+            with_queue!(&bench.queue, machine => machine.window().map(|(number, _)| number).collect())
+        })
+    }
+
     /// How many more entries the log can take.
     pub fn entries_left(&self) -> u32 {
         self.account.entries_left()
@@ -205,6 +212,7 @@ impl<W: Witness> Player<W> {
                     }
                     Outcome::Full { number } => {
                         account.other_entry();
+                        witness.full(number);
                         print(listing, b'F', &[number]);
                     }
                     Outcome::Refused(number) => return Err(number),

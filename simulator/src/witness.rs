@@ -15,6 +15,7 @@ pub trait Witness {
     fn finished(&mut self, _number: u32) {}
     fn handed_out(&mut self, _worker: usize, _number: u32, _payload: u32) {}
     fn empty(&mut self, _worker: usize) {}
+    fn full(&mut self, _number: u32) {}
     /// X4: the window is now seen in another array.
     fn published(&mut self) {}
     /// Whether the window has moved since it was last shown.

@@ -1,0 +1,175 @@
+//! A matcher's own log, judged from its bytes.
+//!
+//! The log is a row of entries of four words: kind, worker, put number and
+//! payload, each word four bytes, lowest first. Beside it comes a list of the
+//! put numbers that the matcher says are still stored. The log is accepted
+//! exactly when its kinds are 1 to 4, the numbers of kinds 1 and 4 together
+//! strictly rise, each hand-out repeats the number and the payload of a put
+//! finished earlier in the log, and each finished put is handed out or listed.
+
+use std::collections::{HashMap, HashSet};
+
+/// The log's length is no multiple of an entry's, or the list's of a number's.
+pub const RAGGED: u64 = 14;
+/// The log or the list is too long.
+pub const TOO_LONG: u64 = 15;
+/// The log is not accepted.
+pub const NO: u64 = 0;
+/// What an accepting answer is counted from.
+pub const ACCEPTED: u64 = 1 << 32;
+
+/// The longest log and the longest list, in bytes.
+pub const LONGEST: usize = 65_536;
+/// The bytes of an entry and of a listed number.
+pub const ENTRY: usize = 16;
+pub const NUMBER: usize = 4;
+
+pub const FINISHED: u32 = 1;
+pub const HANDED_OUT: u32 = 2;
+pub const EMPTY: u32 = 3;
+pub const FULL: u32 = 4;
+
+/// The refusal, 0 for no, or 2^32 + 65,536 × hand-outs + repeats.
+pub fn judge_log(log: &[u8], list: &[u8]) -> u64 {
+    if log.len() > LONGEST || list.len() > LONGEST {
+        return TOO_LONG;
+    }
+    if log.len() % ENTRY != 0 || list.len() % NUMBER != 0 {
+        return RAGGED;
+    }
+    match judge_entries(&words(log), &words(list)) {
+        None => NO,
+        Some((hand_outs, repeats)) => ACCEPTED + 65_536 * hand_outs + repeats,
+    }
+}
+
+/// The hand-outs and the repeats of an accepted log; none if it is not.
+fn judge_entries(log: &[u32], list: &[u32]) -> Option<(u64, u64)> {
+    // None before the first entry that has to rise: 0 may be the first number.
+    let mut last_number = None;
+    let mut payloads = HashMap::new();
+    let mut handed_out = HashSet::new();
+    let mut hand_outs = 0;
+    for entry in log.chunks_exact(4) {
+        let (kind, number, payload) = (entry[0], entry[2], entry[3]);
+        match kind {
+            FINISHED | FULL => {
+                if last_number.is_some_and(|last| number <= last) {
+                    return None;
+                }
+                last_number = Some(number);
+                // A put answered FULL stored nothing that could be handed out.
+                if kind == FINISHED {
+                    payloads.insert(number, payload);
+                }
+            }
+            HANDED_OUT => {
+                if payloads.get(&number) != Some(&payload) {
+                    return None;
+                }
+                handed_out.insert(number);
+                hand_outs += 1;
+            }
+            EMPTY => {}
+            _ => return None,
+        }
+    }
+    let listed: HashSet<u32> = list.iter().copied().collect();
+    let kept = |number: &u32| handed_out.contains(number) || listed.contains(number);
+    if !payloads.keys().all(kept) {
+        return None;
+    }
+    Some((hand_outs, hand_outs - handed_out.len() as u64))
+}
+
+fn words(bytes: &[u8]) -> Vec<u32> {
+    bytes.chunks_exact(4).map(|word| u32::from_le_bytes([word[0], word[1], word[2], word[3]])).collect()
+}
+
+#[cfg(test)]
+mod tests {
+    use super::*;
+
+    fn bytes(words: &[u32]) -> Vec<u8> {
+        words.iter().flat_map(|word| word.to_le_bytes()).collect()
+    }
+
+    fn judged(entries: &[[u32; 4]], list: &[u32]) -> u64 {
+        judge_log(&bytes(&entries.concat()), &bytes(list))
+    }
+
+    fn accepted(hand_outs: u64, repeats: u64) -> u64 {
+        4_294_967_296 + 65_536 * hand_outs + repeats
+    }
+
+    #[test]
+    fn an_empty_log_is_accepted() {
+        assert_eq!(judged(&[], &[]), 4_294_967_296);
+        assert_eq!(judged(&[], &[7, 7, 0]), 4_294_967_296, "listed without a put");
+    }
+
+    #[test]
+    fn a_put_is_listed_or_handed_out() {
+        assert_eq!(judged(&[[1, 0, 1, 9]], &[]), 0);
+        assert_eq!(judged(&[[1, 0, 1, 9]], &[2]), 0);
+        assert_eq!(judged(&[[1, 0, 1, 9]], &[2, 1]), accepted(0, 0));
+        assert_eq!(judged(&[[1, 0, 1, 9], [2, 3, 1, 9]], &[]), accepted(1, 0));
+        assert_eq!(judged(&[[1, 0, 1, 9], [2, 3, 1, 9]], &[1]), accepted(1, 0), "both");
+        assert_eq!(judged(&[[1, 0, 1, 9], [1, 0, 2, 9], [2, 3, 2, 9]], &[]), 0);
+    }
+
+    #[test]
+    fn repeats_are_hand_outs_less_different_numbers() {
+        let log = [[1, 0, 1, 9], [2, 1, 1, 9], [1, 0, 3, 9], [2, 0, 3, 9], [2, 2, 1, 9], [2, 0, 1, 9]];
+        assert_eq!(judged(&log, &[]), accepted(4, 2));
+    }
+
+    #[test]
+    fn a_hand_out_repeats_an_earlier_put() {
+        assert_eq!(judged(&[[1, 0, 1, 9], [2, 1, 1, 8]], &[1]), 0, "the payload differs");
+        assert_eq!(judged(&[[1, 0, 1, 9], [1, 0, 2, 8], [2, 1, 1, 8]], &[1, 2]), 0, "another's payload");
+        assert_eq!(judged(&[[2, 1, 1, 9], [1, 0, 1, 9]], &[1]), 0, "before its put");
+        assert_eq!(judged(&[[2, 1, 1, 9]], &[1]), 0, "without a put");
+        assert_eq!(judged(&[[4, 0, 1, 9], [2, 1, 1, 9]], &[1]), 0, "answered FULL");
+    }
+
+    #[test]
+    fn numbers_of_puts_and_fulls_rise_together() {
+        assert_eq!(judged(&[[1, 0, 0, 9], [4, 0, 1, 9], [1, 0, 5, 9]], &[0, 5]), accepted(0, 0));
+        assert_eq!(judged(&[[4, 0, 0, 0], [1, 0, u32::MAX, 0]], &[u32::MAX]), accepted(0, 0));
+        for (first, second) in [(1, 1), (1, 4), (4, 1), (4, 4)] {
+            assert_eq!(judged(&[[first, 0, 3, 9], [second, 0, 3, 9]], &[3]), 0, "equal");
+            assert_eq!(judged(&[[first, 0, 3, 9], [second, 0, 2, 9]], &[2, 3]), 0, "falling");
+            assert_eq!(judged(&[[first, 0, 0, 9], [second, 0, 0, 9]], &[0]), 0, "equal from 0");
+        }
+        // What stands between them has no part in it.
+        let between = [[1, 0, 3, 9], [3, 0, 0, 0], [2, 0, 3, 9], [3, 0, 9, 0], [4, 0, 4, 0]];
+        assert_eq!(judged(&between, &[]), accepted(1, 0));
+    }
+
+    #[test]
+    fn other_kinds_and_words_that_are_not_judged() {
+        for kind in [0, 5, 257, 65_537, u32::MAX] {
+            assert_eq!(judged(&[[kind, 0, 1, 9]], &[1]), 0);
+        }
+        assert_eq!(judged(&[[3, 99, 7, 7], [3, 0, 7, 8], [1, u32::MAX, 1, 9]], &[1]), accepted(0, 0));
+    }
+
+    #[test]
+    fn refusals_and_their_order() {
+        for length in [1, 4, 15, 17] {
+            assert_eq!(judge_log(&vec![3; length], &[]), 14);
+        }
+        for length in [1, 3, 5] {
+            assert_eq!(judge_log(&[], &vec![0; length]), 14);
+        }
+        assert_eq!(judge_log(&[0; 16], &[0]), 14, "before no");
+        assert_eq!(judge_log(&[0; 65_537], &[]), 15);
+        assert_eq!(judge_log(&[], &[0; 65_537]), 15);
+        assert_eq!(judge_log(&[0; 65_552], &[]), 15);
+        assert_eq!(judge_log(&[], &[0; 65_540]), 15);
+        assert_eq!(judge_log(&[0; 15], &[0; 65_540]), 15, "15 before 14");
+        assert_eq!(judge_log(&[0; 65_552], &[0; 3]), 15, "15 before 14");
+        assert_eq!(judge_log(&bytes(&[3; 1]).repeat(16_384), &[0; 65_536]), accepted(0, 0));
+    }
+}

@@ -1,0 +1,106 @@
+// Judges logs through the call that C and C++ have.
+//
+//     judge_cases < CASES             an answer a line
+//     judge_cases bench TIMES < CASE  nanoseconds to judge the first case
+//
+// A case is the log's length and the list's, four bytes each, lowest first, and
+// then the bytes of both.
+
+#include "../../include/bomqelir.h"
+
+#include <chrono>
+#include <cstdio>
+#include <cstdlib>
+#include <cstring>
+#include <vector>
+
+namespace {
+
+enum class Reading { Case, End, CutShort };
+
+struct Case {
+    std::vector<uint8_t> log, list;
+};
+
+// Each of the two has its own memory of just its length, so that a read past
+// the end is one that a checker of memory sees. The call wants no null pointer,
+// and an empty vector may have one: hence the byte to point at.
+const uint8_t nothing = 0;
+
+const uint8_t *start(const std::vector<uint8_t> &bytes) {
+    return bytes.empty() ? &nothing : bytes.data();
+}
+
+uint64_t judge(const Case &c) {
+    return bomqelir_judge(start(c.log), c.log.size(), start(c.list), c.list.size());
+}
+
+size_t length(const uint8_t *word) {
+    return size_t(word[0]) | size_t(word[1]) << 8 | size_t(word[2]) << 16 | size_t(word[3]) << 24;
+}
+
+bool fill(std::vector<uint8_t> &bytes, size_t count) {
+    std::vector<uint8_t>(count).swap(bytes);
+    return count == 0 || std::fread(bytes.data(), 1, count, stdin) == count;
+}
+
+Reading read(Case &c) {
+    uint8_t head[8];
+    size_t got = std::fread(head, 1, sizeof head, stdin);
+    if (got == 0) return std::ferror(stdin) ? Reading::CutShort : Reading::End;
+    if (got < sizeof head || !fill(c.log, length(head)) || !fill(c.list, length(head + 4))) {
+        return Reading::CutShort;
+    }
+    return Reading::Case;
+}
+
+int cut_short() {
+    std::fprintf(stderr, "judge_cases: a case is cut short\n");
+    return 1;
+}
+
+int judge_all() {
+    Case c;
+    for (;;) {
+        switch (read(c)) {
+            case Reading::Case:
+                std::printf("%llu\n", static_cast<unsigned long long>(judge(c)));
+                break;
+            case Reading::End:
+                return std::fflush(stdout) == 0 ? 0 : 1;
+            case Reading::CutShort:
+                std::fflush(stdout);
+                return cut_short();
+        }
+    }
+}
+
+int bench(long times) {
+    Case c;
+    if (read(c) != Reading::Case) return cut_short();
+    // The library is linked as it stands, so no call can be left out; the
+    // answers are compared all the same.
+    const uint64_t first = judge(c);
+    bool same = true;
+    const auto begin = std::chrono::steady_clock::now();
+    for (long i = 0; i < times; ++i) same &= judge(c) == first;
+    const auto end = std::chrono::steady_clock::now();
+    if (!same) {
+        std::fprintf(stderr, "judge_cases: one case, two answers\n");
+        return 1;
+    }
+    const auto spent = std::chrono::duration_cast<std::chrono::nanoseconds>(end - begin).count();
+    std::printf("%lld\n", static_cast<long long>(spent / times));
+    return 0;
+}
+
+}  // namespace
+
+int main(int count, char **words) {
+    if (count == 1) return judge_all();
+    if (count == 3 && std::strcmp(words[1], "bench") == 0 && std::atol(words[2]) > 0) {
+        return bench(std::atol(words[2]));
+    }
+    std::fprintf(stderr, "usage: judge_cases [bench TIMES]\n");
+    return 64;
+}
