@@ -264,7 +264,7 @@ fn judge_entries(
     }
     let handouts = outs.handouts;
     let repeats = handouts - outs.different;
-    Verdict::Accepted { handouts, repeats }
+    Verdict::Accepted { repeats, handouts }
 }
 
 // The judgement of a log's bytes, with the put numbers that are said to be stored still. Any bytes and lengths will do.
