@@ -1,7 +1,7 @@
 /* The proved judge of a matcher's log, for C and C++.
  *
  * Link target/staticlib/libjudge.a, which `rt staticlib judge` proves and
- * builds. It needs memset and about 32 KiB of stack, allocates nothing, keeps
+ * builds. It needs memset and about 48 KiB of stack, allocates nothing, keeps
  * nothing between calls, and may be called from several threads at once.
  */
 #ifndef BOMQELIR_H

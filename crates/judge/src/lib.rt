@@ -71,6 +71,46 @@ fn find(log: &[u8], puts: &[u32], count: usize, number: u32) -> usize
     count
 }
 
+// Where each of the first `count` finished puts may be found, by its number's remainder: a hint, the last one's where several
+// share it.
+fn note_hints(log: &[u8], puts: &[u32], count: usize, hints: &mut [u32])
+    requires { ⌜ (count ≤ length (now puts)) × (count ≤ 4096) × (length (now hints) ≡ 4096) ⌝ }
+    requires { ⌜ ((k : ℕ) → k < count → 16 * getD (now puts) k 0 + 16 ≤ length (now log)) ⌝ }
+    ensures { λ _. ⌜ length (now (hints .exit)) ≡ 4096 ⌝ }
+{
+    let mut k: usize = 0;
+    while k < count {
+        let number = number_at(log, puts[k]);
+        let at = (number % 4096) as usize;
+        hints[at] = k as u32;
+        k += 1;
+    }
+}
+
+fn index(word: u32) -> usize
+    ensures { λ r. ⌜ r ≡ word ⌝ }
+{
+    word as usize
+}
+
+// As `find`, where the hint is right without halving. Any hints will do: what one says is read again at its place.
+fn look_up(log: &[u8], puts: &[u32], count: usize, hints: &[u32], number: u32) -> usize
+    requires { ⌜ (count ≤ length (now puts)) × (length (now hints) ≡ 4096) ⌝ }
+    requires { ⌜ ((k : ℕ) → k < count → 16 * getD (now puts) k 0 + 16 ≤ length (now log)) ⌝ }
+    requires { ⌜ Rising (wordsOf (now log)) (now puts) count ⌝ }
+    ensures { λ r. ⌜ FoundBy (wordsOf (now (log .entry))) (now (puts .entry)) count number r ⌝ }
+{
+    let at = (number % 4096) as usize;
+    let hint = index(hints[at]);
+    if hint < count {
+        let here = number_at(log, puts[hint]);
+        if here == number {
+            return hint;
+        }
+    }
+    find(log, puts, count, number)
+}
+
 // Whether kinds are 1 to 4 and the numbers of kinds 1 and 4 rise. `floor` is one above the last of them, at first 0.
 fn in_order(log: &[u8], entries: usize) -> bool
     requires { ⌜ 16 * entries ≤ length (now log) ⌝ }
@@ -202,9 +242,10 @@ fn mark_listed(
     entries: usize,
     puts: &[u32],
     count: usize,
+    hints: &[u32],
     seen: &mut [u32],
 )
-    requires { ⌜ (4 * numbers ≤ length (now list)) × (16 * entries ≤ length (now log)) × (count ≤ length (now puts)) × (count ≤ length (now seen)) ⌝ }
+    requires { ⌜ (4 * numbers ≤ length (now list)) × (16 * entries ≤ length (now log)) × (count ≤ length (now puts)) × (count ≤ length (now seen)) × (length (now hints) ≡ 4096) ⌝ }
     requires { ⌜ Gathered (wordsOf (now log)) entries (now puts) count ⌝ }
     requires { ⌜ Rising (wordsOf (now log)) (now puts) count ⌝ }
     requires { ⌜ Marked (wordsOf (now log)) entries (wordsOf (now list)) 0 (now puts) count (now seen) ⌝ }
@@ -213,7 +254,7 @@ fn mark_listed(
     let mut i: usize = 0;
     while i < numbers {
         let number = word(list, i);
-        let k = find(log, puts, count, number);
+        let k = look_up(log, puts, count, hints, number);
         i += 1;
         if k == count {
             continue;
@@ -237,16 +278,17 @@ fn all_marked(seen: &[u32], count: usize) -> bool
     true
 }
 
-// The judgement of a log of so many entries and a list of so many numbers; `puts` and `seen` are its tables, `seen` all 0.
+// The judgement of a log of so many entries and a list of so many numbers; `puts`, `hints` and `seen` are its tables, `seen` all 0.
 fn judge_entries(
     log: &[u8],
     entries: usize,
     list: &[u8],
     numbers: usize,
     puts: &mut [u32],
+    hints: &mut [u32],
     seen: &mut [u32],
 ) -> Verdict
-    requires { ⌜ (16 * entries ≤ length (now log)) × (entries ≤ 4096) × (4 * numbers ≤ length (now list)) × (entries ≤ length (now puts)) × (entries ≤ length (now seen)) ⌝ }
+    requires { ⌜ (16 * entries ≤ length (now log)) × (entries ≤ 4096) × (4 * numbers ≤ length (now list)) × (entries ≤ length (now puts)) × (entries ≤ length (now seen)) × (length (now hints) ≡ 4096) ⌝ }
     requires { ⌜ ((k : ℕ) → getD (now seen) k 0 ≡ 0) ⌝ }
     ensures { λ r. ⌜ r ≡ judgedWords (wordsOf (now (log .entry))) entries (wordsOf (now (list .entry))) numbers ⌝ }
 {
@@ -258,7 +300,8 @@ fn judge_entries(
     if !outs.fine {
         return Verdict::No;
     }
-    mark_listed(list, numbers, log, entries, puts, count, seen);
+    note_hints(log, puts, count, hints);
+    mark_listed(list, numbers, log, entries, puts, count, hints, seen);
     if !all_marked(seen, count) {
         return Verdict::No;
     }
@@ -286,8 +329,17 @@ pub fn judge(log: &[u8], list: &[u8]) -> Verdict
         return Verdict::BadLength;
     }
     let mut puts = [0u32; 4096];
+    let mut hints = [0u32; 4096];
     let mut seen = [0u32; 4096];
-    judge_entries(log, bytes / 16, list, more / 4, &mut puts, &mut seen)
+    judge_entries(
+        log,
+        bytes / 16,
+        list,
+        more / 4,
+        &mut puts,
+        &mut hints,
+        &mut seen,
+    )
 }
 
 // A verdict as one number: the refusal, 0 for no, else 2^32 plus 65,536 times the hand-outs plus the repeats.

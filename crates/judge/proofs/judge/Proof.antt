@@ -27,13 +27,16 @@ slice-aggregate-judge-entries c = search needs
 slice-aggregate-judge-entries-2 : tie.Need-slice-aggregate-judge-entries-2
 slice-aggregate-judge-entries-2 c = search needs
 
+slice-aggregate-judge-entries-3 : tie.Need-slice-aggregate-judge-entries-3
+slice-aggregate-judge-entries-3 c = search needs
+
 judge-entries-requires : tie.Need-judge-entries-requires
 judge-entries-requires c κs =
-    ((omega arith, omega arith, omega arith, omega arith, omega arith), λ k. zeros-at 4096 k)
+    ((omega arith, omega arith, omega arith, omega arith, omega arith, omega arith), λ k. zeros-at 4096 k)
 
 returns-5 : tie.Need-returns-5
 returns-5 c =
-    c .before .before .judge-entries .ensures ∙ even (c .before .before .before .before .before .before .before .before .before .before .before .args .log .now) (c .before .before .before .before .before .before .before .before .before .before .before .args .list .now) (omega arith) (omega arith) (c .before .before .before .before .before .before .if3 .left) (c .before .before .before .before .before .if4 .left)
+    c .before .before .before .judge-entries .ensures ∙ even (c .before .before .before .before .before .before .before .before .before .before .before .before .before .args .log .now) (c .before .before .before .before .before .before .before .before .before .before .before .before .before .args .list .now) (omega arith) (omega arith) (c .before .before .before .before .before .before .before .before .if3 .left) (c .before .before .before .before .before .before .before .if4 .left)
 
 pub judge-spec : {M : Type 1} → statement M
 judge-spec =
@@ -45,5 +48,6 @@ judge-spec =
     returns-4
     slice-aggregate-judge-entries
     slice-aggregate-judge-entries-2
+    slice-aggregate-judge-entries-3
     judge-entries-requires
     returns-5)

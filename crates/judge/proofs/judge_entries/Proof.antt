@@ -16,7 +16,7 @@ in-order-requires c κs = search needs
 
 returns : tie.Need-returns
 returns c =
-    not-in-order (wordsOf (c .before .before .before .before .before .before .args .log .now)) (c .before .before .before .before .before .before .args .entries) (wordsOf (c .before .before .before .before .before .before .args .list .now)) (c .before .before .before .before .before .before .args .numbers) (refused (c .before .in-order .ensures) (c .if1 .taken))
+    not-in-order (wordsOf (c .before .before .before .before .before .before .before .args .log .now)) (c .before .before .before .before .before .before .before .args .entries) (wordsOf (c .before .before .before .before .before .before .before .args .list .now)) (c .before .before .before .before .before .before .before .args .numbers) (refused (c .before .in-order .ensures) (c .if1 .taken))
 
 gather-requires : tie.Need-gather-requires
 gather-requires c κs = search needs
@@ -24,7 +24,7 @@ gather-requires c κs = search needs
 hand-outs-requires : tie.Need-hand-outs-requires
 hand-outs-requires c κs =
     let f = c .before .before .before .before .gather .ensures .few in
-    ((omega arith, omega arith, omega (arith, f), omega (arith, f)), (c .before .before .before .before .gather .ensures, (rising-by (wordsOf (c .before .before .before .before .before .before .before .before .before .before .before .before .args .log .now)) (c .before .before .before .before .before .before .before .before .before .before .before .before .args .entries) _ _ (c .before .before .before .before .gather .ensures) (and-right _ _ (passed (c .before .before .before .before .before .before .before .in-order .ensures) (c .before .before .before .before .before .before .if1 .left))), c .before .before .before .before .before .before .before .before .before .before .before .before .pre .1)))
+    ((omega arith, omega arith, omega (arith, f), omega (arith, f)), (c .before .before .before .before .gather .ensures, (rising-by (wordsOf (c .before .before .before .before .before .before .before .before .before .before .before .before .before .args .log .now)) (c .before .before .before .before .before .before .before .before .before .before .before .before .before .args .entries) _ _ (c .before .before .before .before .gather .ensures) (and-right _ _ (passed (c .before .before .before .before .before .before .before .in-order .ensures) (c .before .before .before .before .before .before .if1 .left))), c .before .before .before .before .before .before .before .before .before .before .before .before .before .pre .1)))
 
 same-length : tie.Need-same-length
 same-length c = search needs
@@ -34,15 +34,25 @@ same-length-2 c = search needs
 
 returns-2 : tie.Need-returns-2
 returns-2 c =
-    not-all-honest (wordsOf (c .before .before .before .before .before .before .before .before .before .before .before .before .before .before .before .before .before .args .log .now)) (c .before .before .before .before .before .before .before .before .before .before .before .before .before .before .before .before .before .args .entries) (wordsOf (c .before .before .before .before .before .before .before .before .before .before .before .before .before .before .before .before .before .args .list .now)) (c .before .before .before .before .before .before .before .before .before .before .before .before .before .before .before .before .before .args .numbers) (refused (c .before .before .before .before .hand-outs .ensures .fine) (c .if2 .taken))
+    not-all-honest (wordsOf (c .before .before .before .before .before .before .before .before .before .before .before .before .before .before .before .before .before .before .args .log .now)) (c .before .before .before .before .before .before .before .before .before .before .before .before .before .before .before .before .before .before .args .entries) (wordsOf (c .before .before .before .before .before .before .before .before .before .before .before .before .before .before .before .before .before .before .args .list .now)) (c .before .before .before .before .before .before .before .before .before .before .before .before .before .before .before .before .before .before .args .numbers) (refused (c .before .before .before .before .hand-outs .ensures .fine) (c .if2 .taken))
+
+note-hints-requires : tie.Need-note-hints-requires
+note-hints-requires c κs =
+    let f = c .before .before .before .before .before .before .before .before .before .before .before .gather .ensures .few in
+    ((omega (arith, f), omega (arith, f), c .before .before .before .before .before .before .before .before .before .before .before .before .before .before .before .before .before .before .before .before .pre .0 .5), λ k h. let p = c .before .before .before .before .before .before .before .before .before .before .before .gather .ensures .placed k h in omega (arith, p))
 
 mark-listed-requires : tie.Need-mark-listed-requires
 mark-listed-requires c κs =
-    let f = c .before .before .before .before .before .before .before .before .before .before .before .gather .ensures .few in
-    ((omega arith, omega arith, omega (arith, f), omega (arith, f)), (c .before .before .before .before .before .before .before .before .before .before .before .gather .ensures, (rising-by (wordsOf (c .before .before .before .before .before .before .before .before .before .before .before .before .before .before .before .before .before .before .before .args .log .now)) (c .before .before .before .before .before .before .before .before .before .before .before .before .before .before .before .before .before .before .before .args .entries) _ _ (c .before .before .before .before .before .before .before .before .before .before .before .gather .ensures) (and-right _ _ (passed (c .before .before .before .before .before .before .before .before .before .before .before .before .before .before .in-order .ensures) (c .before .before .before .before .before .before .before .before .before .before .before .before .before .if1 .left))), c .before .before .before .before .before .before .hand-outs .ensures .marked (not-false _ (c .before .before .if2 .left)) (wordsOf (c .before .before .before .before .before .before .before .before .before .before .before .before .before .before .before .before .before .before .before .args .list .now)))))
+    let f = c .before .before .before .before .before .before .before .before .before .before .before .before .before .before .before .before .before .gather .ensures .few in
+    (let a = c .before .before .before .before .before .before .before .before .before .before .before .before .before .before .before .before .before .before .before .before .before .before .before .before .before .before .pre .0 .3 in let b = c .before .before .before .before .before .before .before .before .before .before .before .before .before .before .before .before .before .before .before .before .before .before .before .before .before .before .pre .0 .4 in let g = c .before .before .before .before .before .before .before .before .before .before .before .before .before .before .before .before .puts .given in let h = c .before .before .before .before .before .before .before .before .before .before .before .seen .given in (c .before .before .before .before .before .before .before .before .before .before .before .before .before .before .before .before .before .before .before .before .before .before .before .before .before .before .pre .0 .2, c .before .before .before .before .before .before .before .before .before .before .before .before .before .before .before .before .before .before .before .before .before .before .before .before .before .before .pre .0 .0, omega (arith, f, a, g), omega (arith, f, b, h), c .before .before .before .before .before .note-hints .ensures), (c .before .before .before .before .before .before .before .before .before .before .before .before .before .before .before .before .before .gather .ensures, (rising-by (wordsOf (c .before .before .before .before .before .before .before .before .before .before .before .before .before .before .before .before .before .before .before .before .before .before .before .before .before .before .args .log .now)) (c .before .before .before .before .before .before .before .before .before .before .before .before .before .before .before .before .before .before .before .before .before .before .before .before .before .before .args .entries) _ _ (c .before .before .before .before .before .before .before .before .before .before .before .before .before .before .before .before .before .gather .ensures) (and-right _ _ (passed (c .before .before .before .before .before .before .before .before .before .before .before .before .before .before .before .before .before .before .before .before .in-order .ensures) (c .before .before .before .before .before .before .before .before .before .before .before .before .before .before .before .before .before .before .before .if1 .left))), c .before .before .before .before .before .before .before .before .before .before .before .before .hand-outs .ensures .marked (not-false _ (c .before .before .before .before .before .before .before .before .if2 .left)) (wordsOf (c .before .before .before .before .before .before .before .before .before .before .before .before .before .before .before .before .before .before .before .before .before .before .before .before .before .before .args .list .now)))))
 
 all-marked-requires : tie.Need-all-marked-requires
-all-marked-requires c κs = search needs
+all-marked-requires c κs =
+    let f = c .before .before .before .before .before .before .before .before .before .before .before .before .before .before .before .before .before .before .before .before .before .gather .ensures .few in
+    let b = c .before .before .before .before .before .before .before .before .before .before .before .before .before .before .before .before .before .before .before .before .before .before .before .before .before .before .before .before .before .before .pre .0 .4 in
+    let h = c .before .before .before .before .before .before .before .before .before .before .before .before .before .before .before .seen .given in
+    let g = c .before .before .seen2 .given in
+    omega (arith, f, b, g, h)
 
 same-length-3 : tie.Need-same-length-3
 same-length-3 c = search needs
@@ -50,28 +60,34 @@ same-length-3 c = search needs
 same-length-4 : tie.Need-same-length-4
 same-length-4 c = search needs
 
+same-length-5 : tie.Need-same-length-5
+same-length-5 c = search needs
+
 returns-3 : tie.Need-returns-3
 returns-3 c =
-    not-all-kept (wordsOf (c .before .before .before .before .before .before .before .before .before .before .before .before .before .before .before .before .before .before .before .before .before .before .before .before .before .args .log .now)) (c .before .before .before .before .before .before .before .before .before .before .before .before .before .before .before .before .before .before .before .before .before .before .before .before .before .args .entries) (wordsOf (c .before .before .before .before .before .before .before .before .before .before .before .before .before .before .before .before .before .before .before .before .before .before .before .before .before .args .list .now)) (c .before .before .before .before .before .before .before .before .before .before .before .before .before .before .before .before .before .before .before .before .before .before .before .before .before .args .numbers) (sym (kept-whole (wordsOf (c .before .before .before .before .before .before .before .before .before .before .before .before .before .before .before .before .before .before .before .before .before .before .before .before .before .args .log .now)) (c .before .before .before .before .before .before .before .before .before .before .before .before .before .before .before .before .before .before .before .before .before .before .before .before .before .args .entries) (wordsOf (c .before .before .before .before .before .before .before .before .before .before .before .before .before .before .before .before .before .before .before .before .before .before .before .before .before .args .list .now)) (c .before .before .before .before .before .before .before .before .before .before .before .before .before .before .before .before .before .before .before .before .before .before .before .before .before .args .numbers) _ _ (c .before .before .before .before .before .mark-listed .last .1 .1 .1 .1 .1 .1 .0) (c .before .before .before .before .before .before .before .before .before .before .before .before .before .before .before .before .before .gather .ensures) (c .before .before .before .before .before .mark-listed .ensures) false (refused (c .before .all-marked .ensures) (c .if3 .taken))))
+    not-all-kept (wordsOf (c .before .before .before .before .before .before .before .before .before .before .before .before .before .before .before .before .before .before .before .before .before .before .before .before .before .before .before .before .before .before .before .before .args .log .now)) (c .before .before .before .before .before .before .before .before .before .before .before .before .before .before .before .before .before .before .before .before .before .before .before .before .before .before .before .before .before .before .before .before .args .entries) (wordsOf (c .before .before .before .before .before .before .before .before .before .before .before .before .before .before .before .before .before .before .before .before .before .before .before .before .before .before .before .before .before .before .before .before .args .list .now)) (c .before .before .before .before .before .before .before .before .before .before .before .before .before .before .before .before .before .before .before .before .before .before .before .before .before .before .before .before .before .before .before .before .args .numbers) (sym (kept-whole (wordsOf (c .before .before .before .before .before .before .before .before .before .before .before .before .before .before .before .before .before .before .before .before .before .before .before .before .before .before .before .before .before .before .before .before .args .log .now)) (c .before .before .before .before .before .before .before .before .before .before .before .before .before .before .before .before .before .before .before .before .before .before .before .before .before .before .before .before .before .before .before .before .args .entries) (wordsOf (c .before .before .before .before .before .before .before .before .before .before .before .before .before .before .before .before .before .before .before .before .before .before .before .before .before .before .before .before .before .before .before .before .args .list .now)) (c .before .before .before .before .before .before .before .before .before .before .before .before .before .before .before .before .before .before .before .before .before .before .before .before .before .before .before .before .before .before .before .before .args .numbers) _ _ (c .before .before .before .before .before .mark-listed .last .1 .1 .1 .1 .1 .1 .1 .0) (c .before .before .before .before .before .before .before .before .before .before .before .before .before .before .before .before .before .before .before .before .before .before .before .gather .ensures) (c .before .before .before .before .before .mark-listed .ensures) false (refused (c .before .all-marked .ensures) (c .if3 .taken))))
 
 sub-repeats : tie.Need-sub-repeats
 sub-repeats c =
-    let a = c .before .before .before .before .before .before .before .before .before .before .before .before .before .hand-outs .ensures .handouts (not-false _ (c .before .before .before .before .before .before .before .before .before .if2 .left)) in
-    let b = c .before .before .before .before .before .before .before .before .before .before .before .before .before .hand-outs .ensures .different (not-false _ (c .before .before .before .before .before .before .before .before .before .if2 .left)) in
-    let f = firsts-fewer (wordsOf (c .before .before .before .before .before .before .before .before .before .before .before .before .before .before .before .before .before .before .before .before .before .before .before .before .before .before .args .log .now)) (c .before .before .before .before .before .before .before .before .before .before .before .before .before .before .before .before .before .before .before .before .before .before .before .before .before .before .args .entries) in
+    let a = c .before .before .before .before .before .before .before .before .before .before .before .before .before .before .before .before .before .before .before .hand-outs .ensures .handouts (not-false _ (c .before .before .before .before .before .before .before .before .before .before .before .before .before .before .before .if2 .left)) in
+    let b = c .before .before .before .before .before .before .before .before .before .before .before .before .before .before .before .before .before .before .before .hand-outs .ensures .different (not-false _ (c .before .before .before .before .before .before .before .before .before .before .before .before .before .before .before .if2 .left)) in
+    let f = firsts-fewer (wordsOf (c .before .before .before .before .before .before .before .before .before .before .before .before .before .before .before .before .before .before .before .before .before .before .before .before .before .before .before .before .before .before .before .before .before .args .log .now)) (c .before .before .before .before .before .before .before .before .before .before .before .before .before .before .before .before .before .before .before .before .before .before .before .before .before .before .before .before .before .before .before .before .before .args .entries) in
     omega (arith, a, b, f)
-
-same-length-5 : tie.Need-same-length-5
-same-length-5 c = search needs
 
 same-length-6 : tie.Need-same-length-6
 same-length-6 c = search needs
 
+same-length-7 : tie.Need-same-length-7
+same-length-7 c = search needs
+
+same-length-8 : tie.Need-same-length-8
+same-length-8 c = search needs
+
 returns-4 : tie.Need-returns-4
 returns-4 c =
-    all-accepted (wordsOf (c .before .before .before .before .before .before .before .before .before .before .before .before .before .before .before .before .before .before .before .before .before .before .before .before .before .before .args .log .now)) (c .before .before .before .before .before .before .before .before .before .before .before .before .before .before .before .before .before .before .before .before .before .before .before .before .before .before .args .entries) (wordsOf (c .before .before .before .before .before .before .before .before .before .before .before .before .before .before .before .before .before .before .before .before .before .before .before .before .before .before .args .list .now)) (c .before .before .before .before .before .before .before .before .before .before .before .before .before .before .before .before .before .before .before .before .before .before .before .before .before .before .args .numbers) _ _ (passed (c .before .before .before .before .before .before .before .before .before .before .before .before .before .before .before .before .before .before .before .before .before .in-order .ensures) (c .before .before .before .before .before .before .before .before .before .before .before .before .before .before .before .before .before .before .before .before .if1 .left)) (passed (c .before .before .before .before .before .before .before .before .before .before .before .before .before .hand-outs .ensures .fine) (c .before .before .before .before .before .before .before .before .before .if2 .left))
-    (sym (kept-whole (wordsOf (c .before .before .before .before .before .before .before .before .before .before .before .before .before .before .before .before .before .before .before .before .before .before .before .before .before .before .args .log .now)) (c .before .before .before .before .before .before .before .before .before .before .before .before .before .before .before .before .before .before .before .before .before .before .before .before .before .before .args .entries) (wordsOf (c .before .before .before .before .before .before .before .before .before .before .before .before .before .before .before .before .before .before .before .before .before .before .before .before .before .before .args .list .now)) (c .before .before .before .before .before .before .before .before .before .before .before .before .before .before .before .before .before .before .before .before .before .before .before .before .before .before .args .numbers) _ _ (c .before .before .before .before .before .before .mark-listed .last .1 .1 .1 .1 .1 .1 .0) (c .before .before .before .before .before .before .before .before .before .before .before .before .before .before .before .before .before .before .gather .ensures) (c .before .before .before .before .before .before .mark-listed .ensures) true (passed (c .before .before .all-marked .ensures) (c .before .if3 .left))))
-    (c .before .before .before .before .before .before .before .before .before .before .before .before .before .hand-outs .ensures .handouts (not-false _ (c .before .before .before .before .before .before .before .before .before .if2 .left))) (c .before .before .before .before .before .before .before .before .before .before .before .before .before .hand-outs .ensures .different (not-false _ (c .before .before .before .before .before .before .before .before .before .if2 .left)))
+    all-accepted (wordsOf (c .before .before .before .before .before .before .before .before .before .before .before .before .before .before .before .before .before .before .before .before .before .before .before .before .before .before .before .before .before .before .before .before .before .args .log .now)) (c .before .before .before .before .before .before .before .before .before .before .before .before .before .before .before .before .before .before .before .before .before .before .before .before .before .before .before .before .before .before .before .before .before .args .entries) (wordsOf (c .before .before .before .before .before .before .before .before .before .before .before .before .before .before .before .before .before .before .before .before .before .before .before .before .before .before .before .before .before .before .before .before .before .args .list .now)) (c .before .before .before .before .before .before .before .before .before .before .before .before .before .before .before .before .before .before .before .before .before .before .before .before .before .before .before .before .before .before .before .before .before .args .numbers) _ _ (passed (c .before .before .before .before .before .before .before .before .before .before .before .before .before .before .before .before .before .before .before .before .before .before .before .before .before .before .before .in-order .ensures) (c .before .before .before .before .before .before .before .before .before .before .before .before .before .before .before .before .before .before .before .before .before .before .before .before .before .before .if1 .left)) (passed (c .before .before .before .before .before .before .before .before .before .before .before .before .before .before .before .before .before .before .before .hand-outs .ensures .fine) (c .before .before .before .before .before .before .before .before .before .before .before .before .before .before .before .if2 .left))
+    (sym (kept-whole (wordsOf (c .before .before .before .before .before .before .before .before .before .before .before .before .before .before .before .before .before .before .before .before .before .before .before .before .before .before .before .before .before .before .before .before .before .args .log .now)) (c .before .before .before .before .before .before .before .before .before .before .before .before .before .before .before .before .before .before .before .before .before .before .before .before .before .before .before .before .before .before .before .before .before .args .entries) (wordsOf (c .before .before .before .before .before .before .before .before .before .before .before .before .before .before .before .before .before .before .before .before .before .before .before .before .before .before .before .before .before .before .before .before .before .args .list .now)) (c .before .before .before .before .before .before .before .before .before .before .before .before .before .before .before .before .before .before .before .before .before .before .before .before .before .before .before .before .before .before .before .before .before .args .numbers) _ _ (c .before .before .before .before .before .before .mark-listed .last .1 .1 .1 .1 .1 .1 .1 .0) (c .before .before .before .before .before .before .before .before .before .before .before .before .before .before .before .before .before .before .before .before .before .before .before .before .gather .ensures) (c .before .before .before .before .before .before .mark-listed .ensures) true (passed (c .before .before .all-marked .ensures) (c .before .if3 .left))))
+    (c .before .before .before .before .before .before .before .before .before .before .before .before .before .before .before .before .before .before .before .hand-outs .ensures .handouts (not-false _ (c .before .before .before .before .before .before .before .before .before .before .before .before .before .before .before .if2 .left))) (c .before .before .before .before .before .before .before .before .before .before .before .before .before .before .before .before .before .before .before .hand-outs .ensures .different (not-false _ (c .before .before .before .before .before .before .before .before .before .before .before .before .before .before .before .if2 .left)))
 
 pub judge-entries-spec : {M : Type 1} → statement M
 judge-entries-spec =
@@ -84,12 +100,15 @@ judge-entries-spec =
     same-length
     same-length-2
     returns-2
+    note-hints-requires
     mark-listed-requires
     all-marked-requires
     same-length-3
     same-length-4
+    same-length-5
     returns-3
     sub-repeats
-    same-length-5
     same-length-6
+    same-length-7
+    same-length-8
     returns-4)
