@@ -8,12 +8,8 @@ use native.Mathlib.Nat.{eq-or-lt-of-le}
 use Rattle.model.specs.Tests.{_and_, _or_}
 use Rattle.model.specs.Counts.{someBelow}
 use Rattle.model.proofs.Tests.{holds, fails, and-left, and-right, and-both}
+use Rattle.counts.proofs.Bools.{and-false}
 use Rattle.judge.specs.Judgement.{allBelow}
-
-pub and-false : (a : Bool) → (a and false) ≡ false
-unfolding _and_
-and-false true = refl
-and-false false = refl
 
 module _ (p : ℕ → Bool) where
   pub all-none : allBelow p 0 ≡ true

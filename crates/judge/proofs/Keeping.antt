@@ -11,16 +11,12 @@ use borrow.Author.Tests.{eq-eqb, ne-eqb, eqb-true, eqb-false, not-true, not-fals
 use Rattle.model.specs.Tests.{if_then_else_, _and_, _or_}
 use Rattle.model.specs.Counts.{entryAt, taskAt, isKind, someBelow, countBelow, outWhole, outFirst}
 use Rattle.model.proofs.Tests.{and-left}
+use Rattle.counts.proofs.Bools.{or-true}
 use Rattle.counts.proofs.Below.{some-at, up-miss}
 use Rattle.judge.specs.Judgement.{allBelow, kept, listed}
 use Rattle.judge.specs.Puts.{numberOfPut, Rising, FoundBy, Gathered, Marked, isMarked}
 use Rattle.judge.proofs.All.{all-fails, all-at, all-true}
 use Rattle.judge.proofs.Gathering.{clash}
-
-or-true : (x : Bool) → (x or true) ≡ true
-unfolding _or_
-or-true true = refl
-or-true false = refl
 
 module _ (l : List ℕ) (n : ℕ) (stored : List ℕ) (i : ℕ) (puts : List ℕ) (c : ℕ) (seen : List ℕ) (M : Marked l n stored i puts c seen) where
   -- a number that is none of this put's

@@ -15,7 +15,8 @@ use Rattle.model.proofs.Tests.{holds, fails, and-left, and-right, and-both}
 use Rattle.counts.proofs.Below.{some-at, up-miss}
 use Rattle.judge.specs.Judgement.{allBelow, finishedAs, honest, listed}
 use Rattle.judge.specs.Puts.{numberOfPut, Rising, Gathered, RepeatsPut, Marked, OutsBy}
-use Rattle.judge.proofs.All.{all-at, all-next, all-fails, some-found, some-same, and-false}
+use Rattle.counts.proofs.Bools.{and-false}
+use Rattle.judge.proofs.All.{all-at, all-next, all-fails, some-found, some-same}
 use Rattle.judge.proofs.Repeating.{one-place, same-put}
 
 pub mark-start : (l stored puts : List ℕ) (c : ℕ) (seen : List ℕ) → ((k : ℕ) → getD seen k 0 ≡ 0) → Marked l 0 stored 0 puts c seen

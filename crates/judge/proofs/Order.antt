@@ -11,7 +11,8 @@ use Rattle.model.specs.Tests.{_and_, _or_}
 use Rattle.model.specs.Counts.{entryAt, isKind}
 use Rattle.model.proofs.Tests.{holds, fails, and-both}
 use Rattle.judge.specs.Judgement.{allBelow, known, numbered, rises}
-use Rattle.judge.proofs.All.{all-fails, all-true, all-next, and-false}
+use Rattle.counts.proofs.Bools.{and-false}
+use Rattle.judge.proofs.All.{all-fails, all-true, all-next}
 
 module _ (l : List ℕ) where
   module _ (j k : ℕ) (e : k ≡ entryAt l j .kind) where

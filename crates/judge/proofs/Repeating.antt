@@ -12,7 +12,7 @@ use Rattle.model.specs.Counts.{entryAt, taskAt, isKind, sameTask, someBelow}
 use Rattle.model.proofs.Tests.{fails, and-left, and-right, and-both}
 use Rattle.judge.specs.Judgement.{finishedAs}
 use Rattle.judge.specs.Puts.{numberOfPut, Rising, FoundBy, Gathered, RepeatsPut}
-use Rattle.judge.proofs.All.{and-false}
+use Rattle.counts.proofs.Bools.{and-false}
 
 pub none-below : (p : ℕ → Bool) (n : ℕ) → ((i : ℕ) → i < n → p i ≡ false) → someBelow p n ≡ false
 unfolding someBelow _or_

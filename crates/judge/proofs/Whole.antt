@@ -9,7 +9,7 @@ use Rattle.model.proofs.Tests.{if-true, if-false, and-left, and-right, and-both
 use Rattle.judge.specs.declared.Verdict.{Verdict}
 use Rattle.judge.specs.declared.Verdict.the-variants.{No, Accepted}
 use Rattle.judge.specs.Judgement.{allBelow, known, rises, honest, kept, accepts, judgedWords}
-use Rattle.judge.proofs.All.{and-false}
+use Rattle.counts.proofs.Bools.{and-false}
 
 module _ (l : List ℕ) (n : ℕ) (stored : List ℕ) (m : ℕ) where
   abbrev first-two : Bool
