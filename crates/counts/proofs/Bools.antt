@@ -22,23 +22,8 @@ pub false-or : {x y a b : Bool} → x ≡ a → x ≡ false → y ≡ b → not 
 unfolding _or_
 false-or {x} {y} {a} {b} e f g = ap not g ∙ sym (ap (λ (z : Bool). not (z or b)) (sym e ∙ f))
 
-pub and-false : (x : Bool) → (x and false) ≡ false
-unfolding _and_
-and-false true = refl
-and-false false = refl
-
 -- what is false stays so with one test more
 pub and-more : (x y z : Bool) → (x and y) ≡ false → (x and (y and z)) ≡ false
 unfolding _and_
 and-more true y z e = rw e
 and-more false y z e = refl
-
-pub or-true : (x : Bool) → (x or true) ≡ true
-unfolding _or_
-or-true true = refl
-or-true false = refl
-
-pub or-false : (x y : Bool) → (x or y) ≡ false → (x ≡ false) × (y ≡ false)
-unfolding _or_
-or-false true y e = (e, cc)
-or-false false y e = (refl, e)

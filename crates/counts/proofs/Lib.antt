@@ -1,4 +1,3 @@
-pub mod Below
 pub mod Bools
 pub mod Places
 pub mod Seen

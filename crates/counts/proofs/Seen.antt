@@ -11,7 +11,7 @@ use lib.Seq.{getD-set-same, getD-set-other}
 use Rattle.model.specs.Tests.{_and_, _or_}
 use Rattle.model.specs.Counts.{someBelow, isKind, outAs}
 use Rattle.counts.specs.Seen.{Seen}
-use Rattle.counts.proofs.Bools.{and-false}
+use Rattle.model.proofs.Tests.{and-false}
 
 none-next : (l : List ℕ) (j x : ℕ) → outAs l x j ≡ false → someBelow (outAs l x) j ≡ false → someBelow (outAs l x) (j + 1) ≡ false
 unfolding someBelow _or_

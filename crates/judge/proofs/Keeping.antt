@@ -10,9 +10,8 @@ use lib.Seq.{getD-set-same, getD-set-other}
 use borrow.Author.Tests.{eq-eqb, ne-eqb, eqb-true, eqb-false, not-true, not-false}
 use Rattle.model.specs.Tests.{if_then_else_, _and_, _or_}
 use Rattle.model.specs.Counts.{entryAt, taskAt, isKind, someBelow, countBelow, outWhole, outFirst}
-use Rattle.model.proofs.Tests.{and-left}
-use Rattle.counts.proofs.Bools.{or-true}
-use Rattle.counts.proofs.Below.{some-at, up-miss}
+use Rattle.model.proofs.Tests.{and-left, or-true}
+use Rattle.model.proofs.Below.{some-at, up-miss}
 use Rattle.judge.specs.Judgement.{allBelow, kept, listed}
 use Rattle.judge.specs.Puts.{numberOfPut, Rising, FoundBy, Gathered, Marked, isMarked}
 use Rattle.judge.proofs.All.{all-fails, all-at, all-true}

@@ -11,11 +11,10 @@ use lib.Seq.{getD-set-same, getD-set-other}
 use borrow.Author.Tests.{eq-eqb, ne-eqb, eqb-true, eqb-false}
 use Rattle.model.specs.Tests.{if_then_else_, _and_, _or_}
 use Rattle.model.specs.Counts.{entryAt, taskAt, isKind, sameTask, someBelow, countBelow, outAs, outWhole, outFirst}
-use Rattle.model.proofs.Tests.{holds, fails, and-left, and-right, and-both}
-use Rattle.counts.proofs.Below.{some-at, up-miss}
+use Rattle.model.proofs.Tests.{holds, fails, and-left, and-right, and-both, and-false}
+use Rattle.model.proofs.Below.{some-at, up-miss}
 use Rattle.judge.specs.Judgement.{allBelow, finishedAs, honest, listed}
 use Rattle.judge.specs.Puts.{numberOfPut, Rising, Gathered, RepeatsPut, Marked, OutsBy}
-use Rattle.counts.proofs.Bools.{and-false}
 use Rattle.judge.proofs.All.{all-at, all-next, all-fails, some-found, some-same}
 use Rattle.judge.proofs.Repeating.{one-place, same-put}
 

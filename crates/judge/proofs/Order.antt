@@ -9,9 +9,8 @@ use lib.Dec.{eqb, ltb, leb}
 use borrow.Author.Tests.{le-leb, lt-leb, lt-ltb, le-ltb, eq-eqb, ne-eqb, eqb-false, ltb-true, ltb-false}
 use Rattle.model.specs.Tests.{_and_, _or_}
 use Rattle.model.specs.Counts.{entryAt, isKind}
-use Rattle.model.proofs.Tests.{holds, fails, and-both}
+use Rattle.model.proofs.Tests.{holds, fails, and-both, and-false}
 use Rattle.judge.specs.Judgement.{allBelow, known, numbered, rises}
-use Rattle.counts.proofs.Bools.{and-false}
 use Rattle.judge.proofs.All.{all-fails, all-true, all-next}
 
 module _ (l : List ℕ) where

@@ -9,10 +9,9 @@ use lib.ListN.{getD}
 use borrow.Author.Tests.{ltb-true, ltb-false, eq-eqb, ne-eqb, eqb-true, eqb-false}
 use Rattle.model.specs.Tests.{_and_, _or_}
 use Rattle.model.specs.Counts.{entryAt, taskAt, isKind, sameTask, someBelow}
-use Rattle.model.proofs.Tests.{fails, and-left, and-right, and-both}
+use Rattle.model.proofs.Tests.{fails, and-left, and-right, and-both, and-false}
 use Rattle.judge.specs.Judgement.{finishedAs}
 use Rattle.judge.specs.Puts.{numberOfPut, Rising, FoundBy, Gathered, RepeatsPut}
-use Rattle.counts.proofs.Bools.{and-false}
 
 pub none-below : (p : ℕ → Bool) (n : ℕ) → ((i : ℕ) → i < n → p i ≡ false) → someBelow p n ≡ false
 unfolding someBelow _or_

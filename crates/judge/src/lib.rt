@@ -1,6 +1,6 @@
 // Judges a log that a running matcher wrote: whether its hand-outs are those of finished puts, and every finished put is handed
 // out or still stored.
-// Uses `model`, and of `theorems` and `counts` definitions and lemmas. It is called from C and C++ (include/bomqelir.h); no crate uses it.
+// Uses `model`, and of `theorems` definitions. It is called from C and C++ (include/bomqelir.h); no crate uses it.
 ghost use mathlib.Core.Path.{_≡_};
 ghost use mathlib.Core.Bool.{true, false};
 ghost use Prim.Native.Nat.{ℕ, _+_, _*_, _≤_, _<_};

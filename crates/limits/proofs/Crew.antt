@@ -5,7 +5,7 @@ use mathlib.Core.Path.{_≡_, refl, sym, _∙_, ap}
 use Prim.Native.Nat.{ℕ, zero, suc, _≤_, _<_}
 use native.Mathlib.Omega.{arith}
 use lib.Dec.{eqb, ltb}
-use borrow.Author.Tests.{ne-eqb, lt-ltb, le-ltb}
+use borrow.Author.Tests.{eqb-true, ne-eqb, lt-ltb, le-ltb}
 use Rattle.model.specs.declared.Kind.{Kind}
 use Rattle.model.specs.declared.Line.{Line}
 use Rattle.model.specs.declared.Line.the-variants.{
@@ -38,7 +38,7 @@ use Rattle.model.specs.declared.Line.the-variants.{
 use Rattle.model.specs.declared.Queue.{Queue}
 use Rattle.model.specs.declared.Worker.{Worker}
 use Rattle.model.specs.Tests.{if_then_else_, _and_, _or_}
-use Rattle.model.specs.World.{lineAt, stage}
+use Rattle.model.specs.World.{lineAt, stage, isIdle}
 use Rattle.model.specs.Limits.{lineOk, ownerOk, thievesOk}
 use Rattle.limits.specs.Parts.{memberOk, workersOk}
 use Rattle.model.proofs.Tests.{holds, if-false, and-true, and-assoc}
@@ -88,7 +88,7 @@ module _ (κ : Kind) (w : ℕ) (q : Queue) (n i : ℕ) where
   unfolding _and_ _or_
   rests = same (eqb i 0) refl (same (ltb i n) refl refl)
 
-  pub idle-in : (l : Line) → stage l ≡ 0 → memberOk κ w q n i l ≡ true
+  idle-in : (l : Line) → stage l ≡ 0 → memberOk κ w q n i l ≡ true
   idle-in l e = ap (memberOk κ w q n i) (idle l e) ∙ rests
 
   -- a busy worker
@@ -110,6 +110,9 @@ module _ (κ : Kind) (w : ℕ) (q : Queue) (n : ℕ) (l : List Worker) where
       and-assoc (ownerOk κ w q (lineAt l 0)) (thievesOk κ w q n l k) _
       ∙ ap (λ (x : Bool). (ownerOk κ w q (lineAt l 0) and thievesOk κ w q n l k) and x)
       (sym (if-false (ownerOk κ w q (lineAt l (suc k))) (ne-eqb (suc k) 0 (λ e. omega arith))))
+
+  pub idle-passes : (k : ℕ) → isIdle (lineAt l k) ≡ true → member k ≡ true
+  idle-passes k e = idle-in κ w q n k (lineAt l k) (eqb-true (stage (lineAt l k)) 0 e)
 
   pub next-worker : (x : Bool) (k : ℕ) → workersOk κ w q n l k ≡ true → member k ≡ x → workersOk κ w q n l (suc k) ≡ x
   next-worker x k e f = turn k ∙ holds e ∙ f

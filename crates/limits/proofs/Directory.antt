@@ -1,8 +1,9 @@
 -- A directory is tidy as far as its links hold.
 use mathlib.Core.Bool.{Bool, true, false}
 use mathlib.Core.List.{List}
-use mathlib.Core.Path.{_≡_, refl, _∙_, subst}
-use Prim.Native.Nat.{ℕ, suc, _+_, _-_, _≤_, _<_}
+use mathlib.Core.Path.{_≡_, refl, sym, _∙_, subst}
+use Prim.Native.Nat.{ℕ, suc, _+_, _-_, _*_, _^_, _%_, _≤_, _<_}
+use native.Mathlib.Nat.{mod-eq-of-lt}
 use native.Mathlib.Omega.{arith}
 use lib.Dec.{eqb}
 use lib.ListN.{getD}
@@ -12,9 +13,11 @@ use Rattle.model.specs.declared.Region.{Region}
 use Rattle.model.specs.declared.Queue.{Queue}
 use Rattle.model.specs.Tests.{if_then_else_}
 use Rattle.model.specs.Memory.{nowhere, offsetAt, sizeAt}
+use Rattle.model.specs.Lines.{size}
 use Rattle.model.specs.Limits.{tidy, directoryOk}
-use Rattle.limits.specs.Parts.{startsOk, followsOk}
+use Rattle.limits.specs.Parts.{startsOk, followsOk, Doubles}
 use Rattle.model.proofs.Tests.{holds, and-left, and-right}
+use Rattle.model.proofs.Directory.{size-le, tidy-front, tidy-size, tidy-doubled}
 use Rattle.limits.proofs.Scan.{fails-by}
 
 -- every published array is claimed
@@ -50,3 +53,17 @@ module _ (l : List Region) where
   never-tidy k n h e =
       subst (λ (x : ℕ). tidy l x ≡ false) {x = suc (n - 1)} {y = n} (omega arith)
       (fails-by from-first link (λ j. refl) k (n - 1) (omega arith) e)
+
+pub doubles : (q : Queue) (m : List ℕ) (o : Line) → directoryOk q m o ≡ true → Doubles q (sizeAt (q .arrays) 0)
+doubles q m o e k h =
+    let t = and-right _ _ (and-right _ _ e) in
+    let all : q .published ≤ q .claimed = reaches _ _ _ (and-left _ _ t) in
+    let u = tidy-front (q .arrays) (q .claimed) k (and-left _ _ (and-right _ _ t)) (omega arith) in
+    let d = tidy-doubled (q .arrays) k u in
+    (d, subst (λ (x : ℕ). x ≤ 1024) d (size-le (tidy-size (q .arrays) k u)))
+
+-- the current array's size, as the first one's shifted
+pub current : (q : Queue) (f : ℕ) → Doubles q f → 0 < q .published → f * 2 ^ (q .published - 1) % 2 ^ 32 ≡ size q
+current q f d h =
+    let (doubled, small) = d (q .published - 1) (omega arith) in
+    mod-eq-of-lt (let low : f * 2 ^ (q .published - 1) < 2 ^ 32 = omega (arith, small) in low) ∙ sym doubled

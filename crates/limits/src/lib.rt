@@ -3,6 +3,7 @@
 // tested before a later test counts on it, and a sum of two free values is worked out in 64 bits.
 // Uses `model`. It is used by `state`, `machine` and `queues`.
 ghost use mathlib.Core.Path.{_≡_};
+ghost use mathlib.Core.Bool.{false};
 ghost use Prim.Native.Nat.{_+_, _-_, _*_, _/_, _^_, _≤_, _<_};
 ghost use lib.Dec.{eqb, ltb, leb};
 ghost use lib.ListN.{length, getD};
@@ -33,7 +34,15 @@ ghost use Rattle.model.specs.Limits.{
   validOf,
 };
 ghost use Rattle.model.specs.Calls.{lent};
-ghost use Rattle.limits.specs.Parts.{startsOk, followsOk, memberOk, workersOk, contentsOk};
+ghost use Rattle.limits.specs.Parts.{
+  startsOk,
+  followsOk,
+  memberOk,
+  workersOk,
+  contentsOk,
+  Doubles,
+  Scoped,
+};
 use model::Anchor;
 use model::Bench;
 use model::Kind;
@@ -41,6 +50,7 @@ use model::Line;
 use model::Queue;
 use model::Region;
 use model::Task;
+use model::Worker;
 
 // How many tags have `width` bits.
 pub fn tag_count(width: u32) -> u32
@@ -236,15 +246,6 @@ fn directory_ok(queue: Queue, store: &[u32], owner: Line) -> bool
     fits(queue, store)
 }
 
-// The size of the array at `place` of the directory, in tasks.
-pub fn size_at(queue: Queue, place: u32) -> u32
-    requires { ⌜ place < 11 ⌝ }
-    ensures { λ r. ⌜ r ≡ sizeAt (queue .arrays) place ⌝ }
-{
-    let region = region_at(queue, place);
-    region.length / 2
-}
-
 // An anchor as a worker read it, in an array of `tasks`.
 fn read_ok(kind: Kind, width: u32, tasks: u32, read: Anchor) -> bool
     requires { ⌜ width ≤ 16 ⌝ }
@@ -337,14 +338,15 @@ fn slot_ok(kind: Kind, tasks: u32, read: Anchor) -> bool
     }
 }
 
-fn place_ok(kind: Kind, queue: Queue, read: Anchor, place: u32) -> bool
-    requires { ⌜ queue .published ≤ 11 ⌝ }
-    ensures { λ r. ⌜ r ≡ placeOk kind queue read place ⌝ }
+// The noted array exists, and the slot in it. Each array is twice the one before, so its size is the first one's, doubled.
+fn place_ok(kind: Kind, published: u32, first: u32, read: Anchor, place: u32) -> bool
+    requires { ⌜ published ≤ 11 ⌝ }
+    ensures { λ r. ⌜ ((q : Queue) → q .published ≡ published → Doubles q first → r ≡ placeOk kind q read place) ⌝ }
 {
-    if queue.published <= place {
+    if published <= place {
         return false;
     }
-    slot_ok(kind, size_at(queue, place), read)
+    slot_ok(kind, first << place, read)
 }
 
 fn is_deque(kind: Kind) -> bool
@@ -413,11 +415,10 @@ fn copy_ok(kind: Kind, tasks: u32, task: Task, head: u32, noted: u32, copied: u3
 }
 
 // What a worker at the line has read; the current array has `tasks` slots.
-fn line_ok(kind: Kind, width: u32, queue: Queue, tasks: u32, line: Line) -> bool
+fn line_ok(kind: Kind, width: u32, published: u32, first: u32, tasks: u32, line: Line) -> bool
     requires { ⌜ width ≤ 16 ⌝ }
-    requires { ⌜ queue .published ≤ 11 ⌝ }
-    requires { ⌜ tasks ≡ size queue ⌝ }
-    ensures { λ r. ⌜ r ≡ lineOk kind width queue line ⌝ }
+    requires { ⌜ published ≤ 11 ⌝ }
+    ensures { λ r. ⌜ ((q : Queue) → q .published ≡ published → Doubles q first → tasks ≡ size q → r ≡ lineOk kind width q line) ⌝ }
 {
     match line {
         Line::Idle => true,
@@ -466,14 +467,17 @@ fn line_ok(kind: Kind, width: u32, queue: Queue, tasks: u32, line: Line) -> bool
             width,
             tasks,
             read,
-            place_ok(kind, queue, read, place),
+            place_ok(kind, published, first, read, place),
         ),
         Line::StealPayload {
             read,
             place,
             number,
         } => {
-            let holds = both(place_ok(kind, queue, read, place), number_ok(number));
+            let holds = both(
+                place_ok(kind, published, first, read, place),
+                number_ok(number),
+            );
             past_empty(kind, width, tasks, read, holds)
         }
         Line::StealNext { read, task } => {
@@ -494,63 +498,106 @@ pub fn is_idle(line: Line) -> bool
 }
 
 // A worker that is not idle is at a line of its own operation: the owner's put or take, a thief's steal.
-fn own_line(worker: usize, at: u32) -> bool
+fn own_line(worker: u32, at: u32) -> bool
     ensures { λ r. ⌜ r ≡ (if eqb worker 0 then ltb at 4 else ltb 3 at) ⌝ }
 {
     if worker == 0 { at < 4 } else { 3 < at }
 }
 
-// A worker at `line`. Most are idle and pass at once; a busy one outside the crew is refused.
-fn member_ok(
+// What the limits of a worker's line are taken from: the bench without its workers, and of the directory the number of
+// published arrays, the first one's size and the current one's.
+struct Scope {
     kind: Kind,
     width: u32,
-    queue: Queue,
+    crew: u32,
+    published: u32,
+    first: u32,
     tasks: u32,
-    crew: usize,
-    worker: usize,
-    line: Line,
-) -> bool
-    requires { ⌜ width ≤ 16 ⌝ }
-    requires { ⌜ queue .published ≤ 11 ⌝ }
-    requires { ⌜ tasks ≡ size queue ⌝ }
-    requires { ⌜ 0 < crew ⌝ }
-    ensures { λ r. ⌜ r ≡ memberOk kind width queue crew worker line ⌝ }
+}
+
+fn rests(own: Worker) -> bool
+    ensures { λ r. ⌜ r ≡ isIdle (own .line) ⌝ }
 {
-    let at = stage(line);
-    if at == 0 {
-        return true;
-    }
-    if crew <= worker {
+    let line = own.line;
+    is_idle(line)
+}
+
+// A worker that is not idle.
+fn busy_ok(scope: Scope, worker: u32, own: Worker) -> bool
+    requires { ⌜ scope .width ≤ 16 ⌝ }
+    requires { ⌜ scope .published ≤ 11 ⌝ }
+    requires { ⌜ 0 < scope .crew ⌝ }
+    requires { ⌜ isIdle (own .line) ≡ false ⌝ }
+    ensures { λ r. ⌜ ((q : Queue) → Scoped scope q → r ≡ memberOk (scope .kind) (scope .width) q (scope .crew) worker (own .line)) ⌝ }
+{
+    if scope.crew <= worker {
         return false;
     }
+    let line = own.line;
+    let at = stage(line);
     if !own_line(worker, at) {
         return false;
     }
-    line_ok(kind, width, queue, tasks, line)
+    let kind = scope.kind;
+    line_ok(
+        kind,
+        scope.width,
+        scope.published,
+        scope.first,
+        scope.tasks,
+        line,
+    )
 }
 
-// The eight workers, owner and thieves in one loop: the tests of a line are long, and the compiler puts them in place only
-// where they are called once.
-fn workers_ok(bench: Bench, tasks: u32) -> bool
+// The eight workers, each by a number that is a constant: an index that varies would have all eight copied. Most are idle and
+// pass at once.
+fn workers_ok(bench: Bench, first: u32, tasks: u32) -> bool
     requires { ⌜ bench .width ≤ 16 ⌝ }
     requires { ⌜ bench .queue .published ≤ 11 ⌝ }
+    requires { ⌜ Doubles (bench .queue) first ⌝ }
     requires { ⌜ tasks ≡ size (bench .queue) ⌝ }
     requires { ⌜ 0 < bench .crew ⌝ }
     ensures { λ r. ⌜ r ≡ workersOk (bench .kind) (bench .width) (bench .queue) (bench .crew) (bench .workers) 8 ⌝ }
 {
-    let kind = bench.kind;
-    let queue = bench.queue;
-    let width = bench.width;
-    let crew = bench.crew as usize;
-    let workers = bench.workers;
-    let mut i: usize = 0;
-    while i < 8 {
-        let worker = workers[i];
-        let line = worker.line;
-        if !member_ok(kind, width, queue, tasks, crew, i, line) {
-            return false;
-        }
-        i += 1;
+    let scope = Scope {
+        kind: bench.kind,
+        width: bench.width,
+        crew: bench.crew,
+        published: bench.queue.published,
+        first: first,
+        tasks: tasks,
+    };
+    let own0 = bench.workers[0];
+    if !rests(own0) && !busy_ok(scope, 0, own0) {
+        return false;
+    }
+    let own1 = bench.workers[1];
+    if !rests(own1) && !busy_ok(scope, 1, own1) {
+        return false;
+    }
+    let own2 = bench.workers[2];
+    if !rests(own2) && !busy_ok(scope, 2, own2) {
+        return false;
+    }
+    let own3 = bench.workers[3];
+    if !rests(own3) && !busy_ok(scope, 3, own3) {
+        return false;
+    }
+    let own4 = bench.workers[4];
+    if !rests(own4) && !busy_ok(scope, 4, own4) {
+        return false;
+    }
+    let own5 = bench.workers[5];
+    if !rests(own5) && !busy_ok(scope, 5, own5) {
+        return false;
+    }
+    let own6 = bench.workers[6];
+    if !rests(own6) && !busy_ok(scope, 6, own6) {
+        return false;
+    }
+    let own7 = bench.workers[7];
+    if !rests(own7) && !busy_ok(scope, 7, own7) {
+        return false;
     }
     true
 }
@@ -559,6 +606,7 @@ fn workers_ok(bench: Bench, tasks: u32) -> bool
 fn contents_ok(bench: Bench) -> bool
     requires { ⌜ bench .width ≤ 16 ⌝ }
     requires { ⌜ (0 < bench .queue .published) × (bench .queue .published ≤ 11) ⌝ }
+    requires { ⌜ Doubles (bench .queue) (sizeAt (bench .queue .arrays) 0) ⌝ }
     requires { ⌜ 0 < bench .crew ⌝ }
     ensures { λ r. ⌜ r ≡ contentsOk bench ⌝ }
 {
@@ -567,14 +615,16 @@ fn contents_ok(bench: Bench) -> bool
     let queue = bench.queue;
     let anchor = queue.anchor;
     let current = queue.published - 1;
-    let tasks = size_at(queue, current);
+    let start = queue.arrays[0];
+    let first = start.length / 2;
+    let tasks = first << current;
     if !anchor_ok(kind, width, tasks, anchor) {
         return false;
     }
     if !number_ok(bench.used) {
         return false;
     }
-    workers_ok(bench, tasks)
+    workers_ok(bench, first, tasks)
 }
 
 // The state, with the lengths of its lent memory, is no foreign one.

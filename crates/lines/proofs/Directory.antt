@@ -1,13 +1,11 @@
 -- The directory of arrays as the limits lay it out: by induction over its pairs, where each array lies and how large it is.
 use mathlib.Core.Bool.{Bool, true, false}
-use mathlib.Core.Path.{_≡_, ap, subst, _∙_}
+use mathlib.Core.Path.{_≡_, subst}
 use mathlib.Core.Logic.{_⊎_, inl, inr}
 use mathlib.Core.List.{List}
-use Prim.Native.Nat.{ℕ, zero, suc, _+_, _-_, _*_, _/_, _^_, _≤_, _<_}
+use Prim.Native.Nat.{ℕ, zero, suc, _+_, _-_, _*_, _^_, _≤_, _<_}
 use native.Mathlib.Omega.{arith}
-use native.Mathlib.Nat.{mul-div-cancel-left, pow-succ', eq-or-lt-of-le}
-use lib.Pow.{pow-pos}
-use lib.Dec.{eqb}
+use native.Mathlib.Nat.{pow-succ', eq-or-lt-of-le}
 use lib.ListN.{length}
 use borrow.Author.Tests.{eqb-true, leb-true, ltb-true}
 use Rattle.model.specs.declared.Line.{Line}
@@ -16,8 +14,9 @@ use Rattle.model.specs.declared.Queue.{Queue}
 use Rattle.model.specs.Tests.{if_then_else_}
 use Rattle.model.specs.Memory.{offsetAt, sizeAt}
 use Rattle.model.specs.World.{isExpanding}
-use Rattle.model.specs.Limits.{isSize, lengthAt, tidy, taken, directoryOk}
-use Rattle.model.proofs.Tests.{and-left, and-right, or-cases}
+use Rattle.model.specs.Limits.{tidy, taken, directoryOk}
+use Rattle.model.proofs.Tests.{and-left, and-right}
+use Rattle.model.proofs.Directory.{size-pos, size-le, Next, tidy-last, tidy-start}
 
 -- the array at place k, in a directory whose last pair is at place m
 pub record Laid (l : List Region) (m k : ℕ) : Type 0 where
@@ -27,45 +26,15 @@ pub record Laid (l : List Region) (m k : ℕ) : Type 0 where
   pub grows : sizeAt l k ≤ sizeAt l m
   pub ends : offsetAt l k + 2 * sizeAt l k ≤ offsetAt l m + 2 * sizeAt l m
 
-size-in : (e c : ℕ) → isSize e c ≡ true → (0 < c) × (c ≤ 2 ^ e)
-size-in zero c t = let h : c ≡ 1 = eqb-true _ _ t in omega (arith, h)
-size-in (suc e) c t = go (or-cases (eqb c (2 ^ suc e)) (isSize e c) t) (size-in e c)
-  where
-    go : (eqb c (2 ^ suc e) ≡ true) ⊎ (isSize e c ≡ true) → (isSize e c ≡ true → (0 < c) × (c ≤ 2 ^ e))
-        → (0 < c) × (c ≤ 2 ^ suc e)
-    go (inl a) f = let h : c ≡ 2 ^ suc e = eqb-true _ _ a in omega (arith, h, pow-pos (suc e))
-    go (inr b) f = let i = f b in omega (arith, i, pow-succ' 2 e)
-
 first : (l : List Region) → tidy l 1 ≡ true → Laid l 0 0
 first l t =
-    let o : offsetAt l 0 ≡ 0 = eqb-true _ _ (and-left _ _ t) in
-    let s = size-in 10 (sizeAt l 0) (and-right _ _ (and-right _ _ t)) in
+    let (o, S) = tidy-start l t in
     record {
-      large = s .0;
-      small = s .1;
+      large = size-pos S;
+      small = size-le S;
       near = omega (arith, o);
       grows = omega arith;
       ends = omega arith;
-    }
-
--- one array after the other
-record Next (l : List Region) (m : ℕ) : Type 0 where
-  place : offsetAt l (suc m) ≡ offsetAt l m + 2 * sizeAt l m
-  twice : sizeAt l (suc m) ≡ 2 * sizeAt l m
-  small : 2 * sizeAt l m ≤ 1024
-
-size-of : (l : List Region) (k z : ℕ) → lengthAt l k ≡ 2 * z → sizeAt l k ≡ z
-unfolding sizeAt
-size-of l k z e = ap (λ (x : ℕ). x / 2) e ∙ mul-div-cancel-left z (omega arith)
-
-next : (l : List Region) (m : ℕ) → tidy l (suc (suc m)) ≡ true → Next l m
-next l m t =
-    let a = and-right (tidy l (suc m)) _ t in
-    let b = and-right (eqb (offsetAt l (suc m)) (offsetAt l m + 2 * sizeAt l m)) _ a in
-    record {
-      place = eqb-true _ _ (and-left _ _ a);
-      twice = size-of l (suc m) (2 * sizeAt l m) (eqb-true _ _ (and-left _ _ b));
-      small = leb-true _ _ (and-right _ _ b);
     }
 
 -- what stood before the next array still does, and the next one stands so too
@@ -97,8 +66,8 @@ laid l (suc m) k t h =
     go : (k ≡ suc m) ⊎ (k < suc m) → ((j : ℕ) → j ≤ m → Laid l m j) → Laid l (suc m) k
     go (inl e) f =
         subst (λ (x : ℕ). Laid l (suc m) x) {x = suc m} {y = k} (omega (arith, e))
-        (join l m (next l m t) (f m (omega arith)))
-    go (inr i) f = keep l m k (next l m t) (f k (omega (arith, i)))
+        (join l m (tidy-last l m t) (f m (omega arith)))
+    go (inr i) f = keep l m k (tidy-last l m t) (f k (omega (arith, i)))
 
 -- a directory in a store of n words, the owner at line o
 pub record Arrays (q : Queue) (n : ℕ) (o : Line) : Type 0 where

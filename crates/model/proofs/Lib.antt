@@ -4,3 +4,5 @@ pub mod Table
 pub mod Mistakes
 pub mod Limits
 pub mod Arrays
+pub mod Directory
+pub mod Below

@@ -18,7 +18,8 @@ use Rattle.model.proofs.Tests.{and-both}
 use Rattle.model.specs.Memory.{wordAt, setWord, zeros, nowhere, offsetAt, sizeAt}
 use Rattle.model.specs.Lines.{off, size, claiming, publishing}
 use Rattle.model.specs.Limits.{isSize, lengthAt, tidy, taken}
-use Rattle.theorems.proofs.Remainders.{le-or-lt, Size, size-twice}
+use Rattle.model.proofs.Directory.{Size, Next, tidy-last, tidy-front, tidy-next, tidy-start, tidy-size}
+use Rattle.theorems.proofs.Remainders.{le-or-lt}
 use Rattle.theorems.proofs.Words.{zeros-low, zeros-length, set-place, set-here}
 
 pub both : (a b : Bool) → a and b ≡ true → (a ≡ true) × (b ≡ true)
@@ -26,63 +27,16 @@ unfolding _and_
 both true b q = (refl, q)
 both false b q = absurd (let z : _≡_ {A = ℕ} 0 1 = cc in omega arith)
 
--- the test for a size
-pub size-yes : (e c : ℕ) → e ≤ 10 → isSize e c ≡ true → Size c
-unfolding _or_
-size-yes zero c l q = (0, omega arith, eqb-true c 1 q)
-size-yes (suc e) c l q = go (eqb c (2 ^ suc e)) refl q (λ z. size-yes e c (omega arith) z)
-  where
-    go : (x : Bool) → eqb c (2 ^ suc e) ≡ x → (x or isSize e c) ≡ true → (isSize e c ≡ true → Size c) → Size c
-    go true y z f = (suc e, l, eqb-true c (2 ^ suc e) y)
-    go false y z f = f z
-
-size-of : (l : List Region) (k z : ℕ) → lengthAt l k ≡ 2 * z → sizeAt l k ≡ z
-unfolding sizeAt
-size-of l k z e = ap (λ (x : ℕ). x / 2) e ∙ mul-div-cancel-left z (omega arith)
-
--- one array after the other
-pub record Next (l : List Region) (k : ℕ) : Type 0 where
-  pub place : offsetAt l (suc k) ≡ offsetAt l k + 2 * sizeAt l k
-  pub twice : sizeAt l (suc k) ≡ 2 * sizeAt l k
-  pub small : 2 * sizeAt l k ≤ 1024
-
-tidy-last : (l : List Region) (m : ℕ) → tidy l (suc (suc m)) ≡ true → (tidy l (suc m) ≡ true) × Next l m
-tidy-last l m q =
-    let a = both (tidy l (suc m)) _ q in
-    let b = both (eqb (offsetAt l (suc m)) (offsetAt l m + 2 * sizeAt l m)) _ (a .1) in
-    let c = both (eqb (lengthAt l (suc m)) (2 * (2 * sizeAt l m))) _ (b .1) in
-    (a .0, record { place = eqb-true _ _ (b .0); twice = size-of l (suc m) (2 * sizeAt l m) (eqb-true _ _ (c .0)); small = leb-true _ _ (c .1) })
-
-pub tidy-next : (l : List Region) (n k : ℕ) → tidy l n ≡ true → suc k < n → Next l k
-tidy-next l zero k q h = absurd (omega arith)
-tidy-next l (suc zero) k q h = absurd (omega arith)
-tidy-next l (suc (suc m)) k q h = go (le-or-lt m k) (λ a. tidy-next l (suc m) k (tidy-last l m q .0) (omega arith))
-  where
-    go : (m ≤ k) ⊎ (k < m) → (k < m → Next l k) → Next l k
-    go (inl a) f = subst (λ (x : ℕ). Next l x) {x = m} {y = k} (omega arith) (tidy-last l m q .1)
-    go (inr a) f = f a
-
 -- an array's offset is even, and its size a power of two
 abbrev pub Proper : List Region → ℕ → Type 0
 Proper l k = Size (sizeAt l k) × ((e : ℕ) × (offsetAt l k ≡ 2 * e))
 
-proper-next : (l : List Region) (k : ℕ) → Next l k → Proper l k → Proper l (suc k)
-proper-next l k N (S, (e, q)) = (rw (N .twice) (size-twice S (N .small)), (e + sizeAt l k, omega (arith, N .place)))
+even-at : (l : List Region) (k : ℕ) → tidy l (suc k) ≡ true → (e : ℕ) × (offsetAt l k ≡ 2 * e)
+even-at l zero t = (0, tidy-start l t .0)
+even-at l (suc k) t = let (e, q) = even-at l k (tidy-front l (suc (suc k)) k t (omega arith)) in (e + sizeAt l k, omega (arith, tidy-last l k t .place, q))
 
 pub tidy-proper : (l : List Region) (n k : ℕ) → tidy l n ≡ true → k < n → Proper l k
-tidy-proper l zero k q h = absurd (omega arith)
-tidy-proper l (suc zero) k q h = subst (λ (x : ℕ). Proper l x) {x = 0} {y = k} (omega arith) first
-  where
-    first : Proper l 0
-    first =
-        let a = both (eqb (offsetAt l 0) 0) _ q in
-        let b = both (eqb (lengthAt l 0) (2 * sizeAt l 0)) _ (a .1) in
-        (size-yes 10 (sizeAt l 0) (omega arith) (b .1), (0, eqb-true _ _ (a .0)))
-tidy-proper l (suc (suc m)) k q h = go (le-or-lt (suc m) k) (λ j a. tidy-proper l (suc m) j (tidy-last l m q .0) a)
-  where
-    go : (suc m ≤ k) ⊎ (k < suc m) → ((j : ℕ) → j < suc m → Proper l j) → Proper l k
-    go (inl a) f = subst (λ (x : ℕ). Proper l x) {x = suc m} {y = k} (omega arith) (proper-next l m (tidy-last l m q .1) (f m (omega arith)))
-    go (inr a) f = f k a
+tidy-proper l n k t h = let u = tidy-front l n k t h in (tidy-size l k u, even-at l k u)
 
 -- an earlier array ends no later, and is no larger
 abbrev pub Below : List Region → ℕ → ℕ → Type 0

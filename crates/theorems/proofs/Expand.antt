@@ -20,9 +20,10 @@ use Rattle.model.specs.Tests.{if_then_else_}
 use Rattle.model.specs.Memory.{zeros, offsetAt, sizeAt}
 use Rattle.model.specs.Lines.{eff, off, size, claiming, publishing, fits, copied, lineStep}
 use Rattle.model.specs.Figures.{slot, noteAll, anchor}
+use Rattle.model.proofs.Directory.{size-pos, size-twice}
 use Rattle.theorems.proofs.Events.{quiet, began-put, found-full, History}
 use Rattle.theorems.proofs.Words.{cell, put-word, put-same, put-twin, put-other, put-above, put-low, put-length, zeros-low, W-zeros, zeros-length, word-W, set-W, set-place, set-here}
-use Rattle.theorems.proofs.Remainders.{slot-ne, le-or-lt, size-pos, size-twice}
+use Rattle.theorems.proofs.Remainders.{slot-ne, le-or-lt}
 use Rattle.theorems.proofs.Window.{View, core-words, core-ev}
 use Rattle.theorems.proofs.Seen.{frame-pub, frame-dir}
 use Rattle.theorems.proofs.Indices.{Start, start-ix}

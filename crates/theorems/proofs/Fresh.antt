@@ -23,11 +23,11 @@ use Rattle.model.specs.Memory.{zeros, offsetAt, sizeAt}
 use Rattle.model.specs.Limits.{isSize, widthOk, crewOk}
 use Rattle.model.specs.Calls.{blank, noBench, lent, kindOf, freshOf}
 use Rattle.model.specs.Figures.{anchor}
-use Rattle.theorems.proofs.Remainders.{Size, size-pos}
+use Rattle.model.proofs.Directory.{Size, size-pos, size-yes}
 use Rattle.theorems.proofs.Words.{zeros-length}
 use Rattle.theorems.proofs.Indices.{StandsFor}
 use Rattle.theorems.proofs.Invariant.{tops-refl}
-use Rattle.theorems.proofs.Directory.{both, size-yes, numbers-zeros, Arrays}
+use Rattle.theorems.proofs.Directory.{both, numbers-zeros, Arrays}
 use Rattle.theorems.proofs.Shape.{Bounded, Spent, pending}
 use Rattle.theorems.proofs.Valid.{Whole}
 use Rattle.theorems.proofs.SoundRun.{InvOf}

@@ -9,7 +9,8 @@ use Rattle.model.specs.declared.Kind.{Kind}
 use Rattle.model.specs.declared.Kind.the-variants.{Lifo, Fifo, Deque}
 use Rattle.model.specs.declared.Anchor.{Anchor}
 use Rattle.model.specs.Figures.{putIndex, takeIndex, stealIndex, isFull, isEmpty, slot}
-use Rattle.theorems.proofs.Remainders.{Size, wrap}
+use Rattle.model.proofs.Directory.{Size}
+use Rattle.theorems.proofs.Remainders.{wrap}
 
 -- the anchor a stands for the window [lo, hi)
 abbrev pub StandsFor : Kind → Anchor → ℕ → ℕ → Type 0

@@ -16,9 +16,10 @@ use Rattle.model.specs.declared.Anchor.{Anchor}
 use Rattle.model.specs.Memory.{offsetAt, sizeAt}
 use Rattle.model.specs.Lines.{off, size}
 use Rattle.model.specs.Figures.{anchor}
+use Rattle.model.proofs.Directory.{Size}
 use Rattle.theorems.proofs.Events.{Event, quiet, line-1, finished-put, handed-out, failed-compare, found-empty, began-put, found-full, History, Out, puts-since, history-at}
 use Rattle.theorems.proofs.Words.{cell}
-use Rattle.theorems.proofs.Remainders.{tag-next, Size}
+use Rattle.theorems.proofs.Remainders.{tag-next}
 use Rattle.theorems.proofs.Window.{View, word, taskAt, Core, later}
 use Rattle.theorems.proofs.Seen.{Dir, Got, Noted, Frame, Still, dir-keep, got-keep, noted-keep}
 use Rattle.theorems.proofs.Indices.{StandsFor, Start, Small, stolen-ix, taken-ix}

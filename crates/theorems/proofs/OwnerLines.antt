@@ -22,9 +22,10 @@ use Rattle.model.specs.Memory.{wordAt, setWord}
 use Rattle.model.specs.Lines.{eff, off, size, anchored, fits, lineStep}
 use Rattle.model.specs.Figures.{slot, takeIndex, isFull, isEmpty, afterPut, afterTake, anchor}
 use Rattle.model.specs.Answers.{task}
+use Rattle.model.proofs.Directory.{size-pos}
 use Rattle.theorems.proofs.Events.{quiet, line-1, finished-put, handed-out, found-empty, History, Out}
 use Rattle.theorems.proofs.Words.{put-word, put-same, put-twin, put-other, put-low, put-length, word-W, set-W}
-use Rattle.theorems.proofs.Remainders.{slot-ne, size-pos}
+use Rattle.theorems.proofs.Remainders.{slot-ne}
 use Rattle.theorems.proofs.Window.{taskAt, both-words, later, core-window, core-put}
 use Rattle.theorems.proofs.Seen.{frame-same}
 use Rattle.theorems.proofs.Indices.{StandsFor, taken-ix, put-ix, take-ix, full-no, empty-yes, empty-no}

@@ -24,7 +24,7 @@ use Rattle.model.specs.Figures.{slot, takeIndex, isFull, isEmpty, afterPut, aft
 use Rattle.model.specs.World.{isExpanding}
 use Rattle.model.specs.Limits.{taken}
 use Rattle.model.specs.Answers.{task}
-use Rattle.theorems.proofs.Remainders.{size-pos}
+use Rattle.model.proofs.Directory.{size-pos}
 use Rattle.theorems.proofs.Words.{set-place}
 use Rattle.theorems.proofs.Directory.{both, Arrays, now, number-now, numbers-number, numbers-payload, arrays-store, arrays-claim, arrays-publish, tidy-proper}
 use Rattle.theorems.proofs.Shape.{tail, Bounded, OwnRead, Room, Some, Span, pending, Spent, OwnShape, InArray, Shape, Larger, thief-keep}

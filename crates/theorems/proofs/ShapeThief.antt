@@ -20,7 +20,8 @@ use Rattle.model.specs.Memory.{wordAt, offsetAt, sizeAt}
 use Rattle.model.specs.Lines.{Effect, eff, size, anchored, lineStep}
 use Rattle.model.specs.Answers.{task}
 use Rattle.model.specs.Figures.{isSame, slot, stealIndex, isEmpty, afterSteal, stealRead, stealLast, anchor}
-use Rattle.theorems.proofs.Remainders.{le-or-lt, size-pos}
+use Rattle.model.proofs.Directory.{size-pos}
+use Rattle.theorems.proofs.Remainders.{le-or-lt}
 use Rattle.theorems.proofs.Directory.{number, tidy-proper}
 use Rattle.theorems.proofs.Shape.{tail, Bounded, Early, ThiefRead, Some, Slot, After, Double, Spent, OwnShape, ThiefShape, Shape, Larger, thief-keep}
 use Rattle.theorems.proofs.ShapeOwner.{larger-refl, larger-anchor}

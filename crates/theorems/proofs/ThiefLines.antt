@@ -23,9 +23,10 @@ use Rattle.model.specs.Lines.{Effect, eff, size, anchored, lineStep}
 use Rattle.model.specs.Answers.{task}
 use Rattle.model.specs.Figures.{isSame, stealLast, slot, stealIndex, isEmpty, afterSteal, stealRead, anchor}
 use Rattle.theorems.specs.Demand3.{Few}
+use Rattle.model.proofs.Directory.{size-pos, size-le}
 use Rattle.theorems.proofs.Events.{Event, quiet, line-1, handed-out, failed-compare, found-empty, History, Out, puts-since, PremiseAt, GoodEvent, event-of}
 use Rattle.theorems.proofs.Words.{word-W}
-use Rattle.theorems.proofs.Remainders.{le-or-lt, tag-zero, size-pos, size-le, same-head}
+use Rattle.theorems.proofs.Remainders.{le-or-lt, tag-zero, same-head}
 use Rattle.theorems.proofs.Directory.{both}
 use Rattle.theorems.proofs.Window.{taskAt, both-words, View, NotDone, core-window, core-ev}
 use Rattle.theorems.proofs.Seen.{frame-same}

@@ -4,7 +4,7 @@ use mathlib.Core.Path.{_≡_}
 use native.Mathlib.Omega.{arith}
 use borrow.Author.Needs.{needs}
 use Rattle.counts.specs.Seen.{Seen}
-use Rattle.counts.proofs.Below.{count-none, count-next, count-all, count-le}
+use Rattle.model.proofs.Below.{count-none, count-next, count-all, count-le}
 use Rattle.counts.proofs.Seen.{seen-none, seen-all}
 use Rattle.counts.proofs.different_out.Statement.{statement}
 use Rattle.counts.proofs.different_out.Tie as tie

@@ -1,6 +1,6 @@
 use mathlib.Core.Path.{_≡_}
 use borrow.Author.Needs.{needs}
-use Rattle.counts.proofs.Below.{count-none, count-next, count-all, count-le}
+use Rattle.model.proofs.Below.{count-none, count-next, count-all, count-le}
 use Rattle.model.specs.Counts.{isKind, countBelow}
 use Prim.Native.Nat.{_≤_, _-_}
 use native.Mathlib.Omega.{arith}

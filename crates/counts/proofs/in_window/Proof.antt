@@ -5,7 +5,7 @@ use Prim.Native.Nat.{_≤_, _-_}
 use native.Mathlib.Omega.{arith}
 use borrow.Author.Needs.{needs}
 use Rattle.counts.specs.Places.{stands}
-use Rattle.counts.proofs.Below.{some-at, up-miss, up-all}
+use Rattle.model.proofs.Below.{some-at, up-miss, up-all}
 use Rattle.counts.proofs.Places.{stands-is}
 use Rattle.counts.proofs.in_window.Statement.{statement}
 use Rattle.counts.proofs.in_window.Tie as tie

@@ -4,7 +4,7 @@ use Prim.Native.Nat.{_≤_, _-_}
 use mathlib.Core.Path.{_≡_}
 use native.Mathlib.Omega.{arith}
 use borrow.Author.Needs.{needs}
-use Rattle.counts.proofs.Below.{count-none, count-next, count-all, count-le}
+use Rattle.model.proofs.Below.{count-none, count-next, count-all, count-le}
 use Rattle.counts.proofs.lost_of.Statement.{statement}
 use Rattle.counts.proofs.lost_of.Tie as tie
 

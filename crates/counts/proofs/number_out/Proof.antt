@@ -1,5 +1,5 @@
 use mathlib.Core.Path.{sym, _∙_}
-use Rattle.counts.proofs.Below.{some-at}
+use Rattle.model.proofs.Below.{some-at}
 use borrow.Author.Needs.{needs}
 use Rattle.counts.proofs.number_out.Statement.{statement}
 use Rattle.counts.proofs.number_out.Tie as tie

@@ -5,7 +5,7 @@ use Prim.Native.Nat.{_-_}
 use native.Mathlib.Omega.{arith}
 use borrow.Author.Needs.{needs}
 use Rattle.counts.specs.Places.{stands}
-use Rattle.counts.proofs.Below.{some-hit, some-miss, some-none}
+use Rattle.model.proofs.Below.{some-hit, some-miss, some-none}
 use Rattle.counts.proofs.stands_below.Statement.{statement}
 use Rattle.counts.proofs.stands_below.Tie as tie
 

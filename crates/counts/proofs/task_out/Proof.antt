@@ -1,6 +1,6 @@
 use mathlib.Core.Path.{sym, _∙_}
 use Rattle.model.specs.Counts.{outAs, outWhole}
-use Rattle.counts.proofs.Below.{some-at, none-stricter}
+use Rattle.model.proofs.Below.{some-at, none-stricter}
 use Rattle.counts.proofs.Bools.{and-more}
 use borrow.Author.Needs.{needs}
 use Rattle.counts.proofs.task_out.Statement.{statement}

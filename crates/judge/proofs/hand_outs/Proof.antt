@@ -6,7 +6,7 @@ use lib.Dec.{eqb}
 use lib.ListN.{length, length-set}
 use borrow.Author.Tests.{eq-eqb, ne-eqb}
 use Rattle.model.specs.Counts.{isKind, outFirst}
-use Rattle.counts.proofs.Below.{count-le}
+use Rattle.model.proofs.Below.{count-le}
 use Rattle.judge.specs.Judgement.{wordsOf, allBelow, honest}
 use Rattle.judge.specs.Puts.{RepeatsPut}
 use Rattle.judge.proofs.Gathering.{clash}

@@ -204,79 +204,79 @@ past-empty-requires-6 : tie.Need-past-empty-requires-6
 past-empty-requires-6 c κs = search needs
 
 returns : tie.Need-returns
-returns c = simp (c .enum-told .given .1)
+returns c q p d t = simp (c .enum-told .given .1)
 
 returns-2 : tie.Need-returns-2
-returns-2 c = simp (c .before .before .line .given .1, c .number-ok .ensures)
+returns-2 c q p d t = simp (c .before .before .line .given .1, c .number-ok .ensures)
 
 returns-3 : tie.Need-returns-3
-returns-3 c = simp (c .before .before .before .before .line2 .given .1, c .before .before .number-ok2 .ensures, c .before .head-ok .ensures, c .both .ensures)
+returns-3 c q p d t = simp (c .before .before .before .before .line2 .given .1, c .before .before .number-ok2 .ensures, c .before .head-ok .ensures, c .both .ensures)
 
 returns-4 : tie.Need-returns-4
-returns-4 c = simp (c .before .before .before .before .line3 .given .1, c .before .before .number-ok3 .ensures, c .before .read-ok .ensures, c .both2 .ensures, c .before .before .before .before .before .before .pre .1 .1)
+returns-4 c q p d t = simp (c .before .before .before .before .line3 .given .1, c .before .before .number-ok3 .ensures, c .before .read-ok .ensures, c .both2 .ensures, t)
 
 returns-5 : tie.Need-returns-5
-returns-5 c = simp (c .before .before .line4 .given .1, c .past-test .ensures, c .before .before .before .before .pre .1 .1)
+returns-5 c q p d t = simp (c .before .before .line4 .given .1, c .past-test .ensures, t)
 
 returns-6 : tie.Need-returns-6
-returns-6 c = simp (c .before .before .line5 .given .1, c .past-test2 .ensures, c .before .before .before .before .pre .1 .1)
+returns-6 c q p d t = simp (c .before .before .line5 .given .1, c .past-test2 .ensures, t)
 
 returns-7 : tie.Need-returns-7
-returns-7 c = simp (c .before .before .line6 .given .1, c .past-test3 .ensures, c .before .before .before .before .pre .1 .1)
+returns-7 c q p d t = simp (c .before .before .line6 .given .1, c .past-test3 .ensures, t)
 
 returns-8 : tie.Need-returns-8
-returns-8 c = simp (c .before .before .line7 .given .1, c .number-ok4 .ensures)
+returns-8 c q p d t = simp (c .before .before .line7 .given .1, c .number-ok4 .ensures)
 
 returns-9 : tie.Need-returns-9
-returns-9 c = simp (c .before .before .line8 .given .1, c .number-ok5 .ensures)
+returns-9 c q p d t = simp (c .before .before .line8 .given .1, c .number-ok5 .ensures)
 
 returns-10 : tie.Need-returns-10
-returns-10 c = simp (c .before .before .line9 .given .1, c .copy-ok .ensures, c .before .before .before .before .pre .1 .1)
+returns-10 c q p d t = simp (c .before .before .line9 .given .1, c .copy-ok .ensures, t)
 
 returns-11 : tie.Need-returns-11
-returns-11 c = simp (c .before .before .line10 .given .1, c .number-ok6 .ensures)
+returns-11 c q p d t = simp (c .before .before .line10 .given .1, c .number-ok6 .ensures)
 
 returns-12 : tie.Need-returns-12
-returns-12 c = simp (c .enum-told2 .given .1)
+returns-12 c q p d t = simp (c .enum-told2 .given .1)
 
 returns-13 : tie.Need-returns-13
-returns-13 c = simp (c .before .before .line11 .given .1, c .head-ok2 .ensures)
+returns-13 c q p d t = simp (c .before .before .line11 .given .1, c .head-ok2 .ensures)
 
 returns-14 : tie.Need-returns-14
-returns-14 c = simp (c .before .before .line12 .given .1, c .read-ok2 .ensures, c .before .before .before .before .pre .1 .1)
+returns-14 c q p d t = simp (c .before .before .line12 .given .1, c .read-ok2 .ensures, t)
 
 returns-15 : tie.Need-returns-15
-returns-15 c = simp (c .before .before .before .before .line13 .given .1, c .before .before .read-ok3 .ensures, c .before .some-ok .ensures, c .both3 .ensures, c .before .before .before .before .before .before .pre .1 .1)
+returns-15 c q p d t = simp (c .before .before .before .before .line13 .given .1, c .before .before .read-ok3 .ensures, c .before .some-ok .ensures, c .both3 .ensures, t)
 
 returns-16 : tie.Need-returns-16
-returns-16 c = simp (c .before .before .before .line14 .given .1, c .before .number-ok7 .ensures, c .past-empty .ensures, c .before .before .before .before .before .pre .1 .1)
+returns-16 c q p d t = simp (c .before .before .before .line14 .given .1, c .before .number-ok7 .ensures, c .past-empty .ensures, t)
 
 returns-17 : tie.Need-returns-17
-returns-17 c = simp (c .before .before .before .line15 .given .1, c .before .number-ok8 .ensures, c .past-empty2 .ensures, c .before .before .before .before .before .pre .1 .1)
+returns-17 c q p d t = simp (c .before .before .before .line15 .given .1, c .before .number-ok8 .ensures, c .past-empty2 .ensures, t)
 
 returns-18 : tie.Need-returns-18
-returns-18 c = simp (c .enum-told3 .given .1)
+returns-18 c q p d t = simp (c .enum-told3 .given .1)
 
 returns-19 : tie.Need-returns-19
-returns-19 c = simp (c .before .before .line16 .given .1, c .head-ok3 .ensures)
+returns-19 c q p d t = simp (c .before .before .line16 .given .1, c .head-ok3 .ensures)
 
 returns-20 : tie.Need-returns-20
-returns-20 c = simp (c .before .before .line17 .given .1, c .read-ok4 .ensures, c .before .before .before .before .pre .1 .1)
+returns-20 c q p d t = simp (c .before .before .line17 .given .1, c .read-ok4 .ensures, t)
 
 returns-21 : tie.Need-returns-21
-returns-21 c = simp (c .before .before .before .before .line18 .given .1, c .before .before .read-ok5 .ensures, c .before .some-ok2 .ensures, c .both4 .ensures, c .before .before .before .before .before .before .pre .1 .1)
+returns-21 c q p d t = simp (c .before .before .before .before .line18 .given .1, c .before .before .read-ok5 .ensures, c .before .some-ok2 .ensures, c .both4 .ensures, t)
 
 returns-22 : tie.Need-returns-22
-returns-22 c = simp (c .before .before .before .line19 .given .1, c .before .place-ok .ensures, c .past-empty3 .ensures, c .before .before .before .before .before .pre .1 .1)
+returns-22 c q p d t = simp (c .before .before .before .line19 .given .1, c .before .place-ok .ensures q p d, c .past-empty3 .ensures, t)
 
 returns-23 : tie.Need-returns-23
-returns-23 c = simp (c .before .before .before .before .before .line20 .given .1, c .before .before .before .place-ok2 .ensures, c .before .before .number-ok9 .ensures, c .before .both5 .ensures, c .past-empty4 .ensures, c .before .before .before .before .before .before .before .pre .1 .1)
+returns-23 c q p d t = simp (c .before .before .before .before .before .line20 .given .1, c .before .before .before .place-ok2 .ensures q p d, c .before .before .number-ok9 .ensures, c .before .both5 .ensures, c .past-empty4 .ensures, t)
 
 returns-24 : tie.Need-returns-24
-returns-24 c = simp (c .before .before .before .before .before .line21 .given .1, c .before .before .before .is-deque .ensures, c .before .before .number-ok10 .ensures, c .before .both6 .ensures, c .past-empty5 .ensures, c .before .before .before .before .before .before .before .pre .1 .1)
+returns-24 c q p d t = simp (c .before .before .before .before .before .line21 .given .1, c .before .before .before .is-deque .ensures, c .before .before .number-ok10 .ensures, c .before .both6 .ensures, c .past-empty5 .ensures, t)
 
 returns-25 : tie.Need-returns-25
-returns-25 c = simp (c .before .before .before .before .before .line22 .given .1, c .before .before .before .next-ok .ensures, c .before .before .number-ok11 .ensures, c .before .both7 .ensures, c .past-empty6 .ensures, c .before .before .before .before .before .before .before .pre .1 .1)
+returns-25 c q p d t = simp (c .before .before .before .before .before .line22 .given .1, c .before .before .before .next-ok .ensures, c .before .before .number-ok11 .ensures, c .before .both7 .ensures, c .past-empty6 .ensures, t)
 
 pub line-ok-spec : {M : Type 1} → statement M
 line-ok-spec =

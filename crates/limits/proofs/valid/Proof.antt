@@ -4,7 +4,7 @@ use borrow.Author.Tests.{ltb-true, leb-true, le-leb, lt-leb}
 use Rattle.model.specs.World.{lineAt}
 use Rattle.model.specs.Limits.{validOf}
 use Rattle.model.proofs.Tests.{holds, fails, passed, refused, and-left, and-right}
-use Rattle.limits.proofs.Directory.{published-in}
+use Rattle.limits.proofs.Directory.{published-in, doubles}
 use Rattle.limits.proofs.valid.Statement.{statement}
 use Rattle.limits.proofs.valid.Tie as tie
 
@@ -50,11 +50,16 @@ returns-4 c =
 
 contents-ok-requires : tie.Need-contents-ok-requires
 contents-ok-requires c κs =
-    let b = c .before .before .before .before .before .before .before .before .before .before .before .args .t1 in (
+    let a = c .before .before .before .before .before .before .before .before .before .before .before .args in
+    let b = a .t1 in
+    let directory = passed (c .before .before .directory-ok .ensures) (c .before .if3 .left) in (
       leb-true _ _ (and-right _ _ (passed (c .before .before .before .before .before .before .width-ok .ensures) (c .before .before .before .before .before .if1 .left))),
       (
-        published-in (b .queue) (c .before .before .before .before .before .before .before .before .before .before .before .args .store .now) (lineAt (b .workers) 0) (passed (c .before .before .directory-ok .ensures) (c .before .if3 .left)),
-        ltb-true _ _ (and-left _ _ (passed (c .before .before .before .before .crew-ok .ensures) (c .before .before .before .if2 .left))),
+        published-in (b .queue) (a .store .now) (lineAt (b .workers) 0) directory,
+        (
+          doubles (b .queue) (a .store .now) (lineAt (b .workers) 0) directory,
+          ltb-true _ _ (and-left _ _ (passed (c .before .before .before .before .crew-ok .ensures) (c .before .before .before .if2 .left))),
+        ),
       ),
     )
 

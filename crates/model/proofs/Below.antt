@@ -6,9 +6,9 @@ use Prim.Native.Nat.{ℕ, zero, suc, _+_, _≤_, _<_}
 use native.Mathlib.Omega.{arith}
 use native.Mathlib.Nat.{eq-or-lt-of-le}
 use native.Mathlib.Numerals.{add-one}
 use Rattle.model.specs.Tests.{if_then_else_, _or_}
 use Rattle.model.specs.Counts.{someBelow, countBelow}
-use Rattle.counts.proofs.Bools.{or-true, or-false}
+use Rattle.model.proofs.Tests.{or-true, or-false}
 
 module _ (p : ℕ → Bool) where
   -- a loop down that keeps `someBelow p n ≡ someBelow p j`, at its test of k = j - 1 and at its end

@@ -1,0 +1,92 @@
+-- The directory of arrays as the limits lay it out: sizes are powers of two, each twice the one before.
+use mathlib.Core.Path.{_≡_, sym, _∙_, ap, subst}
+use mathlib.Core.Bool.{true}
+use mathlib.Core.Logic.{_⊎_, inl, inr}
+use mathlib.Core.List.{List}
+use Prim.Native.Nat.{ℕ, zero, suc, _+_, _-_, _*_, _/_, _^_, _≤_, _<_}
+use native.Mathlib.Omega.{arith}
+use native.Mathlib.Nat.{mul-div-cancel-left, mul-left-comm, mul-one, pow-succ', eq-or-lt-of-le}
+use lib.Dec.{eqb}
+use lib.Pow.{pow-pos, pow-mono}
+use borrow.Author.Tests.{eqb-true, leb-true}
+use Rattle.model.specs.declared.Region.{Region}
+use Rattle.model.specs.Memory.{offsetAt, sizeAt}
+use Rattle.model.specs.Limits.{isSize, lengthAt, tidy}
+use Rattle.model.proofs.Tests.{and-left, and-right, or-cases}
+
+-- an array's size
+abbrev pub Size : ℕ → Type 0
+Size z = (e : ℕ) × (e ≤ 10) × (z ≡ 2 ^ e)
+
+pub size-pos : {z : ℕ} → Size z → 0 < z
+size-pos {z} (e, l, q) = omega (arith, pow-pos e)
+
+pub size-le : {z : ℕ} → Size z → z ≤ 1024
+size-le {z} (e, l, q) = omega (arith, pow-mono l)
+
+pub size-twice : {z : ℕ} → Size z → 2 * z ≤ 1024 → Size (2 * z)
+size-twice {z} (e, l, q) h = go (eq-or-lt-of-le l)
+  where
+    go : (e ≡ 10) ⊎ (e < 10) → Size (2 * z)
+    go (inl a) = let top : z ≡ 1024 = q ∙ ap (λ (x : ℕ). 2 ^ x) a in absurd (omega (arith, top))
+    go (inr a) = (suc e, a, ap (λ (x : ℕ). 2 * x) q ∙ sym (pow-succ' 2 e))
+
+-- the test for a size
+pub size-yes : (e c : ℕ) → e ≤ 10 → isSize e c ≡ true → Size c
+size-yes zero c l q = (0, omega arith, eqb-true c 1 q)
+size-yes (suc e) c l q = go (or-cases (eqb c (2 ^ suc e)) (isSize e c) q) (λ t. size-yes e c (omega arith) t)
+  where
+    go : (eqb c (2 ^ suc e) ≡ true) ⊎ (isSize e c ≡ true) → (isSize e c ≡ true → Size c) → Size c
+    go (inl a) f = (suc e, l, eqb-true c (2 ^ suc e) a)
+    go (inr b) f = f b
+
+size-of : (l : List Region) (k z : ℕ) → lengthAt l k ≡ 2 * z → sizeAt l k ≡ z
+unfolding sizeAt
+size-of l k z e = ap (λ (x : ℕ). x / 2) e ∙ mul-div-cancel-left z (omega arith)
+
+-- one array after the other
+pub record Next (l : List Region) (k : ℕ) : Type 0 where
+  pub place : offsetAt l (suc k) ≡ offsetAt l k + 2 * sizeAt l k
+  pub twice : sizeAt l (suc k) ≡ 2 * sizeAt l k
+  pub small : 2 * sizeAt l k ≤ 1024
+
+pub tidy-last : (l : List Region) (k : ℕ) → tidy l (suc (suc k)) ≡ true → Next l k
+tidy-last l k t =
+    let a = and-right (tidy l (suc k)) _ t in
+    let b = and-right (eqb (offsetAt l (suc k)) (offsetAt l k + 2 * sizeAt l k)) _ a in
+    record {
+      place = eqb-true _ _ (and-left _ _ a);
+      twice = size-of l (suc k) (2 * sizeAt l k) (eqb-true _ _ (and-left _ _ b));
+      small = leb-true _ _ (and-right _ _ b);
+    }
+
+-- the front of a tidy directory is tidy
+pub tidy-front : (l : List Region) (n k : ℕ) → tidy l n ≡ true → k < n → tidy l (suc k) ≡ true
+tidy-front l zero k t h = absurd (omega arith)
+tidy-front l (suc zero) k t h = subst (λ (x : ℕ). tidy l (suc x) ≡ true) {x = 0} {y = k} (omega arith) t
+tidy-front l (suc (suc n)) k t h =
+    go (eq-or-lt-of-le (let le : k ≤ suc n = omega arith in le)) (λ i. tidy-front l (suc n) k (and-left (tidy l (suc n)) _ t) i)
+  where
+    go : (k ≡ suc n) ⊎ (k < suc n) → (k < suc n → tidy l (suc k) ≡ true) → tidy l (suc k) ≡ true
+    go (inl e) f = subst (λ (x : ℕ). tidy l (suc x) ≡ true) (sym e) t
+    go (inr i) f = f i
+
+pub tidy-next : (l : List Region) (n k : ℕ) → tidy l n ≡ true → suc k < n → Next l k
+tidy-next l n k t h = tidy-last l k (tidy-front l n (suc k) t h)
+
+pub tidy-start : (l : List Region) → tidy l 1 ≡ true → (offsetAt l 0 ≡ 0) × Size (sizeAt l 0)
+tidy-start l t = (eqb-true _ _ (and-left _ _ t), size-yes 10 (sizeAt l 0) (omega arith) (and-right _ _ (and-right _ _ t)))
+
+pub tidy-size : (l : List Region) (k : ℕ) → tidy l (suc k) ≡ true → Size (sizeAt l k)
+tidy-size l zero t = tidy-start l t .1
+tidy-size l (suc k) t =
+    let N = tidy-last l k t in
+    subst Size (sym (N .twice)) (size-twice (tidy-size l k (and-left (tidy l (suc k)) _ t)) (N .small))
+
+-- each array's size is the first one's, doubled
+pub tidy-doubled : (l : List Region) (k : ℕ) → tidy l (suc k) ≡ true → sizeAt l k ≡ sizeAt l 0 * 2 ^ k
+tidy-doubled l zero t = sym (mul-one (sizeAt l 0))
+tidy-doubled l (suc k) t =
+    tidy-last l k t .twice
+    ∙ ap (λ (x : ℕ). 2 * x) (tidy-doubled l k (and-left (tidy l (suc k)) _ t))
+    ∙ sym (ap (λ (x : ℕ). sizeAt l 0 * x) (pow-succ' 2 k) ∙ mul-left-comm (sizeAt l 0) 2 (2 ^ k))
