@@ -45,13 +45,14 @@ fn tags(width: u32) -> u32
     1u32 << width
 }
 
-// g+1 of a put's last line: after the largest value of `width` bits comes 0.
+// g+1 of a put's last line: after the largest value of `width` bits comes 0. The lowest `width` bits are the remainder.
 fn next_tag(width: u32, tag: u32) -> u32
     requires { ⌜ width ≤ 16 ⌝ }
     ensures { λ r. ⌜ r ≡ nextTag width tag ⌝ }
 {
     let n = tags(width);
-    std::num::wrapping_add_u32(tag, 1) % n
+    let mask = n - 1;
+    std::num::wrapping_add_u32(tag, 1) & mask
 }
 
 // Put 2 (FIFO 3): t = size; tail = head + size; s = size.
@@ -207,12 +208,12 @@ pub fn steal_last(kind: Kind, read: Anchor, task: Task) -> Line
     }
 }
 
-// Figure 3's steal 5: h2 = (h+1) modulo 2,048.
+// Figure 3's steal 5: h2 = (h+1) modulo 2,048, the lowest eleven bits.
 pub fn next_head(read: Anchor) -> u32
     requires { ⌜ read .head ≤ 65535 ⌝ }
     ensures { λ r. ⌜ r ≡ (read .head + 1) % 2048 ⌝ }
 {
-    (read.head + 1) % 2048
+    (read.head + 1) & 2047
 }
 
 // X2: `noted` indices from `head` on are to be copied; with none, X4 is next.

@@ -138,7 +138,7 @@ fn number_ok(number: u32) -> bool
 fn starts(first: Region) -> bool
     ensures { λ r. ⌜ r ≡ startsOk first ⌝ }
 {
-    let tasks = first.length / 2;
+    let tasks = first.length >> 1;
     if first.offset != 0 {
         return false;
     }
@@ -152,7 +152,7 @@ fn starts(first: Region) -> bool
 fn follows(before: Region, next: Region) -> bool
     ensures { λ r. ⌜ r ≡ followsOk before next ⌝ }
 {
-    let tasks = (before.length / 2) as u64;
+    let tasks = (before.length >> 1) as u64;
     let end = before.offset as u64 + 2 * tasks;
     if next.offset as u64 != end {
         return false;
@@ -211,7 +211,7 @@ fn fits(queue: Queue, store: &[u32]) -> bool
 {
     let place = queue.claimed - 1;
     let last = region_at(queue, place);
-    let end = last.offset as usize + 2 * ((last.length / 2) as usize);
+    let end = last.offset as usize + 2 * ((last.length >> 1) as usize);
     end <= store.len()
 }
 
@@ -616,7 +616,7 @@ fn contents_ok(bench: Bench) -> bool
     let anchor = queue.anchor;
     let current = queue.published - 1;
     let start = queue.arrays[0];
-    let first = start.length / 2;
+    let first = start.length >> 1;
     let tasks = first << current;
     if !anchor_ok(kind, width, tasks, anchor) {
         return false;

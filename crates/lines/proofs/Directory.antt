@@ -1,6 +1,6 @@
 -- The directory of arrays as the limits lay it out: by induction over its pairs, where each array lies and how large it is.
 use mathlib.Core.Bool.{Bool, true, false}
-use mathlib.Core.Path.{_≡_, subst}
+use mathlib.Core.Path.{_≡_, sym, subst}
 use mathlib.Core.Logic.{_⊎_, inl, inr}
 use mathlib.Core.List.{List}
 use Prim.Native.Nat.{ℕ, zero, suc, _+_, _-_, _*_, _^_, _≤_, _<_}
@@ -16,10 +16,11 @@ use Rattle.model.specs.Memory.{offsetAt, sizeAt}
 use Rattle.model.specs.World.{isExpanding}
 use Rattle.model.specs.Limits.{tidy, taken, directoryOk}
 use Rattle.model.proofs.Tests.{and-left, and-right}
-use Rattle.model.proofs.Directory.{size-pos, size-le, Next, tidy-last, tidy-start}
+use Rattle.model.proofs.Directory.{Size, size-pos, size-le, size-twice, Next, tidy-last, tidy-start}
 
 -- the array at place k, in a directory whose last pair is at place m
 pub record Laid (l : List Region) (m k : ℕ) : Type 0 where
+  pub power : Size (sizeAt l k)
   pub large : 2 ^ k ≤ sizeAt l k
   pub small : sizeAt l k ≤ 1024
   pub near : offsetAt l k ≤ 2 * sizeAt l k
@@ -30,6 +31,7 @@ first : (l : List Region) → tidy l 1 ≡ true → Laid l 0 0
 first l t =
     let (o, S) = tidy-start l t in
     record {
+      power = S;
       large = size-pos S;
       small = size-le S;
       near = omega (arith, o);
@@ -41,6 +43,7 @@ first l t =
 keep : (l : List Region) (m k : ℕ) → Next l m → Laid l m k → Laid l (suc m) k
 keep l m k N L =
     record {
+      power = L .power;
       large = L .large;
       small = L .small;
       near = L .near;
@@ -51,6 +54,7 @@ keep l m k N L =
 join : (l : List Region) (m : ℕ) → Next l m → Laid l m m → Laid l (suc m) (suc m)
 join l m N L =
     record {
+      power = subst Size (sym (N .twice)) (size-twice (L .power) (N .small));
       large = omega (arith, N .twice, L .large, pow-succ' 2 m);
       small = omega (arith, N .twice, N .small);
       near = omega (arith, N .place, N .twice, L .near);

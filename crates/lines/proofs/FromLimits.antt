@@ -167,7 +167,7 @@ module _ (κ : Kind) (w : ℕ) (q : Queue) (n : ℕ) (o : Line) (A : Arrays q n 
   range r e = in-range κ (size q) r (here .small) (within κ w (size q) r e)
 
   lies : (k i : ℕ) → k < q .claimed → slot κ (sizeAt (q .arrays) k) i < sizeAt (q .arrays) k → Lies κ q n k i
-  lies k i h s = let t = there k h in (t .0, s, t .2)
+  lies k i h s = let t = there k h in let (e, few, q) = A .stands k h .power in (t .0, ((e, q), s), t .2)
 
   behind : (k : ℕ) → k < q .published → k < q .claimed
   behind k h = omega (arith, A .behind, h)

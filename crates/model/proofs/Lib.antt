@@ -6,3 +6,4 @@ pub mod Limits
 pub mod Arrays
 pub mod Directory
 pub mod Below
+pub mod Masks

@@ -1,6 +1,6 @@
 -- What the code of a place in the store needs to stay in range.
 use mathlib.Core.Path.{_≡_}
-use Prim.Native.Nat.{ℕ, _+_, _*_, _≤_, _<_}
+use Prim.Native.Nat.{ℕ, _+_, _*_, _^_, _≤_, _<_}
 use lib.ListN.{length}
 use Rattle.model.specs.declared.Kind.{Kind}
 use Rattle.model.specs.declared.Queue.{Queue}
@@ -11,9 +11,13 @@ use Rattle.model.specs.Figures.{slot}
 abbrev pub Listed : Queue → ℕ → Type 0
 Listed q k = (k < 11) × (length (q .arrays) ≡ 11)
 
--- index i has a slot in the array at place k
+-- a power of two
+abbrev pub Power : ℕ → Type 0
+Power z = (e : ℕ) × (z ≡ 2 ^ e)
+
+-- the size of the array at place k is one, and index i has a slot in it
 abbrev pub Slotted : Kind → Queue → ℕ → ℕ → Type 0
-Slotted κ q k i = slot κ (sizeAt (q .arrays) k) i < sizeAt (q .arrays) k
+Slotted κ q k i = Power (sizeAt (q .arrays) k) × (slot κ (sizeAt (q .arrays) k) i < sizeAt (q .arrays) k)
 
 -- the array at place k lies in a store of n words
 abbrev pub Inside : Queue → ℕ → ℕ → Type 0

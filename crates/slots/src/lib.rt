@@ -9,20 +9,22 @@ ghost use Rattle.model.specs.Memory.{offsetAt, sizeAt};
 ghost use Rattle.model.specs.Figures.{slot, putIndex, takeIndex, stealIndex};
 ghost use Rattle.model.specs.Lines.{wordOf, fits};
 ghost use Rattle.model.specs.Limits.{someOk};
-ghost use Rattle.slots.specs.Bounds.{Listed, Slotted, Inside, Small};
+ghost use Rattle.slots.specs.Bounds.{Listed, Power, Slotted, Inside, Small};
 use model::Anchor;
 use model::Kind;
 use model::Queue;
 
-// LIFO names slots; in figures 2 and 3 index i lies in slot i modulo the array's size.
+// LIFO names slots; in figures 2 and 3 index i lies in slot i modulo the array's size. A size is a power of two, so the
+// remainder is the index's lowest bits, and no step divides.
 fn slot_of(kind: Kind, size: u32, index: u32) -> u32
-    requires { ⌜ 0 < size ⌝ }
+    requires { ⌜ Power size ⌝ }
     ensures { λ r. ⌜ r ≡ slot kind size index ⌝ }
 {
+    let mask = size - 1;
     match kind {
         Kind::Lifo => index,
-        Kind::Fifo => index % size,
-        Kind::Deque => index % size,
+        Kind::Fifo => index & mask,
+        Kind::Deque => index & mask,
     }
 }
 
@@ -63,13 +65,13 @@ fn steal_index(kind: Kind, read: Anchor) -> u32
     }
 }
 
-// The array at place `at` of the directory: its size in tasks.
+// The array at place `at` of the directory: its size in tasks, half of its words.
 pub fn size_at(queue: Queue, at: usize) -> u32
     requires { ⌜ Listed queue at ⌝ }
     ensures { λ r. ⌜ r ≡ sizeAt (queue .arrays) at ⌝ }
 {
     let region = queue.arrays[at];
-    region.length / 2
+    region.length >> 1
 }
 
 // The first word behind it.
@@ -79,7 +81,7 @@ pub fn end_of(queue: Queue, at: usize) -> u32
     ensures { λ r. ⌜ r ≡ offsetAt (queue .arrays) at + 2 * sizeAt (queue .arrays) at ⌝ }
 {
     let region = queue.arrays[at];
-    let size = region.length / 2;
+    let size = size_at(queue, at);
     region.offset + 2 * size
 }
 
@@ -91,8 +93,7 @@ pub fn place(kind: Kind, queue: Queue, at: usize, index: u32, word: usize) -> us
     ensures { λ r. ⌜ r ≡ offsetAt (queue .arrays) at + 2 * slot kind (sizeAt (queue .arrays) at) index + word ⌝ }
 {
     let region = queue.arrays[at];
-    let size = region.length / 2;
-    let s = slot_of(kind, size, index);
+    let s = slot_of(kind, size_at(queue, at), index);
     let first = region.offset as usize;
     let task = s as usize;
     first + 2 * task + word

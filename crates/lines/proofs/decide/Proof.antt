@@ -50,7 +50,7 @@ unfolding Ready
 put-place-requires c κs =
     let arm = c .before in
     let h = rw (arm .line4 .given .1) at (arm .before .before .before .before .before .pre .1) in
-    omega (arith, h)
+    (omega (arith, h), (h .0, (h .1 .1, omega (arith, h))))
 
 enum-known-line-5 : tie.Need-enum-known-line-5
 enum-known-line-5 c = search needs
@@ -60,7 +60,7 @@ unfolding Ready
 put-place-requires-2 c κs =
     let arm = c .before in
     let h = rw (arm .line5 .given .1) at (arm .before .before .before .before .before .pre .1) in
-    omega (arith, h)
+    (omega (arith, h), (h .0, (h .1 .1, omega (arith, h))))
 
 enum-known-line-6 : tie.Need-enum-known-line-6
 enum-known-line-6 c = search needs
@@ -113,14 +113,14 @@ unfolding Ready
 read-word-requires c κs =
     let arm = c .before in
     let h = rw (arm .line9 .given .1) at (arm .before .before .before .before .before .pre .1) in
-    omega (arith, h)
+    (omega (arith, h), (h .2 .1, omega (arith, h)))
 
 read-word-requires-2 : tie.Need-read-word-requires-2
 unfolding Ready
 read-word-requires-2 c κs =
     let arm = c .before .before in
     let h = rw (arm .line9 .given .1) at (arm .before .before .before .before .before .pre .1) in
-    omega (arith, h)
+    (omega (arith, h), (h .2 .1, omega (arith, h)))
 
 cast-claimed : tie.Need-cast-claimed
 cast-claimed c = search needs
@@ -130,7 +130,7 @@ unfolding Ready
 place-requires c κs =
     let arm = c .before .before .before .before in
     let h = rw (arm .line9 .given .1) at (arm .before .before .before .before .before .pre .1) in
-    omega (arith, h)
+    (omega (arith, h), (h .3 .1, omega (arith, h)))
 
 copy-on-requires : tie.Need-copy-on-requires
 unfolding Ready
@@ -168,7 +168,7 @@ unfolding Ready
 taken-word-requires c κs =
     let arm = c .before in
     let h = rw (arm .line13 .given .1) at (arm .before .before .before .before .before .pre .1) in
-    (omega (arith, h), (h .0, (h .1, omega (arith, h))))
+    (omega (arith, h), (h .0, (h .1, (h .2 .1, omega (arith, h)))))
 
 enum-known-line-14 : tie.Need-enum-known-line-14
 enum-known-line-14 c = search needs
@@ -178,7 +178,7 @@ unfolding Ready
 taken-word-requires-2 c κs =
     let arm = c .before in
     let h = rw (arm .line14 .given .1) at (arm .before .before .before .before .before .pre .1) in
-    (omega (arith, h), (h .0, (h .1, omega (arith, h))))
+    (omega (arith, h), (h .0, (h .1, (h .2 .1, omega (arith, h)))))
 
 enum-known-line-15 : tie.Need-enum-known-line-15
 enum-known-line-15 c = search needs
@@ -222,7 +222,7 @@ unfolding Ready
 stolen-word-requires c κs =
     let arm = c .before in
     let h = rw (arm .line19 .given .1) at (arm .before .before .before .before .before .pre .1) in
-    (omega (arith, h), (h .1, omega (arith, h)))
+    (omega (arith, h), (h .1, (h .2 .1, omega (arith, h))))
 
 enum-known-line-20 : tie.Need-enum-known-line-20
 enum-known-line-20 c = search needs
@@ -235,7 +235,7 @@ unfolding Ready
 stolen-word-requires-2 c κs =
     let arm = c .before in
     let h = rw (arm .line20 .given .1) at (arm .before .before .before .before .before .pre .1) in
-    (omega (arith, h), (h .1, omega (arith, h)))
+    (omega (arith, h), (h .1, (h .2 .1, omega (arith, h))))
 
 steal-last-requires : tie.Need-steal-last-requires
 steal-last-requires c κs = search needs

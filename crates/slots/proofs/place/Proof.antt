@@ -1,6 +1,6 @@
 use native.Mathlib.Omega.{arith}
+use Rattle.model.specs.Memory.{offsetAt}
 use borrow.Author.Needs.{needs}
-use Rattle.model.specs.Memory.{offsetAt, sizeAt}
 use Rattle.slots.proofs.place.Statement.{statement}
 use Rattle.slots.proofs.place.Tie as tie
 
@@ -10,9 +10,11 @@ mul-region c = search needs
 element-copy-out-region : tie.Need-element-copy-out-region
 element-copy-out-region c = search needs
 
+size-at-requires : tie.Need-size-at-requires
+size-at-requires c κs = search needs
+
 slot-of-requires : tie.Need-slot-of-requires
-unfolding sizeAt
-slot-of-requires c κs = omega (arith, c .before .before .pre .1)
+slot-of-requires c κs = rw (c .size-at .ensures) (c .before .before .pre .1 .0 .0)
 
 cast-first : tie.Need-cast-first
 cast-first c = search needs
@@ -30,8 +32,8 @@ add-result-2 : tie.Need-add-result-2
 add-result-2 c = search needs
 
 returns : tie.Need-returns
-unfolding sizeAt offsetAt
-returns c = simp (c .before .slot-of .ensures)
+unfolding offsetAt
+returns c = simp (c .before .slot-of .ensures, c .before .before .size-at .ensures)
 
 pub place-spec : {M : Type 1} → statement M
 place-spec =
@@ -39,6 +41,7 @@ place-spec =
     (tie.spec
     mul-region
     element-copy-out-region
+    size-at-requires
     slot-of-requires
     cast-first
     cast-task

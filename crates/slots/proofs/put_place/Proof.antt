@@ -1,4 +1,3 @@
-use native.Mathlib.Omega.{arith}
 use borrow.Author.Needs.{needs}
 use Rattle.slots.proofs.put_place.Statement.{statement}
 use Rattle.slots.proofs.put_place.Tie as tie
@@ -7,7 +6,7 @@ put-index-requires : tie.Need-put-index-requires
 put-index-requires c κs = search needs
 
 place-requires : tie.Need-place-requires
-place-requires c κs = rw (c .put-index .ensures) (omega arith)
+place-requires c κs = let p = c .before .pre in rw (c .put-index .ensures) (p .0, (p .1 .1 .0, p .1 .1 .1))
 
 returns : tie.Need-returns
 returns c = simp (c .before .put-index .ensures, c .place .ensures)

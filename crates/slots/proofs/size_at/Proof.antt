@@ -1,5 +1,5 @@
-use borrow.Author.Needs.{needs}
 use Rattle.model.specs.Memory.{sizeAt}
+use borrow.Author.Needs.{needs}
 use Rattle.slots.proofs.size_at.Statement.{statement}
 use Rattle.slots.proofs.size_at.Tie as tie
 
