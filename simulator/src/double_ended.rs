@@ -161,7 +161,7 @@ impl DoubleEnded {
             Counter::X4 => {
                 store.publish();
                 me.counter = Counter::P1;
-                Outcome::Restarted
+                Outcome::Published
             }
 
             Counter::T1 => {
@@ -333,7 +333,7 @@ mod tests {
         steps(&mut queue, 0, 2);
         queue.begin_steal(1);
         steps(&mut queue, 1, 7);
-        assert_eq!(steps(&mut queue, 0, 3), Outcome::Restarted);
+        assert_eq!(steps(&mut queue, 0, 3), Outcome::Published);
         assert_eq!(queue.store.size(), 2, "twice the size, not twice the count");
         assert_eq!(steps(&mut queue, 0, 5), Outcome::Finished { number: 2 });
         assert_eq!(queue.window().collect::<Vec<_>>(), [(2, 20)]);
@@ -347,7 +347,7 @@ mod tests {
         put(&mut queue, 2, 20);
         queue.begin_put(3, 30);
         // Lines 1 and 2, X1, X2, two copies, X4.
-        assert_eq!(steps(&mut queue, 0, 7), Outcome::Restarted);
+        assert_eq!(steps(&mut queue, 0, 7), Outcome::Published);
         assert_eq!(steps(&mut queue, 0, 5), Outcome::Finished { number: 3 });
         assert_eq!(queue.window().collect::<Vec<_>>(), [(1, 10), (2, 20), (3, 30)]);
         // 2047 lies in slot 3 of the new array, 2048 and 2049 in slots 0 and 1.

@@ -196,7 +196,7 @@ impl Fifo {
             PutLine::X4 => {
                 self.store.publish();
                 self.doing = Doing::Put(PutLine::L1);
-                return Outcome::Restarted;
+                return Outcome::Published;
             }
         };
         self.doing = Doing::Put(next);
@@ -418,7 +418,7 @@ mod tests {
         queue.begin_steal(1);
         steps(&mut queue, 1, 7);
         // X2 finds one task left, X3 copies it, X4.
-        assert_eq!(steps(&mut queue, 0, 3), Outcome::Restarted);
+        assert_eq!(steps(&mut queue, 0, 3), Outcome::Published);
         assert_eq!(queue.store.size(), 4);
         assert_eq!(queue.store.number(queue.store.current(), 0), 0);
         assert_eq!(queue.store.number(queue.store.current(), 1), 2);
@@ -434,7 +434,7 @@ mod tests {
         steps(&mut queue, 0, 5); // lines 1 to 3, X1, X2
         queue.begin_steal(1);
         steps(&mut queue, 1, 7);
-        assert_eq!(steps(&mut queue, 0, 2), Outcome::Restarted);
+        assert_eq!(steps(&mut queue, 0, 2), Outcome::Published);
         assert_eq!(queue.store.number(queue.store.current(), 0), 1);
         assert_eq!(queue.window().count(), 0);
     }

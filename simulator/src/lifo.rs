@@ -195,7 +195,7 @@ impl Lifo {
             OwnerAt::X4Publish => {
                 self.store.publish();
                 owner.at = OwnerAt::PutReadAnchor;
-                return Outcome::Restarted;
+                return Outcome::Published;
             }
 
             OwnerAt::TakeReadAnchor => {
@@ -390,7 +390,7 @@ mod tests {
         steps(&mut queue, 1, 3);
         assert_eq!(queue.place(1), Place::Noted);
         queue.begin_put(2, 20);
-        assert_eq!(steps(&mut queue, 0, 6), Outcome::Restarted);
+        assert_eq!(steps(&mut queue, 0, 6), Outcome::Published);
         // The old array is still there to be read, and the anchor did not move.
         assert_eq!(steps(&mut queue, 1, 3), Outcome::HandedOut { number: 1, payload: 10 });
         assert_eq!(steps(&mut queue, 0, 5), Outcome::Finished { number: 2 });
@@ -407,7 +407,7 @@ mod tests {
         queue.begin_steal(1);
         steps(&mut queue, 1, 6);
         // X1, X2, two copies though only one task is left, X4.
-        assert_eq!(steps(&mut queue, 0, 5), Outcome::Restarted);
+        assert_eq!(steps(&mut queue, 0, 5), Outcome::Published);
         assert_eq!(queue.store.number(queue.store.current(), 1), 2);
     }
 

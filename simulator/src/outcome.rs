@@ -21,8 +21,10 @@ pub mod refusal {
 pub enum Outcome {
     /// The operation goes on at its next line.
     GoesOn,
-    /// The operation goes on at line 1 again: a failed compare, or X4.
+    /// The compare failed, and the steal goes on at line 1 again: a restart.
     Restarted,
+    /// X4: the put goes on at line 1 again, and counts as no restart.
+    Published,
     /// A put finished.
     Finished { number: u32 },
     /// A take or a steal was handed a task.

@@ -188,13 +188,8 @@ impl<W: Witness> Player<W> {
                 witness.call();
                 match machine.step(worker as usize, account.room(), witness) {
                     Outcome::GoesOn => continue,
-                    Outcome::Restarted => {
-                        account.restart();
-                        if worker == 0 {
-                            // The owner compares nothing: this was X4.
-                            witness.published();
-                        }
-                    }
+                    Outcome::Restarted => account.restart(),
+                    Outcome::Published => witness.published(),
                     Outcome::Finished { number } => {
                         account.finish(number);
                         witness.finished(number);
@@ -312,11 +307,11 @@ mod tests {
         );
         assert_eq!(
             listing("queue 1 1 1 1 6, put 1, step 0 5, put 2, step 0 10, step 0 1, end"),
-            "D 1, D 2, T 2 0 0 1 2 0"
+            "D 1, D 2, T 2 0 0 0 2 0"
         );
         assert_eq!(
             listing("queue 3 1 1 2 6, put 1, step 0 5, put 2, step 0 2, steal 1, step 1 7, step 0 7, step 0 1, end"),
-            "D 1, H 1 1 1, D 2, T 2 1 1 1 1 0"
+            "D 1, H 1 1 1, D 2, T 2 1 1 0 1 0"
         );
     }
 

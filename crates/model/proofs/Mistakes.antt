@@ -2,12 +2,15 @@
 -- 'Agreement', would make. The edits in must-fail/ make them.
 use mathlib.Core.Path.{_≡_, refl}
 use mathlib.Core.List.{List, [], _∷_, map}
+use Prim.Native.Nat.{ℕ}
+use Rattle.model.specs.declared.Line.the-variants.{Idle, PutRead, StealRead}
 use Rattle.model.specs.declared.Command.the-variants.{Open, BeginPut, BeginTake, BeginSteal, Steps, End, Bad}
 use Rattle.model.specs.Tests.{if_then_else_, _and_, _or_}
 use Rattle.model.specs.Memory.{zeros, wordAt, setWord, offsetAt, sizeAt}
+use Rattle.model.specs.Answers.{task}
 use Rattle.model.specs.Lines.{lineStep}
 use Rattle.model.specs.Limits.{validOf}
-use Rattle.model.specs.Calls.{freshOf, beginOf, stepOf}
+use Rattle.model.specs.Calls.{freshOf, beginOf, restarted, stepOf}
 use Rattle.model.specs.Run.{played}
 use Rattle.model.specs.Counts.{someBelow, countBelow, countsOf}
 use Rattle.model.specs.Listing.{D, H, E, F, R, T, stepsOf, respond, listingFrom}
@@ -44,7 +47,7 @@ mistakes =
     -- noting the array before the anchor: the thief's anchor and array are those of its lines 1 and 3, from before the growth
     ∷ (lines
     (Open 1 2 1 2 6 ∷ BeginPut 7 ∷ Steps 0 5 ∷ BeginSteal 1 ∷ Steps 1 3 ∷ BeginPut 8 ∷ Steps 0 11 ∷ Steps 1 3 ∷ Steps 1 6 ∷ End ∷ [])
-    shows prints (D 1 ∷ D 2 ∷ H 1 2 8 ∷ T 2 1 1 2 1 0 ∷ []))
+    shows prints (D 1 ∷ D 2 ∷ H 1 2 8 ∷ T 2 1 1 1 1 0 ∷ []))
     -- comparing only the head in figure 3: the owner has taken the task meanwhile, and head is as read
     ∷ (lines (Open 3 2 1 2 2 ∷ BeginPut 7 ∷ Steps 0 5 ∷ BeginSteal 1 ∷ Steps 1 6 ∷ BeginTake ∷ Steps 0 5 ∷ Steps 1 1 ∷ Steps 1 2 ∷ End ∷ [])
     shows prints (D 1 ∷ H 0 1 7 ∷ E 1 ∷ T 1 1 1 1 0 0 ∷ []))
@@ -52,7 +55,7 @@ mistakes =
     ∷ (lines
     (Open 3 2 2 2 12 ∷ BeginPut 1 ∷ Steps 0 5 ∷ BeginPut 2 ∷ Steps 0 5 ∷ BeginPut 3 ∷ Steps 0 2 ∷ BeginSteal 1 ∷ Steps 1 7 ∷ Steps 0 9 ∷ BeginPut 4
     ∷ Steps 0 5 ∷ BeginPut 5 ∷ Steps 0 5 ∷ End ∷ [])
-    shows prints (D 1 ∷ D 2 ∷ H 1 1 1 ∷ D 3 ∷ D 4 ∷ D 5 ∷ T 5 1 1 1 4 0 ∷ []))
+    shows prints (D 1 ∷ D 2 ∷ H 1 1 1 ∷ D 3 ∷ D 4 ∷ D 5 ∷ T 5 1 1 0 4 0 ∷ []))
     -- EMPTY for owner and thief, and only then; the same task is not handed out again; one refused call, then on
     ∷ (lines
     (Open 1 1 2 2 4 ∷ BeginTake ∷ Steps 0 2 ∷ BeginSteal 1 ∷ Steps 1 2 ∷ BeginPut 3 ∷ BeginTake ∷ Steps 0 6 ∷ BeginPut 4 ∷ Steps 0 5 ∷ BeginTake ∷ Steps 0 5
@@ -71,3 +74,13 @@ mistakes =
 pub mistakes-shut-out : map (λ r. show (r .run)) mistakes ≡ map (λ r. r .shown) mistakes
 unfolding show played listingFrom respond stepsOf countsOf someBelow countBelow freshOf beginOf stepOf validOf lineStep zeros wordAt setWord offsetAt sizeAt if_then_else_ _and_ _or_
 mistakes-shut-out = refl
+
+-- the counter of restarts: a compare that failed, the ceiling and one below it; a compare that succeeded; X4
+abbrev pub counted : List ℕ
+counted =
+    restarted 4 StealRead ∷ restarted 4294967294 StealRead ∷ restarted 4294967295 StealRead ∷ restarted 4 Idle
+    ∷ restarted 4 (PutRead (task 1 7)) ∷ []
+
+pub counter : counted ≡ (5 ∷ 4294967295 ∷ 4294967295 ∷ 4 ∷ 4 ∷ [])
+unfolding if_then_else_
+counter = refl

@@ -39,14 +39,14 @@ table =
     ∷ (calls 1 1 1 1 2 8 (begin 0 (Put 7) ∷ replicate 5 (step 0) ++ begin 0 (Put 8) ∷ replicate 3 (step 0))
     shows answers
     (Accepted ∷ Numbered 1 ∷ replicate 4 GoesOn ++ Finished 0 (task 1 7) ∷ Numbered 2 ∷ GoesOn ∷ GoesOn ∷ Full 0 (task 2 8) ∷ []))
-    -- P5: store 6: it finishes at step 11, restarts 1
-    ∷ (lines (Open 1 1 1 1 6 ∷ BeginPut 7 ∷ Steps 0 5 ∷ BeginPut 8 ∷ Steps 0 11 ∷ End ∷ []) shows prints (D 1 ∷ D 2 ∷ T 2 0 0 1 2 0 ∷ []))
+    -- P5: store 6: it finishes at step 11; restarts 0, as document 02 counts them
+    ∷ (lines (Open 1 1 1 1 6 ∷ BeginPut 7 ∷ Steps 0 5 ∷ BeginPut 8 ∷ Steps 0 11 ∷ End ∷ []) shows prints (D 1 ∷ D 2 ∷ T 2 0 0 0 2 0 ∷ []))
     ∷ (calls 1 1 1 1 6 8 (begin 0 (Put 7) ∷ replicate 5 (step 0) ++ begin 0 (Put 8) ∷ replicate 11 (step 0))
     shows answers
     (Accepted ∷ Numbered 1 ∷ replicate 4 GoesOn ++ Finished 0 (task 1 7) ∷ Numbered 2 ∷ replicate 10 GoesOn ++ Finished 0 (task 2 8) ∷ []))
     -- P6: double-ended, size 1, store 6, one task: put does 2 steps, a steal takes the task, put finishes in 8 more
     ∷ (lines (Open 3 1 1 2 6 ∷ BeginPut 7 ∷ Steps 0 5 ∷ BeginPut 8 ∷ Steps 0 2 ∷ BeginSteal 1 ∷ Steps 1 7 ∷ Steps 0 8 ∷ End ∷ [])
-    shows prints (D 1 ∷ H 1 1 7 ∷ D 2 ∷ T 2 1 1 1 1 0 ∷ []))
+    shows prints (D 1 ∷ H 1 1 7 ∷ D 2 ∷ T 2 1 1 0 1 0 ∷ []))
     ∷ (calls 3 1 1 2 6 12
     (begin 0 (Put 7) ∷ replicate 5 (step 0) ++ begin 0 (Put 8) ∷ step 0 ∷ step 0 ∷ begin 1 Steal ∷ replicate 7 (step 1) ++ replicate 8 (step 0))
     shows answers

@@ -32,7 +32,7 @@ use Rattle.model.specs.Memory.{zeros, nowhere}
 use Rattle.model.specs.Answers.{task, ends, logged}
 use Rattle.model.specs.Figures.{anchor}
 use Rattle.model.specs.Lines.{Effect, lineStep}
-use Rattle.model.specs.World.{World, Outcome, refuse, resting, lineAt, isIdle, isLine1}
+use Rattle.model.specs.World.{World, Outcome, refuse, resting, lineAt, isIdle, isSteal1}
 use Rattle.model.specs.Limits.{isSize, widthOk, crewOk, validOf}
 
 -- FRESH. A bench with no operation open, an array of c tasks, and all counters 0
@@ -136,9 +136,10 @@ beginOf W i op =
     else unless numbersLeft op (W .bench .used) then refuse W NumbersSpent
     else begun W i op
 
--- STEP. A step that leaves its worker at line 1 is a return to it, a restart; the counter has a ceiling
+-- STEP. A compare that fails is a restart, and the only step that leaves a thief at its line 1 (theorems/specs/Restarts); X4's
+-- return to the owner's line 1 is none. The counter has a ceiling
 abbrev pub restarted : ℕ → Line → ℕ
-restarted n l = if isLine1 l then if eqb n 4294967295 then n else n + 1 else n
+restarted n l = if isSteal1 l then if eqb n 4294967295 then n else n + 1 else n
 
 -- worker i's line left E
 abbrev pub stepped : World → ℕ → Effect → Outcome

@@ -90,8 +90,9 @@ stage (StealCompare r e t) = 5
 abbrev pub isIdle : Line → Bool
 isIdle l = eqb (stage l) 0
 
-abbrev pub isLine1 : Line → Bool
-isLine1 l = eqb (stage l) 1 or eqb (stage l) 4
+-- a thief at its line 1
+abbrev pub isSteal1 : Line → Bool
+isSteal1 l = eqb (stage l) 4
 
 abbrev pub isExpanding : Line → Bool
 isExpanding l = eqb (stage l) 2

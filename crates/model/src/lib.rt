@@ -160,8 +160,8 @@ pub struct Queue {
     pub claimed: u32,
 }
 
-// The bench's state. `crew` counts the workers, `used` the put numbers given out, `restarts` the returns to line 1 (the field's
-// retries); `written` is the log's length, in words.
+// The bench's state. `crew` counts the workers, `used` the put numbers given out, `restarts` the compares that failed (the
+// field's retries); `written` is the log's length, in words.
 pub struct Bench {
     pub kind: Kind,
     pub width: u32,

@@ -6,7 +6,7 @@ ghost use Prim.Native.Nat.{_≤_, _<_};
 ghost use lib.Dec.{ltb, leb};
 ghost use Rattle.model.specs.Tests.{_and_};
 ghost use Rattle.model.specs.Lines.{anchored, publishing};
-ghost use Rattle.model.specs.World.{isLine1};
+ghost use Rattle.model.specs.World.{isSteal1};
 ghost use Rattle.model.specs.Calls.{blank, kindOf, rightHand, numbersLeft, restarted};
 ghost use Rattle.state.specs.Pieces.{opened, moved};
 use model::Anchor;
@@ -102,18 +102,18 @@ pub fn opens(bench: Bench, worker: usize, used: u32, line: Line) -> Bench
     next
 }
 
-fn is_line1(line: Line) -> bool
-    ensures { λ r. ⌜ r ≡ isLine1 line ⌝ }
+// A thief at its line 1.
+fn is_steal1(line: Line) -> bool
+    ensures { λ r. ⌜ r ≡ isSteal1 line ⌝ }
 {
-    let at = limits::stage(line);
-    at == 1 || at == 4
+    limits::stage(line) == 4
 }
 
-// A return to line 1 counts as a restart; the counter stays at its ceiling.
+// Only a compare that fails leaves a thief at its line 1: it counts as a restart. The counter stays at its ceiling.
 pub fn count_restart(restarts: u32, line: Line) -> u32
     ensures { λ r. ⌜ r ≡ restarted restarts line ⌝ }
 {
-    if !is_line1(line) {
+    if !is_steal1(line) {
         return restarts;
     }
     if restarts == 4294967295 {

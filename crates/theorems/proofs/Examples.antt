@@ -20,13 +20,14 @@ use Rattle.model.specs.Memory.{zeros, wordAt, setWord, offsetAt, sizeAt}
 use Rattle.model.specs.Answers.{task}
 use Rattle.model.specs.Figures.{anchor}
 use Rattle.model.specs.Lines.{lineStep}
-use Rattle.model.specs.World.{World, lineAt, isLine1}
+use Rattle.model.specs.World.{World, lineAt}
 use Rattle.model.specs.Limits.{validOf}
 use Rattle.model.specs.Calls.{freshOf, beginOf, stepOf, Call, begin, step}
 use Rattle.model.specs.Run.{Played, played, after}
 use Rattle.model.specs.Window.{windowSize}
 use Rattle.theorems.specs.Demand3.{At, Begins, Line1, Attempt, Out, AllOut, Stands, between, FewPuts, Demand3}
 use Rattle.theorems.specs.Corollaries.{Loses}
+use Rattle.theorems.proofs.Events.{is-line-1}
 use Rattle.theorems.proofs.Remainders.{le-or-lt}
 
 -- TESTS over places. A task is handed out nowhere
@@ -68,7 +69,7 @@ isStep i (begin j op) = false
 isStep i (step j) = eqb j i
 
 startsAttempt : ℕ → Played → Bool
-startsAttempt i s = isStep i (s .call) and isLine1 (lineAt (s .before .bench .workers) i)
+startsAttempt i s = isStep i (s .call) and is-line-1 (lineAt (s .before .bench .workers) i)
 
 anyStart : ℕ → List Played → Bool
 anyStart i [] = false
@@ -76,8 +77,8 @@ anyStart i (s ∷ T) = startsAttempt i s or anyStart i T
 
 start-yes : (i : ℕ) (s : Played) → Line1 i s → startsAttempt i s ≡ true
 unfolding startsAttempt isStep _or_
-start-yes i s (inl (c, l, n)) = and-both _ _ (ap (isStep i) c ∙ eq-eqb i i refl) (ap isLine1 l)
-start-yes i s (inr (c, l, n)) = and-both _ _ (ap (isStep i) c ∙ eq-eqb i i refl) (ap isLine1 l)
+start-yes i s (inl (c, l, n)) = and-both _ _ (ap (isStep i) c ∙ eq-eqb i i refl) (ap is-line-1 l)
+start-yes i s (inr (c, l, n)) = and-both _ _ (ap (isStep i) c ∙ eq-eqb i i refl) (ap is-line-1 l)
 
 none-starts : (i : ℕ) (T : List Played) → anyStart i T ≡ false → (k : ℕ) → At T k (Line1 i) → ⊥
 unfolding anyStart

@@ -30,3 +30,4 @@ pub mod TightList
 pub mod Tight
 pub mod Examples
 pub mod Contracts
+pub mod Restarts

@@ -2,3 +2,4 @@ pub mod Demand3
 pub mod Corollaries
 pub mod Contracts
 pub mod Reached
+pub mod Restarts

@@ -1,0 +1,128 @@
+-- Only a compare that fails leaves a thief at its line 1.
+use mathlib.Core.Path.{_≡_, refl, ap}
+use mathlib.Core.Bool.{Bool, true, false, not}
+use mathlib.Core.List.{List}
+use Prim.Native.Nat.{ℕ, _+_, _-_}
+use lib.Dec.{eqb}
+use Rattle.model.specs.declared.Kind.{Kind}
+use Rattle.model.specs.declared.Kind.the-variants.{Lifo, Fifo, Deque}
+use Rattle.model.specs.declared.Line.{Line}
+use Rattle.model.specs.declared.Line.the-variants.{
+  Idle,
+  PutRead,
+  PutTail,
+  PutTest,
+  PutNumber,
+  PutPayload,
+  PutFinish,
+  Claim,
+  Note,
+  Copy,
+  Publish,
+  TakeRead,
+  TakeTail,
+  TakeTest,
+  TakeNumber,
+  TakePayload,
+  TakeFinish,
+  StealRead,
+  StealTail,
+  StealTest,
+  StealNote,
+  StealNumber,
+  StealPayload,
+  StealNext,
+  StealCompare,
+}
+use Rattle.model.specs.declared.Queue.{Queue}
+use Rattle.model.specs.declared.Task.{Task}
+use Rattle.model.specs.declared.Anchor.{Anchor}
+use Rattle.model.specs.declared.Refusal.{Refusal}
+use Rattle.model.specs.declared.Answer.the-variants.{Refused}
+use Rattle.model.specs.Tests.{if_then_else_}
+use Rattle.model.specs.Figures.{isFull, isEmpty, isSame, putRead, takeRead, stealRead, note, stealLast}
+use Rattle.model.specs.Lines.{Effect, size, fits, lineStep}
+use Rattle.model.specs.World.{World, Outcome, lineAt, isSteal1}
+use Rattle.theorems.specs.Restarts.{failsCompare, oneMore, RestartsAreFailedCompares}
+use Rattle.theorems.proofs.Cases.{step-cases}
+
+-- neither of two lines is a thief's line 1
+either : (x : Bool) (a b : Line) → isSteal1 a ≡ false → isSteal1 b ≡ false → isSteal1 (if x then a else b) ≡ false
+unfolding if_then_else_
+either true a b e f = e
+either false a b e f = f
+
+either-left : (x : Bool) (a b : Effect) → isSteal1 (a .line) ≡ false → isSteal1 (b .line) ≡ false → isSteal1 ((if x then a else b) .line) ≡ false
+unfolding if_then_else_
+either-left true a b e f = e
+either-left false a b e f = f
+
+put-1 : (κ : Kind) (a : Anchor) (t : Task) → isSteal1 (putRead κ a t) ≡ false
+put-1 Lifo a t = refl
+put-1 Fifo a t = refl
+put-1 Deque a t = refl
+
+take-1 : (κ : Kind) (a : Anchor) → isSteal1 (takeRead κ a) ≡ false
+take-1 Lifo a = refl
+take-1 Fifo a = refl
+take-1 Deque a = refl
+
+steal-1 : (κ : Kind) (a : Anchor) → isSteal1 (stealRead κ a) ≡ false
+steal-1 Lifo a = refl
+steal-1 Fifo a = refl
+steal-1 Deque a = refl
+
+noted : (κ : Kind) (z : ℕ) (a : Anchor) (t : Task) → isSteal1 (note κ z a t) ≡ false
+noted Lifo z a t = either (eqb z 0) (Publish t) (Copy t 0 z 0) refl refl
+noted Fifo z a t = either (eqb (a .count - a .head) 0) (Publish t) (Copy t (a .head) (a .count - a .head) 0) refl refl
+noted Deque z a t = either (eqb (a .count) 0) (Publish t) (Copy t (a .head) (a .count) 0) refl refl
+
+last : (κ : Kind) (r : Anchor) (t : Task) → isSteal1 (stealLast κ r t) ≡ false
+last Lifo r t = refl
+last Fifo r t = refl
+last Deque r t = refl
+
+-- the compare: back to line 1 where the anchor is another
+back : (x : Bool) (a b : Effect) → isSteal1 (a .line) ≡ false → isSteal1 (b .line) ≡ true → isSteal1 ((if x then a else b) .line) ≡ not x
+unfolding if_then_else_
+back true a b e f = e
+back false a b e f = f
+
+pub retries : (κ : Kind) (w : ℕ) (q : Queue) (m : List ℕ) (i : ℕ) (l : Line) → isSteal1 (lineStep κ w q m i l .line) ≡ failsCompare κ (q .anchor) l
+unfolding lineStep
+retries κ w q m i Idle = refl
+retries κ w q m i (PutRead t) = put-1 κ (q .anchor) t
+retries κ w q m i (PutTail t h) = refl
+retries κ w q m i (PutTest t r) = either (isFull κ (size q) r) (Claim t) (PutNumber t r) refl refl
+retries κ w q m i (PutNumber t r) = refl
+retries κ w q m i (PutPayload t r) = refl
+retries κ w q m i (PutFinish t r) = refl
+retries κ w q m i (Claim t) = either-left (fits q m) _ _ refl refl
+retries κ w q m i (Note t) = noted κ (size q) (q .anchor) t
+retries κ w q m i (Copy t h n k) = either (eqb (k + 1) n) (Publish t) (Copy t h n (k + 1)) refl refl
+retries κ w q m i (Publish t) = refl
+retries κ w q m i TakeRead = take-1 κ (q .anchor)
+retries κ w q m i (TakeTail h) = refl
+retries κ w q m i (TakeTest r) = either-left (isEmpty κ r) _ _ refl refl
+retries κ w q m i (TakeNumber r) = refl
+retries κ w q m i (TakePayload r n) = refl
+retries κ w q m i (TakeFinish r t) = refl
+retries κ w q m i StealRead = steal-1 κ (q .anchor)
+retries κ w q m i (StealTail h) = refl
+retries κ w q m i (StealTest r) = either-left (isEmpty κ r) _ _ refl refl
+retries κ w q m i (StealNote r) = refl
+retries κ w q m i (StealNumber r k) = refl
+retries κ w q m i (StealPayload r k n) = last κ r _
+retries κ w q m i (StealNext r t) = refl
+retries κ w q m i (StealCompare r e t) = back (isSame κ (q .anchor) r) _ _ refl refl
+
+pub restarts-are-failed-compares : RestartsAreFailedCompares
+restarts-are-failed-compares W i =
+    step-cases
+    (λ (D : Outcome).
+    ((r : Refusal) → D .answer ≡ Refused r → ⊥)
+    → D .world .bench .restarts
+    ≡ (if failsCompare (W .bench .kind) (W .bench .queue .anchor) (lineAt (W .bench .workers) i) then oneMore (W .bench .restarts) else W .bench .restarts))
+    W (λ r l f. absurd (f r refl)) i
+    (λ M f. ap (λ (x : Bool). if x then oneMore (W .bench .restarts) else W .bench .restarts)
+    (retries (W .bench .kind) (W .bench .width) (W .bench .queue) (W .store) i (lineAt (W .bench .workers) i)))
