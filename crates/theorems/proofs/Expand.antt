@@ -2,7 +2,7 @@
 use mathlib.Core.Path.{_≡_, refl, sym, _∙_}
 use mathlib.Core.Bool.{Bool, true, false}
 use mathlib.Core.Logic.{_⊎_, inl, inr}
-use mathlib.Core.List.{List, _∷_, List·Memᴰ, List·Memᴰ·tail}
+use mathlib.Core.List.{List, _∷_}
 use Prim.Native.Nat.{ℕ, zero, suc, _+_, _-_, _*_, _%_, _≤_, _<_}
 use native.Mathlib.Omega.{arith}
 use lib.Dec.{eqb, leb}
@@ -21,13 +21,14 @@ use Rattle.model.specs.Memory.{zeros, offsetAt, sizeAt}
 use Rattle.model.specs.Lines.{eff, off, size, claiming, publishing, fits, copied, lineStep}
 use Rattle.model.specs.Figures.{slot, noteAll, anchor}
 use Rattle.model.proofs.Directory.{size-pos, size-twice}
-use Rattle.theorems.proofs.Events.{quiet, began-put, found-full, History}
+use Rattle.theorems.proofs.Events.{quiet, found-full, History}
 use Rattle.theorems.proofs.Words.{cell, put-word, put-same, put-twin, put-other, put-above, put-low, put-length, zeros-low, W-zeros, zeros-length, word-W, set-W, set-place, set-here}
 use Rattle.theorems.proofs.Remainders.{slot-ne, le-or-lt}
-use Rattle.theorems.proofs.Window.{View, core-words, core-ev}
+use Rattle.theorems.proofs.Window.{View, Begun, begun-later, core-words, core-ev}
+use Rattle.theorems.proofs.Order.{order-ev, order-view}
 use Rattle.theorems.proofs.Seen.{frame-pub, frame-dir}
 use Rattle.theorems.proofs.Indices.{Start, start-ix}
-use Rattle.theorems.proofs.Invariant.{view, Claimed, Copied, Copying, OwnerOk, Inv, move-calm, move-none, thief-holds, grow-same}
+use Rattle.theorems.proofs.Invariant.{view, Claimed, Copied, Copying, OwnerOk, Inv, move-calm, move-none, thief-holds, tops-refl, grow-same}
 use Rattle.theorems.proofs.OwnerSteps.{Kept, own-same, own-read, own-store}
 use Rattle.theorems.proofs.Directory.{both}
 
@@ -46,6 +47,7 @@ own-dir κ w Q μ φ h o o′ d c I same pos k =
       rep = I .rep;
       tops = I .tops;
       core = core-words μ d (Q .published) _ _ (I .core) (omega (arith, ez, I .core .fit)) (λ i j p q r. rw (eb, ez));
+      order = order-view κ v (I .lo) h _ (omega arith) (tops-refl κ (I .own-hi)) (λ i p q. rw (eb, ez)) (I .order);
       sized = rw ez (I .sized);
       room = rw (eb, ez) (I .room);
       tag = I .tag;
@@ -88,7 +90,7 @@ claim κ w Q μ φ h t true e pos roomy I = (own-dir κ w Q _ φ (quiet ∷ h) (
     J =
         own-store κ w Q μ φ h (Claim t) (Claim t) _ I len
         (λ i j a b hj. W-zeros μ (off Q + 2 * size Q) (2 * (2 * size Q)) (off Q) (size Q) i j (size-pos (I .sized)) hj (omega arith) (omega (arith, room)))
-        (λ a l. zeros-low μ (off Q + 2 * size Q) (2 * (2 * size Q)) a (omega arith) (omega (arith, room))) (List·Memᴰ·tail (I .own))
+        (λ a l. zeros-low μ (off Q + 2 * size Q) (2 * (2 * size Q)) a (omega arith) (omega (arith, room))) (begun-later quiet tt (I .own))
 
     same : (k : ℕ) → k < Q .published
         → (offsetAt (claiming Q .arrays) k ≡ offsetAt (Q .arrays) k) × (sizeAt (claiming Q .arrays) k ≡ sizeAt (Q .arrays) k)
@@ -102,7 +104,7 @@ claim κ w Q μ φ h t true e pos roomy I = (own-dir κ w Q _ φ (quiet ∷ h) (
 
     ok : OwnerOk κ (view (claiming Q) (zeros μ (off Q + 2 * size Q) (2 * (2 * size Q))) (I .own-lo) (I .own-hi)) (Q .anchor .tag) (quiet ∷ h) (Note t)
     ok = (
-      List·Memᴰ·tail (I .own),
+      begun-later quiet tt (I .own),
       (
         omega (arith, len, room, last .0, last .1),
         omega (arith, last .1, small),
@@ -113,7 +115,7 @@ claim κ w Q μ φ h t true e pos roomy I = (own-dir κ w Q _ φ (quiet ∷ h) (
     )
 
 -- X2: the indices from lo up are noted, q of them
-noted-x2 : (κ : Kind) (v : View) (g : ℕ) (h : History) (t : Task) (a q lo : ℕ) (x : Bool) → eqb q 0 ≡ x → List·Memᴰ (began-put t) h
+noted-x2 : (κ : Kind) (v : View) (g : ℕ) (h : History) (t : Task) (a q lo : ℕ) (x : Bool) → eqb q 0 ≡ x → Begun t h
     → Claimed v → Start κ a lo → lo ≤ v .own-lo → v .own-hi ≤ lo + q → q ≤ v .slots → OwnerOk κ v g h (if x then Publish t else Copy t a q 0)
 unfolding if_then_else_
 noted-x2 κ v g h t a q lo true e B C S l u f = (B, C, λ i j b c d. absurd (omega (arith, eqb-true q 0 e)))
@@ -124,19 +126,19 @@ pub note-x2 : (κ : Kind) (w : ℕ) (Q : Queue) (μ : List ℕ) (φ : ℕ → Li
 unfolding lineStep
 note-x2 Lifo w Q μ φ h t I = (
   own-same Lifo w Q μ φ h (Note t) (noteAll t 0 (size Q)) quiet tt (λ k. tt) I
-      (noted-x2 Lifo _ (Q .anchor .tag) (quiet ∷ h) t 0 (size Q) 0 (eqb (size Q) 0) refl (List·Memᴰ·tail (I .own .0)) (I .own .1) (refl, refl) (omega arith)
+      (noted-x2 Lifo _ (Q .anchor .tag) (quiet ∷ h) t 0 (size Q) 0 (eqb (size Q) 0) refl (begun-later quiet tt (I .own .0)) (I .own .1) (refl, refl) (omega arith)
       (omega (arith, I .core .fit, I .core .low, I .rep .1)) (omega arith)),
   tt,
 )
 note-x2 Fifo w Q μ φ h t I = (
   own-read Fifo w Q μ φ h (Note t) (noteAll t (Q .anchor .head) (Q .anchor .count - Q .anchor .head)) quiet tt (λ k. tt) I
-      (noted-x2 Fifo _ (Q .anchor .tag) (quiet ∷ h) t (Q .anchor .head) (Q .anchor .count - Q .anchor .head) (I .lo) (eqb (Q .anchor .count - Q .anchor .head) 0) refl (List·Memᴰ·tail (I .own .0)) (I .own .1) (sym (I .rep .0)) (omega arith)
+      (noted-x2 Fifo _ (Q .anchor .tag) (quiet ∷ h) t (Q .anchor .head) (Q .anchor .count - Q .anchor .head) (I .lo) (eqb (Q .anchor .count - Q .anchor .head) 0) refl (begun-later quiet tt (I .own .0)) (I .own .1) (sym (I .rep .0)) (omega arith)
       (omega (arith, I .rep .0, I .rep .1, I .core .mid)) (omega (arith, I .rep .0, I .rep .1, I .core .fit, I .core .low, I .core .high, I .core .mid))),
   tt,
 )
 note-x2 Deque w Q μ φ h t I = (
   own-read Deque w Q μ φ h (Note t) (noteAll t (Q .anchor .head) (Q .anchor .count)) quiet tt (λ k. tt) I
-      (noted-x2 Deque _ (Q .anchor .tag) (quiet ∷ h) t (Q .anchor .head) (Q .anchor .count) (I .lo) (eqb (Q .anchor .count) 0) refl (List·Memᴰ·tail (I .own .0)) (I .own .1) (I .rep .0) (omega arith)
+      (noted-x2 Deque _ (Q .anchor .tag) (quiet ∷ h) t (Q .anchor .head) (Q .anchor .count) (I .lo) (eqb (Q .anchor .count) 0) refl (begun-later quiet tt (I .own .0)) (I .own .1) (I .rep .0) (omega arith)
       (omega (arith, I .rep .1)) (omega (arith, I .rep .1, I .core .fit, I .core .low, I .core .high))),
   tt,
 )
@@ -221,9 +223,9 @@ copy-x3 κ w Q μ φ h t a q k x e I = rw at-k (own-store κ w Q μ φ h (Copy t
     room = (omega (arith, copy-length Q μ (f + k), I .own .1 .0), I .own .1 .1, I .own .1 .2, I .own .1 .3, I .own .1 .4)
 
     go : (x : Bool) → eqb (k + 1) q ≡ x → OwnerOk κ v′ (Q .anchor .tag) (quiet ∷ h) (if x then Publish t else Copy t a q (k + 1))
-    go true e = (List·Memᴰ·tail (I .own .0), room, λ i j b c hj. C i j (omega (arith, R .low)) (omega (arith, R .high, eqb-true (k + 1) q e)) hj)
+    go true e = (begun-later quiet tt (I .own .0), room, λ i j b c hj. C i j (omega (arith, R .low)) (omega (arith, R .high, eqb-true (k + 1) q e)) hj)
     go false e = (
-      List·Memᴰ·tail (I .own .0),
+      begun-later quiet tt (I .own .0),
       room,
       record {
         from = f;
@@ -248,10 +250,13 @@ publish κ w Q μ φ h t I =
       rep = I .rep;
       tops = I .tops;
       core = rw (eb, ez) (core-ev quiet tt (core-words μ (Q .arrays) (Q .published + 1) (off Q + 2 * size Q) (2 * size Q) (I .core) (omega (arith, I .core .fit)) (I .own .2)));
+      order =
+          order-ev κ (view (publishing Q) μ (I .own-lo) (I .own-hi)) (I .lo) h quiet tt
+          (order-view κ v (I .lo) h _ (omega arith) (tops-refl κ (I .own-hi)) (λ i p q. rw (eb, ez) (I .own .2 i 0 p q (omega arith))) (I .order));
       sized = rw ez (size-twice (I .sized) (I .own .1 .1));
       room = omega (arith, eb, ez, I .own .1 .0);
       tag = I .tag;
-      own = List·Memᴰ·tail (I .own .0);
+      own = begun-later quiet tt (I .own .0);
       th = λ i.
           thief-holds
           (rw (eb, ez) (move-calm quiet tt (frame-pub v (Q .published + 1) (off Q + 2 * size Q) (2 * size Q) (omega arith) (omega arith) (omega arith) (I .own .2) (I .own-hi)) (grow-same κ v _ refl) (omega arith)))

@@ -27,6 +27,7 @@ use Rattle.model.proofs.Directory.{Size, size-pos, size-yes}
 use Rattle.theorems.proofs.Words.{zeros-length}
 use Rattle.theorems.proofs.Indices.{StandsFor}
 use Rattle.theorems.proofs.Invariant.{tops-refl}
+use Rattle.theorems.proofs.Order.{order-fresh}
 use Rattle.theorems.proofs.Directory.{both, numbers-zeros, Arrays}
 use Rattle.theorems.proofs.Shape.{Bounded, Spent, pending}
 use Rattle.theorems.proofs.Valid.{Whole}
@@ -164,6 +165,7 @@ module _ (κ : Kind) (w c n : ℕ) (m l : List ℕ) (A : Given w c n m) where
               outH = λ i a b. absurd (omega arith);
               all = λ t d. absurd (List·Memᴰ·not-nil d);
             };
+        order = order-fresh κ _ refl refl;
         sized = rw first-size sized;
         room = omega (arith, first-off, first-size, zero-length, A .room);
         tag = pow-pos w;

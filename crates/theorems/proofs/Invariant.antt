@@ -20,18 +20,13 @@ use Rattle.model.proofs.Directory.{Size}
 use Rattle.theorems.proofs.Events.{Event, quiet, line-1, finished-put, handed-out, failed-compare, found-empty, began-put, found-full, History, Out, puts-since, history-at}
 use Rattle.theorems.proofs.Words.{cell}
 use Rattle.theorems.proofs.Remainders.{tag-next}
-use Rattle.theorems.proofs.Window.{View, word, taskAt, Core, later}
+use Rattle.theorems.proofs.Window.{View, word, taskAt, NotDone, Core, later, Begun, begun-later}
+use Rattle.theorems.proofs.Order.{Tops, Order}
 use Rattle.theorems.proofs.Seen.{Dir, Got, Noted, Frame, Still, dir-keep, got-keep, noted-keep}
 use Rattle.theorems.proofs.Indices.{StandsFor, Start, Small, stolen-ix, taken-ix}
 
 abbrev pub view : Queue → List ℕ → ℕ → ℕ → View
 view Q μ own-lo own-hi = record { store = μ; directory = Q .arrays; published = Q .published; base = off Q; slots = size Q; own-lo = own-lo; own-hi = own-hi }
-
--- but in LIFO, only the owner moves the upper end
-abbrev pub Tops : Kind → ℕ → ℕ → Type 0
-Tops Lifo hi own-hi = Unit {0}
-Tops Fifo hi own-hi = hi ≡ own-hi
-Tops Deque hi own-hi = hi ≡ own-hi
 
 abbrev pub IsFifo : Kind → Type 0
 IsFifo Lifo = ⊥
@@ -63,17 +58,17 @@ pub record Copying (κ : Kind) (v : View) (a q k : ℕ) : Type 0 where
 
 abbrev pub OwnerOk : Kind → View → ℕ → History → Line → Type 0
 OwnerOk κ v g h Idle = Unit {0}
-OwnerOk κ v g h (PutRead t) = List·Memᴰ (began-put t) h
-OwnerOk κ v g h (PutTail t a) = List·Memᴰ (began-put t) h × (IsFifo κ × (v .own-lo ≡ a))
-OwnerOk κ v g h (PutTest t r) = List·Memᴰ (began-put t) h × (StandsFor κ r (v .own-lo) (v .own-hi) × (r .tag ≡ g))
-OwnerOk κ v g h (PutNumber t r) = List·Memᴰ (began-put t) h × (StandsFor κ r (v .own-lo) (v .own-hi) × (r .tag ≡ g) × (v .own-hi < v .own-lo + v .slots))
-OwnerOk κ v g h (PutPayload t r) = List·Memᴰ (began-put t) h × (StandsFor κ r (v .own-lo) (v .own-hi) × (r .tag ≡ g) × (v .own-hi < v .own-lo + v .slots) × (word v (v .own-hi) 0 ≡ t .number))
+OwnerOk κ v g h (PutRead t) = Begun t h
+OwnerOk κ v g h (PutTail t a) = Begun t h × (IsFifo κ × (v .own-lo ≡ a))
+OwnerOk κ v g h (PutTest t r) = Begun t h × (StandsFor κ r (v .own-lo) (v .own-hi) × (r .tag ≡ g))
+OwnerOk κ v g h (PutNumber t r) = Begun t h × (StandsFor κ r (v .own-lo) (v .own-hi) × (r .tag ≡ g) × (v .own-hi < v .own-lo + v .slots))
+OwnerOk κ v g h (PutPayload t r) = Begun t h × (StandsFor κ r (v .own-lo) (v .own-hi) × (r .tag ≡ g) × (v .own-hi < v .own-lo + v .slots) × (word v (v .own-hi) 0 ≡ t .number))
 OwnerOk κ v g h (PutFinish t r) =
-    List·Memᴰ (began-put t) h × (StandsFor κ r (v .own-lo) (v .own-hi) × (r .tag ≡ g) × (v .own-hi < v .own-lo + v .slots) × (taskAt v (v .own-hi) ≡ t))
-OwnerOk κ v g h (Claim t) = List·Memᴰ (began-put t) h
-OwnerOk κ v g h (Note t) = List·Memᴰ (began-put t) h × (Claimed v)
-OwnerOk κ v g h (Copy t a q k) = List·Memᴰ (began-put t) h × Claimed v × Copying κ v a q k
-OwnerOk κ v g h (Publish t) = List·Memᴰ (began-put t) h × Claimed v × Copied v (v .own-lo) (v .own-hi)
+    Begun t h × (StandsFor κ r (v .own-lo) (v .own-hi) × (r .tag ≡ g) × (v .own-hi < v .own-lo + v .slots) × (taskAt v (v .own-hi) ≡ t))
+OwnerOk κ v g h (Claim t) = Begun t h
+OwnerOk κ v g h (Note t) = Begun t h × (Claimed v)
+OwnerOk κ v g h (Copy t a q k) = Begun t h × Claimed v × Copying κ v a q k
+OwnerOk κ v g h (Publish t) = Begun t h × Claimed v × Copied v (v .own-lo) (v .own-hi)
 OwnerOk κ v g h TakeRead = Unit {0}
 OwnerOk κ v g h (TakeTail a) = IsFifo κ × (v .own-lo ≡ a) × (v .own-lo ≡ v .own-hi → Emptied 0 h) × List·Memᴰ (line-1 0) h
 OwnerOk κ v g h (TakeTest r) = StandsFor κ r (v .own-lo) (v .own-hi) × (r .tag ≡ g) × (v .own-lo ≡ v .own-hi → Emptied 0 h) × List·Memᴰ (line-1 0) h
@@ -174,6 +169,7 @@ pub record Inv (κ : Kind) (w : ℕ) (Q : Queue) (μ : List ℕ) (o : Line) (φ 
   pub rep : StandsFor κ (Q .anchor) lo hi
   pub tops : Tops κ hi own-hi
   pub core : Core (view Q μ own-lo own-hi) lo hi h
+  pub order : Order κ (view Q μ own-lo own-hi) lo h
   pub sized : Size (size Q)
   pub room : off Q + 2 * size Q ≤ length μ
   pub tag : Q .anchor .tag < 2 ^ w
@@ -278,6 +274,16 @@ Calm k (found-empty j) = Unit {0}
 Calm k (began-put t) = Unit {0}
 Calm k (found-full t) = Unit {0}
 
+calm-done : (k : ℕ) (e : Event) → Calm k e → NotDone e
+calm-done k quiet c = tt
+calm-done k (line-1 j) c = tt
+calm-done k (finished-put t) c = c
+calm-done k (handed-out j t) c = tt
+calm-done k (failed-compare j) c = tt
+calm-done k (found-empty j) c = tt
+calm-done k (began-put t) c = tt
+calm-done k (found-full t) c = tt
+
 calm-since : (k : ℕ) (h : History) (e : Event) → Calm k e → puts-since k (e ∷ h) ≡ puts-since k h
 calm-since k h quiet c = refl
 calm-since k h (line-1 j) c = rw (ne-eqb j k c)
@@ -361,16 +367,16 @@ move-put {κ} {w} {v} {v′} {g} {h} {k} t F G =
 -- a step of a thief, seen by the owner
 pub own-keep : (κ : Kind) (v : View) (g : ℕ) (h : History) (e : Event) → Calm 0 e → (o : Line) → OwnerOk κ v g h o → OwnerOk κ v g (e ∷ h) o
 own-keep κ v gc h e c Idle k = k
-own-keep κ v gc h e c (PutRead t) k = List·Memᴰ·tail k
-own-keep κ v gc h e c (PutTail t a) (b, k) = (List·Memᴰ·tail b, k)
-own-keep κ v gc h e c (PutTest t r) (b, k) = (List·Memᴰ·tail b, k)
-own-keep κ v gc h e c (PutNumber t r) (b, k) = (List·Memᴰ·tail b, k)
-own-keep κ v gc h e c (PutPayload t r) (b, k) = (List·Memᴰ·tail b, k)
-own-keep κ v gc h e c (PutFinish t r) (b, k) = (List·Memᴰ·tail b, k)
-own-keep κ v gc h e c (Claim t) k = List·Memᴰ·tail k
-own-keep κ v gc h e c (Note t) (b, k) = (List·Memᴰ·tail b, k)
-own-keep κ v gc h e c (Copy t a q i) (b, d, k) = (List·Memᴰ·tail b, d, k)
-own-keep κ v gc h e c (Publish t) (b, d, k) = (List·Memᴰ·tail b, d, k)
+own-keep κ v gc h e c (PutRead t) k = begun-later e (calm-done 0 e c) k
+own-keep κ v gc h e c (PutTail t a) (b, k) = (begun-later e (calm-done 0 e c) b, k)
+own-keep κ v gc h e c (PutTest t r) (b, k) = (begun-later e (calm-done 0 e c) b, k)
+own-keep κ v gc h e c (PutNumber t r) (b, k) = (begun-later e (calm-done 0 e c) b, k)
+own-keep κ v gc h e c (PutPayload t r) (b, k) = (begun-later e (calm-done 0 e c) b, k)
+own-keep κ v gc h e c (PutFinish t r) (b, k) = (begun-later e (calm-done 0 e c) b, k)
+own-keep κ v gc h e c (Claim t) k = begun-later e (calm-done 0 e c) k
+own-keep κ v gc h e c (Note t) (b, k) = (begun-later e (calm-done 0 e c) b, k)
+own-keep κ v gc h e c (Copy t a q i) (b, d, k) = (begun-later e (calm-done 0 e c) b, d, k)
+own-keep κ v gc h e c (Publish t) (b, d, k) = (begun-later e (calm-done 0 e c) b, d, k)
 own-keep κ v gc h e c TakeRead k = k
 own-keep κ v gc h e c (TakeTail a) (f, l, E, r) = (f, l, (λ x. emp-calm 0 h e c (E x)), List·Memᴰ·tail r)
 own-keep κ v gc h e c (TakeTest r) (p, q, E, y) = (p, q, (λ x. emp-calm 0 h e c (E x)), List·Memᴰ·tail y)

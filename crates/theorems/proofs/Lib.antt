@@ -2,6 +2,7 @@ pub mod Events
 pub mod Remainders
 pub mod Words
 pub mod Window
+pub mod Order
 pub mod Seen
 pub mod Indices
 pub mod Directory
@@ -24,6 +25,9 @@ pub mod PutNumbers
 pub mod NeverForeign
 pub mod Reached
 pub mod NothingLost
+pub mod LogFront
+pub mod LogOrder
+pub mod FifoOrder
 pub mod WidestTag
 pub mod Rounds
 pub mod TightList
@@ -31,3 +35,4 @@ pub mod Tight
 pub mod Examples
 pub mod Contracts
 pub mod Restarts
+pub mod OrderExamples

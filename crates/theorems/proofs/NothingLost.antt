@@ -75,7 +75,7 @@ demand3 k w c n m l e cs f =
 
     R : InvOf (after U cs) (rev E []) × GoodHistory (rev E [])
     R =
-        run-kept (U .bench .kind) (U .bench .width) cs U [] refl refl (F .whole) (F .inv) tt
+        run-kept (U .bench .kind) (U .bench .width) cs U [] refl refl (F .whole) (F .inv) tt (λ u d. absurd (List·Memᴰ·not-nil d))
         (prem-rev (U .bench .kind) (U .bench .width) E [] (prem-at (U .bench .kind) (U .bench .width) E (few-ev cs U f)) tt)
 
     ev : (j : ℕ) (x : Event) → At T j (λ s. event-at s ≡ x) → EventAt E j x

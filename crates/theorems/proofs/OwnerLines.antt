@@ -1,5 +1,5 @@
 -- Each line of the owner keeps the invariant.
-use mathlib.Core.Path.{_≡_, refl, sym, _∙_}
+use mathlib.Core.Path.{_≡_, refl, sym, ap, _∙_}
 use mathlib.Core.Bool.{Bool, true, false}
 use mathlib.Core.Logic.{_⊎_, inl, inr}
 use mathlib.Core.List.{List, _∷_, List·Memᴰ·head, List·Memᴰ·tail}
@@ -26,7 +26,8 @@ use Rattle.model.proofs.Directory.{size-pos}
 use Rattle.theorems.proofs.Events.{quiet, line-1, finished-put, handed-out, found-empty, History, Out}
 use Rattle.theorems.proofs.Words.{put-word, put-same, put-twin, put-other, put-low, put-length, word-W, set-W}
 use Rattle.theorems.proofs.Remainders.{slot-ne}
-use Rattle.theorems.proofs.Window.{taskAt, both-words, later, core-window, core-put}
+use Rattle.theorems.proofs.Window.{taskAt, both-words, later, begun-later, core-window, core-put}
+use Rattle.theorems.proofs.Order.{Order, rising-put, rising-out}
 use Rattle.theorems.proofs.Seen.{frame-same}
 use Rattle.theorems.proofs.Indices.{StandsFor, taken-ix, put-ix, take-ix, full-no, empty-yes, empty-no}
 use Rattle.theorems.proofs.Invariant.{view, OwnerOk, Inv, Grow, move-calm, move-put, thief-holds, emp-now, tops-refl, tagAfter}
@@ -36,23 +37,23 @@ use Rattle.theorems.proofs.Expand.{claim, note-x2, copy-x3, publish}
 -- put: line 1 (lines 1 and 2 in FIFO)
 put-read : (κ : Kind) (w : ℕ) (Q : Queue) (μ : List ℕ) (φ : ℕ → Line) (h : History) (t : Task) → Inv κ w Q μ (PutRead t) φ h → Kept κ w φ h (PutRead t) (lineStep κ w Q μ 0 (PutRead t))
 unfolding lineStep
-put-read Lifo w Q μ φ h t I = (own-read Lifo w Q μ φ h (PutRead t) (PutTest t (Q .anchor)) quiet tt (λ k. tt) I (List·Memᴰ·tail (I .own), (I .rep, refl)), tt)
-put-read Fifo w Q μ φ h t I = (own-read Fifo w Q μ φ h (PutRead t) (PutTail t (Q .anchor .head)) quiet tt (λ k. tt) I (List·Memᴰ·tail (I .own), (tt, I .rep .0)), tt)
-put-read Deque w Q μ φ h t I = (own-read Deque w Q μ φ h (PutRead t) (PutTest t (Q .anchor)) quiet tt (λ k. tt) I (List·Memᴰ·tail (I .own), (I .rep, refl)), tt)
+put-read Lifo w Q μ φ h t I = (own-read Lifo w Q μ φ h (PutRead t) (PutTest t (Q .anchor)) quiet tt (λ k. tt) I (begun-later quiet tt (I .own), (I .rep, refl)), tt)
+put-read Fifo w Q μ φ h t I = (own-read Fifo w Q μ φ h (PutRead t) (PutTail t (Q .anchor .head)) quiet tt (λ k. tt) I (begun-later quiet tt (I .own), (tt, I .rep .0)), tt)
+put-read Deque w Q μ φ h t I = (own-read Deque w Q μ φ h (PutRead t) (PutTest t (Q .anchor)) quiet tt (λ k. tt) I (begun-later quiet tt (I .own), (I .rep, refl)), tt)
 
 put-tail : (κ : Kind) (w : ℕ) (Q : Queue) (μ : List ℕ) (φ : ℕ → Line) (h : History) (t : Task) (a : ℕ) → Inv κ w Q μ (PutTail t a) φ h → Inv κ w Q μ (PutTest t (anchor a (Q .anchor .count) (Q .anchor .tag))) φ (quiet ∷ h)
 put-tail Lifo w Q μ φ h t a I = absurd (I .own .1 .0)
 put-tail Fifo w Q μ φ h t a I =
-    own-same Fifo w Q μ φ h (PutTail t a) (PutTest t (anchor a (Q .anchor .count) (Q .anchor .tag))) quiet tt (λ k. tt) I (List·Memᴰ·tail (I .own .0), ((I .own .1 .1, sym (I .tops) ∙ I .rep .1), refl))
+    own-same Fifo w Q μ φ h (PutTail t a) (PutTest t (anchor a (Q .anchor .count) (Q .anchor .tag))) quiet tt (λ k. tt) I (begun-later quiet tt (I .own .0), ((I .own .1 .1, sym (I .tops) ∙ I .rep .1), refl))
 put-tail Deque w Q μ φ h t a I = absurd (I .own .1 .0)
 
 put-test : (κ : Kind) (w : ℕ) (Q : Queue) (μ : List ℕ) (φ : ℕ → Line) (h : History) (t : Task) (r : Anchor) (x : Bool) → isFull κ (size Q) r ≡ x → Inv κ w Q μ (PutTest t r) φ h
     → Kept κ w φ h (PutTest t r) (eff Q μ (if x then Claim t else PutNumber t r) GoesOn)
 unfolding if_then_else_
-put-test κ w Q μ φ h t r true e I = (own-same κ w Q μ φ h (PutTest t r) (Claim t) quiet tt (λ k. tt) I (List·Memᴰ·tail (I .own .0)), tt)
+put-test κ w Q μ φ h t r true e I = (own-same κ w Q μ φ h (PutTest t r) (Claim t) quiet tt (λ k. tt) I (begun-later quiet tt (I .own .0)), tt)
 put-test κ w Q μ φ h t r false e I = (
   own-same κ w Q μ φ h (PutTest t r) (PutNumber t r) quiet tt (λ k. tt) I
-      (List·Memᴰ·tail (I .own .0), (I .own .1 .0, I .own .1 .1, full-no κ (size Q) r (I .own-lo) (I .own-hi) (I .own .1 .0) (I .core .fit) e)),
+      (begun-later quiet tt (I .own .0), (I .own .1 .0, I .own .1 .1, full-no κ (size Q) r (I .own-lo) (I .own-hi) (I .own .1 .0) (I .core .fit) e)),
   tt,
 )
 
@@ -70,8 +71,9 @@ put-store κ w Q μ φ h s j x o o′ hj I e l k =
 -- put: the last line
 put-end : (κ : Kind) (w : ℕ) (Q : Queue) (μ : List ℕ) (φ : ℕ → Line) (h : History) (t : Task) (r r′ : Anchor) (A : ℕ) (I : Inv κ w Q μ (PutFinish t r) φ h)
     → I .own-lo ≤ A → A ≤ I .lo → StandsFor κ r′ A (I .own-hi + 1) → Grow κ (view Q μ (I .own-lo) (I .own-hi)) (view Q μ (I .own-lo) (I .own-hi + 1)) → r′ .tag ≡ tagAfter κ w (Q .anchor .tag) → r′ .tag < 2 ^ w
+    → Order κ (view Q μ (I .own-lo) (I .own-hi + 1)) A (finished-put t ∷ h)
     → Inv κ w (anchored Q r′) μ Idle φ (finished-put t ∷ h)
-put-end κ w Q μ φ h t r r′ A I l u R G eg lg =
+put-end κ w Q μ φ h t r r′ A I l u R G eg lg O =
     record {
       lo = A;
       hi = I .own-hi + 1;
@@ -80,6 +82,7 @@ put-end κ w Q μ φ h t r r′ A I l u R G eg lg =
       rep = R;
       tops = tops-refl κ (I .own-hi + 1);
       core = core-put t A (I .core) (I .own .1 .2) l u (I .own .1 .3);
+      order = O;
       sized = I .sized;
       room = I .room;
       tag = lg;
@@ -92,13 +95,13 @@ put-finish : (κ : Kind) (w : ℕ) (Q : Queue) (μ : List ℕ) (φ : ℕ → Lin
     → Inv κ w (anchored Q (afterPut κ w (Q .anchor) r)) μ Idle φ (finished-put t ∷ h)
 put-finish Lifo w Q μ φ h t r I =
     put-end Lifo w Q μ φ h t r _ (I .own-lo) I (omega arith) (I .core .low)
-    (I .own .1 .0 .0, I .own .1 .0 .1, omega (arith, I .own .1 .0 .2)) tt (rw (I .own .1 .1)) (mod-lt (r .tag + 1) (pow-pos w))
+    (I .own .1 .0 .0, I .own .1 .0 .1, omega (arith, I .own .1 .0 .2)) tt (rw (I .own .1 .1)) (mod-lt (r .tag + 1) (pow-pos w)) tt
 put-finish Fifo w Q μ φ h t r I =
     put-end Fifo w Q μ φ h t r _ (I .lo) I (I .core .low) (omega arith) (I .rep .0, omega (arith, I .own .1 .0 .1)) (omega arith)
-    refl (I .tag)
+    refl (I .tag) (rising-put t (I .own .0 .1) (I .core .whole) (ap (λ (u : Task). u .number) (I .own .1 .3)) (I .order))
 put-finish Deque w Q μ φ h t r I =
     put-end Deque w Q μ φ h t r _ (I .own-lo) I (omega arith) (I .core .low) (I .own .1 .0 .0, omega (arith, I .own .1 .0 .1)) tt
-    (rw (I .own .1 .1)) (mod-lt (r .tag + 1) (pow-pos w))
+    (rw (I .own .1 .1)) (mod-lt (r .tag + 1) (pow-pos w)) tt
 
 -- take: lines 1 (and 2 in FIFO)
 take-read : (κ : Kind) (w : ℕ) (Q : Queue) (μ : List ℕ) (φ : ℕ → Line) (h : History) → Inv κ w Q μ TakeRead φ h → Kept κ w φ h TakeRead (lineStep κ w Q μ 0 TakeRead)
@@ -130,8 +133,9 @@ take-end : (κ : Kind) (w : ℕ) (Q : Queue) (μ : List ℕ) (φ : ℕ → Line)
     → I .own-lo ≤ A → A ≤ C → C ≤ I .own-hi
     → ((i : ℕ) → I .own-lo ≤ i → i < I .own-hi → (i < A) ⊎ (C ≤ i) → i ≡ taken-ix κ (I .own-lo) (I .own-hi))
     → StandsFor κ r′ A C → Grow κ (view Q μ (I .own-lo) (I .own-hi)) (view Q μ A C) → r′ .tag ≡ Q .anchor .tag
+    → Order κ (view Q μ A C) A (handed-out 0 t ∷ h)
     → Inv κ w (anchored Q r′) μ Idle φ (handed-out 0 t ∷ h)
-take-end κ w Q μ φ h r t r′ A C I l m u only R G eg =
+take-end κ w Q μ φ h r t r′ A C I l m u only R G eg O =
     record {
       lo = A;
       hi = C;
@@ -140,6 +144,7 @@ take-end κ w Q μ φ h r t r′ A C I l m u only R G eg =
       rep = R;
       tops = tops-refl κ C;
       core = core-window (handed-out 0 t) A C A C tt (I .core) l (omega arith) m (omega arith) u leave;
+      order = O;
       sized = I .sized;
       room = I .room;
       tag = omega (arith, I .tag);
@@ -165,13 +170,15 @@ take-finish : (κ : Kind) (w : ℕ) (Q : Queue) (μ : List ℕ) (φ : ℕ → Li
     → Inv κ w (anchored Q (afterTake κ (Q .anchor) r)) μ Idle φ (handed-out 0 t ∷ h)
 take-finish Lifo w Q μ φ h r t I =
     take-end Lifo w Q μ φ h r t _ (I .own-lo) (I .own-hi - 1) I (omega arith) (omega (arith, I .own .2)) (omega arith)
-    (top-only (I .own-lo) (I .own-hi)) (I .own .0 .0, I .own .0 .1, omega (arith, I .own .0 .2)) tt (I .own .1)
+    (top-only (I .own-lo) (I .own-hi)) (I .own .0 .0, I .own .0 .1, omega (arith, I .own .0 .2)) tt (I .own .1) tt
 take-finish Fifo w Q μ φ h r t I =
     take-end Fifo w Q μ φ h r t _ (I .own-lo + 1) (I .own-hi) I (omega arith) (omega (arith, I .own .2)) (omega arith)
     (low-only (I .own-lo) (I .own-hi)) (omega (arith, I .own .0 .0), sym (I .tops) ∙ I .rep .1) (omega arith) refl
+    (rising-out 0 (I .own-lo) (I .own-lo + 1) t (omega arith) (I .core .low) (I .own .2) (omega arith) (ap (λ (u : Task). u .number) (I .own .3))
+    (rw (I .own .3) (I .core .whole (I .own-lo) (omega arith) (I .own .2))) (I .order))
 take-finish Deque w Q μ φ h r t I =
     take-end Deque w Q μ φ h r t _ (I .own-lo) (I .own-hi - 1) I (omega arith) (omega (arith, I .own .2)) (omega arith)
-    (top-only (I .own-lo) (I .own-hi)) (I .own .0 .0, omega (arith, I .own .0 .1, I .own .2)) tt (I .own .1)
+    (top-only (I .own-lo) (I .own-hi)) (I .own .0 .0, omega (arith, I .own .0 .1, I .own .2)) tt (I .own .1) tt
 
 taken-in : (κ : Kind) (lo hi : ℕ) → lo < hi → (lo ≤ taken-ix κ lo hi) × (taken-ix κ lo hi < hi)
 taken-in Lifo lo hi l = omega arith
@@ -188,7 +195,7 @@ own-kept κ w Q μ φ h (PutTest t r) pos roomy I = put-test κ w Q μ φ h t r 
 own-kept κ w Q μ φ h (PutNumber t r) pos roomy I = (
   put-store κ w Q μ φ h _ 0 (t .number) (PutNumber t r) (PutPayload t r) (omega arith) I
       (put-ix (I .sized) κ r (I .own-lo) (I .own-hi) (I .own .1 .2) (I .own .1 .0)) (I .own .1 .2) (
-        List·Memᴰ·tail (I .own .0),
+        begun-later quiet tt (I .own .0),
         (I .own .1 .0, I .own .1 .1, I .own .1 .2, put-same μ (off Q) (size Q) (I .own-hi) 0 (t .number) (size-pos (I .sized)) (omega arith) (I .room)),
       ),
   tt,
@@ -196,7 +203,7 @@ own-kept κ w Q μ φ h (PutNumber t r) pos roomy I = (
 own-kept κ w Q μ φ h (PutPayload t r) pos roomy I = (
   put-store κ w Q μ φ h _ 1 (t .payload) (PutPayload t r) (PutFinish t r) (omega arith) I
       (put-ix (I .sized) κ r (I .own-lo) (I .own-hi) (I .own .1 .2) (I .own .1 .0)) (I .own .1 .2) (
-        List·Memᴰ·tail (I .own .0),
+        begun-later quiet tt (I .own .0),
         (
           I .own .1 .0,
           I .own .1 .1,
@@ -207,7 +214,7 @@ own-kept κ w Q μ φ h (PutPayload t r) pos roomy I = (
       ),
   tt,
 )
-own-kept κ w Q μ φ h (PutFinish t r) pos roomy I = (put-finish κ w Q μ φ h t r I, I .own .0)
+own-kept κ w Q μ φ h (PutFinish t r) pos roomy I = (put-finish κ w Q μ φ h t r I, I .own .0 .0)
 own-kept κ w Q μ φ h (Claim t) pos roomy I = claim κ w Q μ φ h t (fits Q μ) refl pos roomy I
 own-kept κ w Q μ φ h (Note t) pos roomy I = note-x2 κ w Q μ φ h t I
 own-kept κ w Q μ φ h (Copy t a q k) pos roomy I = (copy-x3 κ w Q μ φ h t a q k (eqb (k + 1) q) refl I, tt)

@@ -12,7 +12,8 @@ use Rattle.model.specs.Lines.{Effect, off, size}
 use Rattle.model.specs.Figures.{anchor}
 use Rattle.theorems.proofs.Events.{Event, quiet, History, GoodEvent, event-of}
 use Rattle.theorems.proofs.Words.{cell}
-use Rattle.theorems.proofs.Window.{View, NotDone, core-words, core-ev, core-read}
+use Rattle.theorems.proofs.Window.{View, Plain, plain-done, core-words, core-ev, core-read}
+use Rattle.theorems.proofs.Order.{order-ev, order-view, plain-out}
 use Rattle.theorems.proofs.Seen.{frame-same, frame-store}
 use Rattle.theorems.proofs.Invariant.{view, OwnerOk, Inv, Calm, move-calm, thief-holds, tops-refl, grow-same, grow-read}
 
@@ -22,7 +23,7 @@ Kept κ w φ h o E =
     Inv κ w (E .queue) (E .store) (E .line) φ (event-of (step 0) o (E .answer) ∷ h) × GoodEvent (event-of (step 0) o (E .answer)) h
 
 -- a line that changes only what the owner has read
-pub own-same : (κ : Kind) (w : ℕ) (Q : Queue) (μ : List ℕ) (φ : ℕ → Line) (h : History) (o o′ : Line) (e : Event) → NotDone e → ((k : ℕ) → Calm (suc k) e)
+pub own-same : (κ : Kind) (w : ℕ) (Q : Queue) (μ : List ℕ) (φ : ℕ → Line) (h : History) (o o′ : Line) (e : Event) → Plain e → ((k : ℕ) → Calm (suc k) e)
     → (I : Inv κ w Q μ o φ h) → OwnerOk κ (view Q μ (I .own-lo) (I .own-hi)) (Q .anchor .tag) (e ∷ h) o′ → Inv κ w Q μ o′ φ (e ∷ h)
 own-same κ w Q μ φ h o o′ e nd c I k =
     record {
@@ -32,7 +33,8 @@ own-same κ w Q μ φ h o o′ e nd c I k =
       own-hi = I .own-hi;
       rep = I .rep;
       tops = I .tops;
-      core = core-ev e nd (I .core);
+      core = core-ev e (plain-done e nd) (I .core);
+      order = order-ev κ (view Q μ (I .own-lo) (I .own-hi)) (I .lo) h e (plain-out e nd) (I .order);
       sized = I .sized;
       room = I .room;
       tag = I .tag;
@@ -45,7 +47,7 @@ own-same κ w Q μ φ h o o′ e nd c I k =
     v = view Q μ (I .own-lo) (I .own-hi)
 
 -- a line that reads the window
-pub own-read : (κ : Kind) (w : ℕ) (Q : Queue) (μ : List ℕ) (φ : ℕ → Line) (h : History) (o o′ : Line) (e : Event) → NotDone e → ((k : ℕ) → Calm (suc k) e)
+pub own-read : (κ : Kind) (w : ℕ) (Q : Queue) (μ : List ℕ) (φ : ℕ → Line) (h : History) (o o′ : Line) (e : Event) → Plain e → ((k : ℕ) → Calm (suc k) e)
     → (I : Inv κ w Q μ o φ h) → OwnerOk κ (view Q μ (I .lo) (I .hi)) (Q .anchor .tag) (e ∷ h) o′ → Inv κ w Q μ o′ φ (e ∷ h)
 own-read κ w Q μ φ h o o′ e nd c I k =
     record {
@@ -55,7 +57,10 @@ own-read κ w Q μ φ h o o′ e nd c I k =
       own-hi = I .hi;
       rep = I .rep;
       tops = tops-refl κ (I .hi);
-      core = core-ev e nd (core-read (I .core));
+      core = core-ev e (plain-done e nd) (core-read (I .core));
+      order =
+          order-ev κ (view Q μ (I .lo) (I .hi)) (I .lo) h e (plain-out e nd)
+          (order-view κ (view Q μ (I .own-lo) (I .own-hi)) (I .lo) h (view Q μ (I .lo) (I .hi)) (I .core .low) (I .tops) (λ i p q. refl) (I .order));
       sized = I .sized;
       room = I .room;
       tag = I .tag;
@@ -82,6 +87,9 @@ own-store κ w Q μ φ h o o′ m I len same low k =
       rep = I .rep;
       tops = I .tops;
       core = core-ev quiet tt (core-words m (Q .arrays) (Q .published) (off Q) (size Q) (I .core) (I .core .fit) same);
+      order =
+          order-ev κ (view Q m (I .own-lo) (I .own-hi)) (I .lo) h quiet tt
+          (order-view κ (view Q μ (I .own-lo) (I .own-hi)) (I .lo) h (view Q m (I .own-lo) (I .own-hi)) (omega arith) (tops-refl κ (I .own-hi)) (λ i p q. same i 0 p q (omega arith)) (I .order));
       sized = I .sized;
       room = omega (arith, I .room);
       tag = I .tag;

@@ -19,7 +19,7 @@ used-by (Put p) u = omega arith
 used-by Take u = omega arith
 used-by Steal u = omega arith
 
-used-kept : (U : World) (c : Call) → U .bench .used ≤ callOf U c .world .bench .used
+pub used-kept : (U : World) (c : Call) → U .bench .used ≤ callOf U c .world .bench .used
 used-kept U c =
     call-cases (λ (D : Outcome). U .bench .used ≤ D .world .bench .used) U (λ r l. omega arith) (λ i op B. used-by op (U .bench .used)) (λ i M. omega arith) c
 

@@ -1,7 +1,9 @@
 -- Every call keeps the invariant, where the premise holds.
 use mathlib.Core.Path.{_≡_, refl, sym, _∙_, subst, subst₂}
-use mathlib.Core.List.{List, [], _∷_, List·Memᴰ·head}
-use Prim.Native.Nat.{ℕ, zero, suc, _*_, _≤_, _<_}
+use mathlib.Core.Bool.{Bool, true, false, cond}
+use mathlib.Core.Logic.{_⊎_, inl, inr}
+use mathlib.Core.List.{List, [], _∷_, List·Memᴰ, List·Memᴰ·head, List·Memᴰ·tail, List·Memᴰ·not-nil, List·Memᴰ·cases-cons}
+use Prim.Native.Nat.{ℕ, zero, suc, _+_, _*_, _≤_, _<_}
 use native.Mathlib.Omega.{arith}
 use lib.ListN.{length}
 use Rattle.model.specs.declared.Kind.{Kind}
@@ -10,11 +12,16 @@ use Rattle.model.specs.declared.Line.the-variants.{Idle, PutRead, TakeRead, Ste
 use Rattle.model.specs.declared.Operation.{Operation}
 use Rattle.model.specs.declared.Operation.the-variants.{Put, Take, Steal}
 use Rattle.model.specs.declared.Refusal.{Refusal}
+use Rattle.model.specs.declared.Task.{Task}
+use Rattle.model.specs.declared.Answer.{Answer}
+use Rattle.model.specs.declared.Answer.the-variants.{Accepted, Numbered, GoesOn, Finished, HandedOut, Empty, Full, Refused}
 use Rattle.model.specs.Lines.{Effect, size}
 use Rattle.model.specs.World.{World, Outcome, refuse, lineAt}
 use Rattle.model.specs.Calls.{firstLine, begun, stepped, nextEffect, Call, begin, step, callOf}
 use Rattle.model.specs.Run.{Played, played, after}
-use Rattle.theorems.proofs.Events.{Event, quiet, began-put, History, Premise, PremiseAt, GoodHistory, GoodEvent, event-of}
+use Rattle.theorems.proofs.Events.{Event, quiet, line-1, finished-put, handed-out, failed-compare, found-empty, began-put, found-full, is-line-1, is-compare, History, Premise, PremiseAt, GoodHistory, GoodEvent, event-of}
+use Rattle.theorems.proofs.Window.{old-done}
+use Rattle.theorems.proofs.PutNumbers.{used-kept}
 use Rattle.theorems.proofs.Invariant.{Inv, own-keep}
 use Rattle.theorems.proofs.OwnerLines.{own-kept}
 use Rattle.theorems.proofs.OwnerSteps.{own-same}
@@ -46,7 +53,7 @@ Fine W h c l D =
     PremiseAt (W .bench .kind) (W .bench .width) (event-of c l (D .answer)) h
     → InvOf (D .world) (event-of c l (D .answer) ∷ h) × GoodEvent (event-of c l (D .answer)) h
 
-module _ (W : World) (H : Whole W) (h : History) (I : InvOf W h) where
+module _ (W : World) (H : Whole W) (h : History) (I : InvOf W h) (N : (u : Task) → List·Memᴰ (finished-put u) h → u .number ≤ W .bench .used) where
   abbrev InvLines : History → Line → (ℕ → Line) → Type 0
   InvLines h o φ = Inv (W .bench .kind) (W .bench .width) (W .bench .queue) (W .store) o φ h
 
@@ -66,8 +73,11 @@ module _ (W : World) (H : Whole W) (h : History) (I : InvOf W h) where
       own-back (InvLines (e ∷ h)) (W .bench .workers) (firstLine op (W .bench .used)) (in-crew H 0 (B .member))
       (f (subst (λ (o : Line). InvLines h o (thieves (W .bench .workers))) (idle-is _ (B .idle)) I))
 
+  newest : (u : Task) → List·Memᴰ (finished-put u) h → u .number < W .bench .used + 1
+  newest u d = omega (arith, N u d)
+
   begun-kept : (i : ℕ) (op : Operation) (l : Line) → MayBegin W i op → Fine W h (begin i op) l (begun W i op)
-  begun-kept zero (Put p) l B f = (own-begun (Put p) _ B (λ J. own-same _ _ _ _ _ h Idle (PutRead _) (began-put _) tt (λ k. tt) J (List·Memᴰ·head refl)), tt)
+  begun-kept zero (Put p) l B f = (own-begun (Put p) _ B (λ J. own-same _ _ _ _ _ h Idle (PutRead _) (began-put _) tt (λ k. tt) J (List·Memᴰ·head refl, λ u d. newest u (old-done tt d))), tt)
   begun-kept (suc k) (Put p) l B f = not-thief k (B .hand)
   begun-kept zero Take l B f = (own-begun Take _ B (λ J. own-same _ _ _ _ _ h Idle TakeRead quiet tt (λ k. tt) J tt), tt)
   begun-kept (suc k) Take l B f = not-thief k (B .hand)
@@ -103,8 +113,69 @@ module _ (W : World) (H : Whole W) (h : History) (I : InvOf W h) where
 abbrev Like : World → Outcome → Type 0
 Like W D = (D .world .bench .kind ≡ W .bench .kind) × (D .world .bench .width ≡ W .bench .width)
 
-call-like : (W : World) (c : Call) → Like W (callOf W c)
+pub call-like : (W : World) (c : Call) → Like W (callOf W c)
 call-like W c = call-cases (Like W) W (λ r l. (refl, refl)) (λ i op B. (refl, refl)) (λ i M. (refl, refl)) c
+
+-- put numbers: those begun are used
+abbrev Used : World → History → Type 0
+Used W h = (u : Task) → List·Memᴰ (began-put u) h → u .number ≤ W .bench .used
+
+good-begun : (h : History) (u : Task) → GoodHistory h → List·Memᴰ (finished-put u) h → List·Memᴰ (began-put u) h
+good-begun [] u G d = absurd (List·Memᴰ·not-nil d)
+good-begun (e ∷ h) u G d = List·Memᴰ·tail (go (List·Memᴰ·cases-cons d) (good-begun h u (G .1)))
+  where
+    go : (finished-put u ≡ e) ⊎ List·Memᴰ (finished-put u) h → (List·Memᴰ (finished-put u) h → List·Memᴰ (began-put u) h) → List·Memᴰ (began-put u) h
+    go (inl q) f = subst (λ (x : Event). GoodEvent x h) (sym q) (G .0)
+    go (inr m) f = f m
+
+-- a put that begins has a number that is used by then
+abbrev Within : ℕ → Event → Type 0
+Within n quiet = Unit {0}
+Within n (line-1 j) = Unit {0}
+Within n (finished-put t) = Unit {0}
+Within n (handed-out j t) = Unit {0}
+Within n (failed-compare j) = Unit {0}
+Within n (found-empty j) = Unit {0}
+Within n (began-put t) = t .number ≤ n
+Within n (found-full t) = Unit {0}
+
+step-within : (n i : ℕ) (l : Line) (a : Answer) → Within n (event-of (step i) l a)
+step-within n i l Accepted = tt
+step-within n i l (Numbered m) = tt
+step-within n i l GoesOn = go (is-line-1 l) (is-compare l)
+  where
+    go : (x y : Bool) → Within n (cond x (line-1 i) (cond y (failed-compare i) quiet))
+    go true y = tt
+    go false true = tt
+    go false false = tt
+step-within n i l (Finished j t) = tt
+step-within n i l (HandedOut j t) = go (is-compare l)
+  where
+    go : (x : Bool) → Within n (cond x (handed-out i t) (handed-out 0 t))
+    go true = tt
+    go false = tt
+step-within n i l (Empty j) = tt
+step-within n i l (Full j t) = tt
+step-within n i l (Refused r) = tt
+
+begin-within : (W : World) (i : ℕ) (op : Operation) (l : Line) → Within (begun W i op .world .bench .used) (event-of (begin i op) l (begun W i op .answer))
+begin-within W zero (Put p) l = omega arith
+begin-within W (suc k) (Put p) l = tt
+begin-within W i Take l = tt
+begin-within W i Steal l = tt
+
+call-within : (W : World) (c : Call) (l : Line) → Within (callOf W c .world .bench .used) (event-of c l (callOf W c .answer))
+call-within W (begin i op) l =
+    begin-cases (λ (D : Outcome). Within (D .world .bench .used) (event-of (begin i op) l (D .answer))) W (λ r q. tt) i op (λ B. begin-within W i op l)
+call-within W (step i) l =
+    step-cases (λ (D : Outcome). Within (D .world .bench .used) (event-of (step i) l (D .answer))) W (λ r q. tt) i (λ M. step-within (W .bench .used) i l (nextEffect W i .answer))
+
+used-next : (W : World) (c : Call) (l : Line) (h : History) → Used W h → Used (callOf W c .world) (event-of c l (callOf W c .answer) ∷ h)
+used-next W c l h U u d = go (List·Memᴰ·cases-cons d)
+  where
+    go : (began-put u ≡ event-of c l (callOf W c .answer)) ⊎ List·Memᴰ (began-put u) h → u .number ≤ callOf W c .world .bench .used
+    go (inl q) = subst (Within (callOf W c .world .bench .used)) (sym q) (call-within W c l)
+    go (inr m) = omega (arith, U u m, used-kept W c)
 
 -- the whole list
 prem-tail : (κ : Kind) (w : ℕ) (T : List Event) (h : History) → Premise κ w (rev T h) → Premise κ w h
@@ -112,14 +183,14 @@ unfolding rev
 prem-tail κ w [] h f = f
 prem-tail κ w (e ∷ T) h f = prem-tail κ w T (e ∷ h) f .1
 
-pub run-kept : (κ : Kind) (w : ℕ) (cs : List Call) (W : World) (h : History) → W .bench .kind ≡ κ → W .bench .width ≡ w → Whole W → InvOf W h → GoodHistory h
+pub run-kept : (κ : Kind) (w : ℕ) (cs : List Call) (W : World) (h : History) → W .bench .kind ≡ κ → W .bench .width ≡ w → Whole W → InvOf W h → GoodHistory h → Used W h
     → Premise κ w (rev (events (played W cs)) h) → InvOf (after W cs) (rev (events (played W cs)) h) × GoodHistory (rev (events (played W cs)) h)
 unfolding rev played after
-run-kept κ w [] W h ek ew H I G f = (I, G)
-run-kept κ w (c ∷ cs) W h ek ew H I G f =
+run-kept κ w [] W h ek ew H I G U f = (I, G)
+run-kept κ w (c ∷ cs) W h ek ew H I G U f =
     let D = callOf W c in
     let e = event-of c (lineAt (W .bench .workers) (workerOf c)) (D .answer) in
     let p = prem-tail κ w (events (played (D .world) cs)) (e ∷ h) f in
-    let k = call-kept W H h I c (subst₂ (λ (y : Kind) (x : ℕ). PremiseAt y x e h) (sym ek) (sym ew) (p .0)) in
+    let k = call-kept W H h I (λ u d. U u (good-begun h u G d)) c (subst₂ (λ (y : Kind) (x : ℕ). PremiseAt y x e h) (sym ek) (sym ew) (p .0)) in
     let l = call-like W c in
-    run-kept κ w cs (D .world) (e ∷ h) (l .0 ∙ ek) (l .1 ∙ ew) (call-whole H c) (k .0) (k .1, G) f
+    run-kept κ w cs (D .world) (e ∷ h) (l .0 ∙ ek) (l .1 ∙ ew) (call-whole H c) (k .0) (k .1, G) (used-next W c (lineAt (W .bench .workers) (workerOf c)) h U) f

@@ -28,10 +28,11 @@ use Rattle.theorems.proofs.Events.{Event, quiet, line-1, handed-out, fa
 use Rattle.theorems.proofs.Words.{word-W}
 use Rattle.theorems.proofs.Remainders.{le-or-lt, tag-zero, same-head}
 use Rattle.theorems.proofs.Directory.{both}
-use Rattle.theorems.proofs.Window.{taskAt, both-words, View, NotDone, core-window, core-ev}
+use Rattle.theorems.proofs.Window.{taskAt, both-words, View, Plain, plain-done, core-window, core-ev}
+use Rattle.theorems.proofs.Order.{Tops, Order, order-ev, plain-out, rising-out}
 use Rattle.theorems.proofs.Seen.{frame-same}
 use Rattle.theorems.proofs.Indices.{StandsFor, Small, steal-ix, empty-yes, empty-no}
-use Rattle.theorems.proofs.Invariant.{view, Tops, Hold, Reads, GotV, Next, ThiefOk, Inv, Calm, move-calm, thief-holds, own-keep, emp-now, since-now, emp-calm, grow-same}
+use Rattle.theorems.proofs.Invariant.{view, Hold, Reads, GotV, Next, ThiefOk, Inv, Calm, move-calm, thief-holds, own-keep, emp-now, since-now, emp-calm, grow-same}
 
 -- thief k's line θ leaves E: the lines φ′ are as φ but for k's
 abbrev pub ThiefKept : Kind → ℕ → Line → (ℕ → Line) → History → ℕ → Line → Effect → Type 0
@@ -61,7 +62,7 @@ others κ w v g h φ φ′ k θ e c is rest old new i = go (le-or-lt i k) (le-or
 
 -- a line that changes only what thief k has read
 pub thief-same : (κ : Kind) (w : ℕ) (Q : Queue) (μ : List ℕ) (o : Line) (φ : ℕ → Line) (h : History) (k : ℕ) (θ : Line) (e : Event)
-    → NotDone e → Calm 0 e → ((i : ℕ) → i ≢ k → Calm (suc i) e)
+    → Plain e → Calm 0 e → ((i : ℕ) → i ≢ k → Calm (suc i) e)
     → (I : Inv κ w Q μ o φ h) → ThiefOk κ w (view Q μ (I .own-lo) (I .own-hi)) (Q .anchor .tag) (e ∷ h) (suc k) θ
     → (φ′ : ℕ → Line) → φ′ k ≡ θ → ((i : ℕ) → i ≢ k → φ′ i ≡ φ i) → Inv κ w Q μ o φ′ (e ∷ h)
 thief-same κ w Q μ o φ h k θ e nd c0 c I new φ′ is rest =
@@ -72,7 +73,8 @@ thief-same κ w Q μ o φ h k θ e nd c0 c I new φ′ is rest =
       own-hi = I .own-hi;
       rep = I .rep;
       tops = I .tops;
-      core = core-ev e nd (I .core);
+      core = core-ev e (plain-done e nd) (I .core);
+      order = order-ev κ (view Q μ (I .own-lo) (I .own-hi)) (I .lo) h e (plain-out e nd) (I .order);
       sized = I .sized;
       room = I .room;
       tag = I .tag;
@@ -85,8 +87,9 @@ steal-end : (κ : Kind) (w : ℕ) (Q : Queue) (μ : List ℕ) (o : Line) (φ : �
     → I .lo ≤ A → A ≤ C → C ≤ I .hi → I .lo ≤ n → n < I .hi
     → ((i : ℕ) → I .lo ≤ i → i < I .hi → (i < A) ⊎ (C ≤ i) → i ≡ n)
     → StandsFor κ r′ A C → r′ .tag ≡ Q .anchor .tag → Tops κ C (I .own-hi) → t ≡ taskAt (view Q μ (I .own-lo) (I .own-hi)) n
+    → Order κ (view Q μ (I .own-lo) (I .own-hi)) A (handed-out (suc k) t ∷ h)
     → ThiefKept κ w o φ h k (StealCompare r e t) (eff (anchored Q r′) μ Idle (HandedOut (suc k) t))
-steal-end κ w Q μ o φ h k r e t r′ A C n I l m u ln un only R eg tops is-t = (
+steal-end κ w Q μ o φ h k r e t r′ A C n I l m u ln un only R eg tops is-t O = (
   λ φ′ is rest. record {
     lo = A;
     hi = C;
@@ -97,6 +100,7 @@ steal-end κ w Q μ o φ h k r e t r′ A C n I l m u ln un only R eg tops is-t 
     core =
         core-window (handed-out (suc k) t) (I .own-lo) (I .own-hi) A C tt (I .core) (omega arith) (omega (arith, I .core .low)) m
         (omega (arith, I .core .high)) (omega arith) leave;
+    order = O;
     sized = I .sized;
     room = I .room;
     tag = rw eg (I .tag);
@@ -117,7 +121,7 @@ steal-wins : (κ : Kind) (w : ℕ) (Q : Queue) (μ : List ℕ) (o : Line) (φ : 
 steal-wins Lifo w Q μ o φ h k r e t q f I (R, l, G0, G1, N) =
     steal-end Lifo w Q μ o φ h k r e t _ (I .lo) (I .hi - 1) (R .hi - 1) I (omega (arith, hi-is, lo-is)) (omega (arith, hi-is, lo-is)) (omega (arith, hi-is, lo-is)) (omega (arith, hi-is, lo-is)) (omega (arith, hi-is, lo-is))
     only (R .rep .0, I .rep .1, omega (arith, hi-is, lo-is, I .rep .2)) (sym tag) tt
-    (both-words (G0 none (omega (arith, hi-is, lo-is, I .core .low)) top) (G1 none (omega (arith, hi-is, lo-is, I .core .low)) top))
+    (both-words (G0 none (omega (arith, hi-is, lo-is, I .core .low)) top) (G1 none (omega (arith, hi-is, lo-is, I .core .low)) top)) tt
   where
     tests : (eqb (Q .anchor .count) (r .count) ≡ true) × (eqb (Q .anchor .tag) (r .tag) ≡ true)
     tests = both (eqb (Q .anchor .count) (r .count)) (eqb (Q .anchor .tag) (r .tag)) q
@@ -143,7 +147,9 @@ steal-wins Lifo w Q μ o φ h k r e t q f I (R, l, G0, G1, N) =
 steal-wins Fifo w Q μ o φ h k r e t q f I (R, l, G0, G1, N) =
     steal-end Fifo w Q μ o φ h k r e t _ (I .lo + 1) (I .hi) (R .lo) I (omega (arith, lo-is, in-window)) (omega (arith, lo-is, in-window)) (omega (arith, lo-is, in-window)) (omega (arith, lo-is, in-window)) (omega (arith, lo-is, in-window))
     only (omega (arith, lo-is, in-window, R .rep .0), I .rep .1) refl (I .tops)
-    (both-words (G0 refl (omega (arith, lo-is, in-window, I .core .low)) top) (G1 refl (omega (arith, lo-is, in-window, I .core .low)) top))
+    is-t
+    (rising-out (suc k) (I .lo) (I .own-lo) t (I .core .low) (omega arith) (omega (arith, lo-is, top)) (omega arith)
+    (ap (λ (u : Task). u .number) here) (rw here (I .core .whole (I .lo) (I .core .low) (omega (arith, lo-is, top)))) (I .order))
   where
     lo-is : I .lo ≡ R .lo
     lo-is = I .rep .0 ∙ eqb-true (Q .anchor .head) (r .head) q ∙ sym (R .rep .0)
@@ -154,13 +160,19 @@ steal-wins Fifo w Q μ o φ h k r e t q f I (R, l, G0, G1, N) =
     in-window : R .lo < I .hi
     in-window = omega (arith, I .tops)
 
+    is-t : t ≡ taskAt (view Q μ (I .own-lo) (I .own-hi)) (R .lo)
+    is-t = both-words (G0 refl (omega (arith, lo-is, in-window, I .core .low)) top) (G1 refl (omega (arith, lo-is, in-window, I .core .low)) top)
+
+    here : t ≡ taskAt (view Q μ (I .own-lo) (I .own-hi)) (I .lo)
+    here = is-t ∙ ap (λ (x : ℕ). taskAt (view Q μ (I .own-lo) (I .own-hi)) x) (sym lo-is)
+
     only : (i : ℕ) → I .lo ≤ i → i < I .hi → (i < I .lo + 1) ⊎ (I .hi ≤ i) → i ≡ R .lo
     only i a b (inl z) = omega (arith, lo-is)
     only i a b (inr z) = omega (arith, lo-is)
 steal-wins Deque w Q μ o φ h k r e t q f I (R, l, G0, G1, N) =
     steal-end Deque w Q μ o φ h k r e t _ (I .lo + 1) (I .hi) (R .lo) I (omega (arith, lo-is, hi-is)) (omega (arith, lo-is, hi-is)) (omega (arith, lo-is, hi-is)) (omega (arith, lo-is, hi-is)) (omega (arith, lo-is, hi-is))
     only (head, omega (arith, lo-is, hi-is, R .rep .1)) (sym tag) (I .tops)
-    (both-words (G0 none (omega (arith, lo-is, hi-is, I .core .low)) top) (G1 none (omega (arith, lo-is, hi-is, I .core .low)) top))
+    (both-words (G0 none (omega (arith, lo-is, hi-is, I .core .low)) top) (G1 none (omega (arith, lo-is, hi-is, I .core .low)) top)) tt
   where
     tests : (eqb (Q .anchor .head) (r .head) ≡ true) × (eqb (Q .anchor .count) (r .count) and eqb (Q .anchor .tag) (r .tag) ≡ true)
     tests = both (eqb (Q .anchor .head) (r .head)) _ q

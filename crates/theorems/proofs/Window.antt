@@ -51,6 +51,27 @@ NotDone (found-empty j) = Unit {0}
 NotDone (began-put t) = Unit {0}
 NotDone (found-full t) = Unit {0}
 
+-- events that neither finish a put nor hand out
+abbrev pub Plain : Event → Type 0
+Plain quiet = Unit {0}
+Plain (line-1 j) = Unit {0}
+Plain (finished-put t) = ⊥
+Plain (handed-out j t) = ⊥
+Plain (failed-compare j) = Unit {0}
+Plain (found-empty j) = Unit {0}
+Plain (began-put t) = Unit {0}
+Plain (found-full t) = Unit {0}
+
+pub plain-done : (e : Event) → Plain e → NotDone e
+plain-done quiet c = tt
+plain-done (line-1 j) c = tt
+plain-done (finished-put t) c = c
+plain-done (handed-out j t) c = tt
+plain-done (failed-compare j) c = tt
+plain-done (found-empty j) c = tt
+plain-done (began-put t) c = tt
+plain-done (found-full t) c = tt
+
 pub later : {t : Task} {h : History} (e : Event) → Out t h → Out t (e ∷ h)
 later e o = (o .0, List·Memᴰ·tail (o .1))
 
@@ -60,6 +81,13 @@ old-done {t} {e} {h} nd d = go (List·Memᴰ·cases-cons d)
     go : (finished-put t ≡ e) ⊎ List·Memᴰ (finished-put t) h → List·Memᴰ (finished-put t) h
     go (inl q) = absurd (subst NotDone (sym q) nd)
     go (inr r) = r
+
+-- the put of t is begun, and its number is larger than all of finished puts
+abbrev pub Begun : Task → History → Type 0
+Begun t h = List·Memᴰ (began-put t) h × ((u : Task) → List·Memᴰ (finished-put u) h → u .number < t .number)
+
+pub begun-later : {t : Task} {h : History} (e : Event) → NotDone e → Begun t h → Begun t (e ∷ h)
+begun-later e nd (b, f) = (List·Memᴰ·tail b, λ u d. f u (old-done nd d))
 
 -- another window inside the owner's window: what leaves the window has been handed out
 pub core-window : {v : View} {lo hi : ℕ} {h : History} (e : Event) (own-lo own-hi a c : ℕ) → NotDone e → Core v lo hi h

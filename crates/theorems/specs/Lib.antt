@@ -3,3 +3,4 @@ pub mod Corollaries
 pub mod Contracts
 pub mod Reached
 pub mod Restarts
+pub mod Order

@@ -1,0 +1,132 @@
+-- FIFO in order. From fresh on each call keeps the invariant, whose `order` says of the whole history that a hand-out repeats a
+-- number or has a larger one than all before it; the places of the list tell the same.
+use mathlib.Core.Path.{_≡_, refl, sym, _∙_, ap, subst}
+use mathlib.Core.Logic.{_⊎_, inl, inr}
+use mathlib.Core.List.{List, [], _∷_, List·Memᴰ, List·Memᴰ·not-nil}
+use Prim.Native.Nat.{ℕ, zero, suc, _<_}
+use native.Mathlib.Omega.{arith}
+use lib.ListN.{take}
+use Rattle.model.specs.declared.Kind.{Kind}
+use Rattle.model.specs.declared.Kind.the-variants.{Fifo}
+use Rattle.model.specs.declared.Task.{Task}
+use Rattle.model.specs.Tests.{if_then_else_}
+use Rattle.model.specs.World.{World}
+use Rattle.model.specs.declared.Answer.the-variants.{Accepted}
+use Rattle.model.specs.Calls.{freshOf, kindOf, Call, callOf}
+use Rattle.model.specs.Run.{Played, played, after}
+use Rattle.theorems.specs.Demand3.{At, HandsOut}
+use Rattle.theorems.specs.Order.{Gives, First, InOrder, FifoInOrder, LogInOrder, FifoLogInOrder}
+use Rattle.theorems.proofs.Events.{Event, quiet, line-1, finished-put, handed-out, failed-compare, found-empty, began-put, found-full, History, Premise, PremiseAt, GoodHistory}
+use Rattle.theorems.proofs.Window.{View}
+use Rattle.theorems.proofs.Order.{Given, InTurn, Rises, Order}
+use Rattle.theorems.proofs.Places.{EventAt, rev, mem-rev, at-mem}
+use Rattle.theorems.proofs.SoundRun.{event-at, events, InvOf, run-kept, call-like}
+use Rattle.theorems.proofs.Fresh.{Started, fresh-started, fresh-is}
+use Rattle.theorems.proofs.LogFront.{log-is-answers}
+use Rattle.theorems.proofs.LogOrder.{log-in-order}
+use Rattle.theorems.proofs.Translate.{at-map, from-ev, out-ev, ev-out}
+
+-- FIFO has no premise
+no-premise-at : (w : ℕ) (h : History) (e : Event) → PremiseAt Fifo w e h
+no-premise-at w h quiet = tt
+no-premise-at w h (line-1 j) = tt
+no-premise-at w h (finished-put t) = tt
+no-premise-at w h (handed-out zero t) = tt
+no-premise-at w h (handed-out (suc k) t) = λ m. tt
+no-premise-at w h (failed-compare j) = λ m. tt
+no-premise-at w h (found-empty j) = tt
+no-premise-at w h (began-put t) = tt
+no-premise-at w h (found-full t) = tt
+
+no-premise : (w : ℕ) (h : History) → Premise Fifo w h
+no-premise w [] = tt
+no-premise w (e ∷ h) = (no-premise-at w h e, no-premise w h)
+
+-- in turn, place by place
+rises-tail : (T : List Event) (h : History) → Rises (rev T h) → Rises h
+unfolding rev
+rises-tail [] h R = R
+rises-tail (x ∷ T) h R = rises-tail T (x ∷ h) R .1
+
+rises-rev : (T : List Event) (h : History) (j : ℕ) (e : Event) → EventAt T j e → Rises (rev T h) → InTurn e (rev (take j T) h)
+unfolding rev
+rises-rev [] h j e a R = absurd a
+rises-rev (x ∷ T) h zero e a R = rw a at (rises-tail T (x ∷ h) R .0)
+rises-rev (x ∷ T) h (suc j) e a R = rises-rev T (x ∷ h) j e a R
+
+-- the call at a place, and its event
+at-the : (T : List Played) (j : ℕ) (P : Played → Type 0) → At T j P → (s : Played) × P s × At T j (λ x. x ≡ s)
+at-the [] j P a = absurd a
+at-the (s ∷ T) zero P a = (s, a, refl)
+at-the (s ∷ T) (suc j) P a = at-the T j P a
+
+event-the : (T : List Played) (j : ℕ) (s : Played) → At T j (λ x. x ≡ s) → EventAt (events T) j (event-at s)
+event-the [] j s a = absurd a
+event-the (x ∷ T) zero s a = ap event-at a
+event-the (x ∷ T) (suc j) s a = event-the T j s a
+
+gives-event : (T : List Played) (j n : ℕ) → At T j (Gives n) → (i : ℕ) × (t : Task) × EventAt (events T) j (handed-out i t) × (t .number ≡ n)
+gives-event T j n a =
+    let (s, (i, t, q, e), x) = at-the T j (Gives n) a in
+    let (k, p) = out-ev t s (i, t, q, (refl, refl)) in
+    (k, t, subst (EventAt (events T) j) p (event-the T j s x), e)
+
+event-gives : (T : List Played) (j n i : ℕ) (t : Task) → t .number ≡ n → EventAt (events T) j (handed-out i t) → At T j (Gives n)
+event-gives T j n i t e a =
+    at-map T j (HandsOut t) (Gives n) (λ s (k, u, q, b). (k, u, q, b .0 ∙ e))
+    (at-map T j (λ s. event-at s ≡ handed-out i t) (HandsOut t) (ev-out i t) (from-ev T j (handed-out i t) a))
+
+-- a list whose history rises is in order
+in-order : (T : List Played) → Rises (rev (events T) []) → InOrder T
+in-order T R j k m n F G l = go (rises-rev (events T) [] k (handed-out (b .0) (b .1)) (b .2) R)
+  where
+    a : (i : ℕ) × (t : Task) × EventAt (events T) j (handed-out i t) × (t .number ≡ m)
+    a = gives-event T j m (F .here)
+
+    b : (i : ℕ) × (t : Task) × EventAt (events T) k (handed-out i t) × (t .number ≡ n)
+    b = gives-event T k n (G .here)
+
+    again : Given (b .1 .number) (rev (take k (events T)) []) → ⊥
+    again (i, t, d, q) = place (mem-rev (events T) [] k (handed-out i t) d)
+      where
+        place : ((p : ℕ) × (p < k) × EventAt (events T) p (handed-out i t)) ⊎ List·Memᴰ (handed-out i t) [] → ⊥
+        place (inl (p, x, y)) = G .none-before p x (event-gives T p n i t (q ∙ b .3) y)
+        place (inr x) = List·Memᴰ·not-nil x
+
+    go : InTurn (handed-out (b .0) (b .1)) (rev (take k (events T)) []) → m < n
+    go (inl g) = absurd (again g)
+    go (inr f) = omega (arith, b .3, f m (a .0, a .1, at-mem (events T) [] k j (handed-out (a .0) (a .1)) (a .2) l, a .3))
+
+-- a run keeps its kind
+kind-kept : (cs : List Call) (W : World) → after W cs .bench .kind ≡ W .bench .kind
+unfolding after
+kind-kept [] W = refl
+kind-kept (c ∷ cs) W = kind-kept cs (callOf W c .world) ∙ call-like W c .0
+
+rises-of : (κ : Kind) (v : View) (lo : ℕ) (h : History) → κ ≡ Fifo → Order κ v lo h → Rises h
+rises-of κ v lo h e O = subst (λ (x : Kind). Order x v lo h) e O .rises
+
+fifo-run : (k w c n : ℕ) (m l : List ℕ) → freshOf k w c n m l .answer ≡ Accepted → kindOf k ≡ Fifo → (cs : List Call) → InOrder (played (freshOf k w c n m l .world) cs)
+fifo-run k w c n m l e second cs = in-order (played U cs) (rises-of _ _ _ _ kind (R .0 .order))
+  where
+    U : World
+    U = freshOf k w c n m l .world
+
+    F : Started U w
+    F = fresh-started k w c n m l e
+
+    fifo : U .bench .kind ≡ Fifo
+    fifo = ap (λ (W : World). W .bench .kind) (fresh-is k w c n m l e .0) ∙ second
+
+    kind : after U cs .bench .kind ≡ Fifo
+    kind = kind-kept cs U ∙ fifo
+
+    R : InvOf (after U cs) (rev (events (played U cs)) []) × GoodHistory (rev (events (played U cs)) [])
+    R = run-kept Fifo (U .bench .width) cs U [] fifo refl (F .whole) (F .inv) tt (λ u d. absurd (List·Memᴰ·not-nil d)) (no-premise (U .bench .width) (rev (events (played U cs)) []))
+
+pub fifo-in-order : FifoInOrder
+unfolding if_then_else_
+fifo-in-order w c n m l e cs = fifo-run _ w c n m l e refl cs
+
+pub fifo-log-in-order : FifoLogInOrder
+fifo-log-in-order w c n m l e cs = subst LogInOrder (sym (log-is-answers _ w c n m l e cs)) (log-in-order _ (fifo-in-order w c n m l e cs))

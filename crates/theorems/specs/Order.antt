@@ -1,0 +1,61 @@
+-- FIFO in order: the put numbers of first hand-outs rise along the log. Stated of the calls' answers by their places in the
+-- list, and of the entries in the log's written front.
+use mathlib.Core.Path.{_≡_}
+use mathlib.Core.Bool.{true}
+use mathlib.Core.List.{List, [], _∷_, _++_}
+use Prim.Native.Nat.{ℕ, _<_}
+use Rattle.model.specs.declared.Task.{Task}
+use Rattle.model.specs.declared.Answer.{Answer}
+use Rattle.model.specs.declared.Answer.the-variants.{Accepted, HandedOut}
+use Rattle.model.specs.Tests.{if_then_else_}
+use Rattle.model.specs.Answers.{Entry, entryOf, ends}
+use Rattle.model.specs.World.{World}
+use Rattle.model.specs.Calls.{freshOf, frontOf, Call}
+use Rattle.model.specs.Run.{Played, played, after}
+use Rattle.model.specs.Counts.{entryAt, outFirst}
+use Rattle.theorems.specs.Demand3.{At, FromFresh}
+
+-- the call hands out put number n
+abbrev pub Gives : ℕ → Played → Type 0
+Gives n s = (i : ℕ) × (t : Task) × (s .answer ≡ HandedOut i t) × (t .number ≡ n)
+
+-- the call at place j does, and none before it does
+pub record First (T : List Played) (j n : ℕ) : Type 0 where
+  pub here : At T j (Gives n)
+  pub none-before : (k : ℕ) → k < j → At T k (Gives n) → ⊥
+
+-- of two hand-outs, each the first of its put number, the later one has the larger number
+abbrev pub InOrder : List Played → Type 0
+InOrder T = (j k m n : ℕ) → First T j m → First T k n → j < k → m < n
+
+-- from any accepted fresh of kind 2, whatever the store and the log held before
+abbrev pub FromFifo : (World → Type 0) → Type 0
+FromFifo P =
+    (width size workers : ℕ) (store log : List ℕ) → freshOf 2 width size workers store log .answer ≡ Accepted
+    → P (freshOf 2 width size workers store log .world)
+
+-- THE CLAIM, of the answers
+abbrev pub FifoInOrder : Type 0
+FifoInOrder = FromFifo (λ W. (cs : List Call) → InOrder (played W cs))
+
+-- THE LOG. The four words of an entry; those of the answers of a list, in order
+abbrev pub wordsOf : Entry → List ℕ
+wordsOf e = e .kind ∷ e .worker ∷ e .number ∷ e .payload ∷ []
+
+abbrev pub entries : List Played → List ℕ
+entries [] = []
+entries (s ∷ T) = (if ends (s .answer) then wordsOf (entryOf (s .answer)) else []) ++ entries T
+
+-- the log's written front is the entries that the steps answered, in order: of every kind
+abbrev pub LogIsAnswers : Type 0
+LogIsAnswers = FromFresh (λ W. (cs : List Call) → frontOf (after W cs .bench) (after W cs .log) ≡ entries (played W cs))
+
+-- of two entries of the log l, each the first hand-out of its put number, the later one has the larger number; past a log's
+-- end there is no hand-out
+abbrev pub LogInOrder : List ℕ → Type 0
+LogInOrder l =
+    (j k : ℕ) → j < k → outFirst l j ≡ true → outFirst l k ≡ true → entryAt l j .number < entryAt l k .number
+
+-- THE CLAIM, of the log
+abbrev pub FifoLogInOrder : Type 0
+FifoLogInOrder = FromFifo (λ W. (cs : List Call) → LogInOrder (frontOf (after W cs .bench) (after W cs .log)))
