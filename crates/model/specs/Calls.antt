@@ -138,8 +138,11 @@ beginOf W i op =
 
 -- STEP. A compare that fails is a restart, and the only step that leaves a thief at its line 1 (theorems/specs/Restarts); X4's
 -- return to the owner's line 1 is none. The counter has a ceiling
+abbrev pub oneMore : ℕ → ℕ
+oneMore n = if eqb n 4294967295 then n else n + 1
+
 abbrev pub restarted : ℕ → Line → ℕ
-restarted n l = if isSteal1 l then if eqb n 4294967295 then n else n + 1 else n
+restarted n l = if isSteal1 l then oneMore n else n
 
 -- worker i's line left E
 abbrev pub stepped : World → ℕ → Effect → Outcome

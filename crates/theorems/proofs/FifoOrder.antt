@@ -19,7 +19,7 @@ use Rattle.theorems.specs.Order.{Gives, First, InOrder, FifoInOrder, Log
 use Rattle.theorems.proofs.Events.{Event, quiet, line-1, finished-put, handed-out, failed-compare, found-empty, began-put, found-full, History, Premise, PremiseAt, GoodHistory}
 use Rattle.theorems.proofs.Window.{View}
 use Rattle.theorems.proofs.Order.{Given, InTurn, Rises, Order}
-use Rattle.theorems.proofs.Places.{EventAt, rev, mem-rev, at-mem}
+use Rattle.theorems.proofs.Places.{EventAt, rev, said-rev, mem-rev, at-mem}
 use Rattle.theorems.proofs.SoundRun.{event-at, events, InvOf, run-kept, call-like}
 use Rattle.theorems.proofs.Fresh.{Started, fresh-started, fresh-is}
 use Rattle.theorems.proofs.LogFront.{log-is-answers}
@@ -41,18 +41,6 @@ no-premise-at w h (found-full t) = tt
 no-premise : (w : ℕ) (h : History) → Premise Fifo w h
 no-premise w [] = tt
 no-premise w (e ∷ h) = (no-premise-at w h e, no-premise w h)
-
--- in turn, place by place
-rises-tail : (T : List Event) (h : History) → Rises (rev T h) → Rises h
-unfolding rev
-rises-tail [] h R = R
-rises-tail (x ∷ T) h R = rises-tail T (x ∷ h) R .1
-
-rises-rev : (T : List Event) (h : History) (j : ℕ) (e : Event) → EventAt T j e → Rises (rev T h) → InTurn e (rev (take j T) h)
-unfolding rev
-rises-rev [] h j e a R = absurd a
-rises-rev (x ∷ T) h zero e a R = rw a at (rises-tail T (x ∷ h) R .0)
-rises-rev (x ∷ T) h (suc j) e a R = rises-rev T (x ∷ h) j e a R
 
 -- the call at a place, and its event
 at-the : (T : List Played) (j : ℕ) (P : Played → Type 0) → At T j P → (s : Played) × P s × At T j (λ x. x ≡ s)
@@ -78,7 +66,7 @@ event-gives T j n i t e a =
 
 -- a list whose history rises is in order
 in-order : (T : List Played) → Rises (rev (events T) []) → InOrder T
-in-order T R j k m n F G l = go (rises-rev (events T) [] k (handed-out (b .0) (b .1)) (b .2) R)
+in-order T R j k m n F G l = go (said-rev InTurn Rises (λ e h G. G) (events T) [] k (handed-out (b .0) (b .1)) (b .2) R)
   where
     a : (i : ℕ) × (t : Task) × EventAt (events T) j (handed-out i t) × (t .number ≡ m)
     a = gives-event T j m (F .here)

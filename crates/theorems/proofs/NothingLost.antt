@@ -25,7 +25,7 @@ use Rattle.theorems.proofs.Events.{Event, line-1, finished-put, handed-
 use Rattle.theorems.proofs.Remainders.{le-or-lt}
 use Rattle.theorems.proofs.Indices.{start-ix}
 use Rattle.theorems.proofs.Invariant.{Inv}
-use Rattle.theorems.proofs.Places.{EventAt, EventLine1, rev, past, good-rev, prem-rev, mem-rev, at-mem, at-rev, rev-at, line1-at, prem-at, newest, at-one}
+use Rattle.theorems.proofs.Places.{EventAt, EventLine1, rev, past, said-rev, prem-rev, mem-rev, at-mem, at-rev, rev-at, line1-at, prem-at, newest, at-one}
 use Rattle.theorems.proofs.SoundRun.{event-at, events, InvOf, run-kept}
 use Rattle.theorems.proofs.Fresh.{Started, fresh-started}
 use Rattle.theorems.proofs.PutNumbers.{one-number}
@@ -82,7 +82,7 @@ demand3 k w c n m l e cs f =
     ev j x a = to-ev T j x a
 
     good : (j : ℕ) (x : Event) → EventAt E j x → GoodEvent x (past E j)
-    good j x a = good-rev E [] j x a (R .1)
+    good j x a = said-rev GoodEvent GoodHistory (λ e h G. G) E [] j x a (R .1)
 
     place : (j : ℕ) (x : Event) → List·Memᴰ x (past E j) → (k : ℕ) × (k < j) × EventAt E k x
     place j x d = go (mem-rev E [] j x d)

@@ -10,7 +10,7 @@ use borrow.Author.Tests.{ne-eqb, eq-eqb}
 use Rattle.model.specs.declared.Kind.{Kind}
 use Rattle.model.specs.declared.Task.{Task}
 use Rattle.theorems.specs.Demand3.{Few}
-use Rattle.theorems.proofs.Events.{Event, quiet, line-1, finished-put, handed-out, failed-compare, found-empty, began-put, found-full, History, puts-since, history-at, Premise, PremiseAt, GoodHistory, GoodEvent}
+use Rattle.theorems.proofs.Events.{Event, quiet, line-1, finished-put, handed-out, failed-compare, found-empty, began-put, found-full, History, puts-since, history-at, Premise, PremiseAt}
 use Rattle.theorems.proofs.Remainders.{le-or-lt}
 
 -- the call at place j did e
@@ -84,17 +84,18 @@ at-one [] j x y a b = absurd a
 at-one (e ∷ T) zero x y a b = sym a ∙ b
 at-one (e ∷ T) (suc j) x y a b = at-one T j x y a b
 
--- good, place by place
-good-tail : (T : List Event) (h : History) → GoodHistory (rev T h) → GoodHistory h
-unfolding rev
-good-tail [] h G = G
-good-tail (x ∷ T) h G = good-tail T (x ∷ h) G .1
+-- what a history says of each of its events, it says place by place
+module _ (P : Event → History → Type 0) (H : History → Type 0) (split : (e : Event) (h : History) → H (e ∷ h) → P e h × H h) where
+  said-tail : (T : List Event) (h : History) → H (rev T h) → H h
+  unfolding rev
+  said-tail [] h G = G
+  said-tail (x ∷ T) h G = split x h (said-tail T (x ∷ h) G) .1
 
-pub good-rev : (T : List Event) (h : History) (j : ℕ) (e : Event) → EventAt T j e → GoodHistory (rev T h) → GoodEvent e (rev (take j T) h)
-unfolding rev
-good-rev [] h j e a G = absurd a
-good-rev (x ∷ T) h zero e a G = rw a at (good-tail T (x ∷ h) G .0)
-good-rev (x ∷ T) h (suc j) e a G = good-rev T (x ∷ h) j e a G
+  pub said-rev : (T : List Event) (h : History) (j : ℕ) (e : Event) → EventAt T j e → H (rev T h) → P e (rev (take j T) h)
+  unfolding rev
+  said-rev [] h j e a G = absurd a
+  said-rev (x ∷ T) h zero e a G = subst (λ (y : Event). P y h) a (split x h (said-tail T (x ∷ h) G) .0)
+  said-rev (x ∷ T) h (suc j) e a G = said-rev T (x ∷ h) j e a G
 
 pub prem-rev : (κ : Kind) (w : ℕ) (T : List Event) (h : History) → ((j : ℕ) (e : Event) → EventAt T j e → PremiseAt κ w e (rev (take j T) h)) → Premise κ w h → Premise κ w (rev T h)
 unfolding rev

@@ -43,7 +43,8 @@ use Rattle.model.specs.Tests.{if_then_else_}
 use Rattle.model.specs.Figures.{isFull, isEmpty, isSame, putRead, takeRead, stealRead, note, stealLast}
 use Rattle.model.specs.Lines.{Effect, size, fits, lineStep}
 use Rattle.model.specs.World.{World, Outcome, lineAt, isSteal1}
-use Rattle.theorems.specs.Restarts.{failsCompare, oneMore, RestartsAreFailedCompares}
+use Rattle.model.specs.Calls.{oneMore}
+use Rattle.theorems.specs.Restarts.{failsCompare, RestartsAreFailedCompares}
 use Rattle.theorems.proofs.Cases.{step-cases}
 
 -- neither of two lines is a thief's line 1

@@ -1,8 +1,7 @@
 -- Restarts as the field counts them: a compare that fails, and nothing else.
 use mathlib.Core.Path.{_≡_}
 use mathlib.Core.Bool.{Bool, false, not}
-use Prim.Native.Nat.{ℕ, _+_}
-use lib.Dec.{eqb}
+use Prim.Native.Nat.{ℕ}
 use Rattle.model.specs.declared.Kind.{Kind}
 use Rattle.model.specs.declared.Anchor.{Anchor}
 use Rattle.model.specs.declared.Line.{Line}
@@ -38,7 +37,7 @@ use Rattle.model.specs.declared.Answer.the-variants.{Refused}
 use Rattle.model.specs.Tests.{if_then_else_}
 use Rattle.model.specs.Figures.{isSame}
 use Rattle.model.specs.World.{World, lineAt}
-use Rattle.model.specs.Calls.{stepOf}
+use Rattle.model.specs.Calls.{oneMore, stepOf}
 
 -- a worker at line l compares, and the anchor a is not the one it read
 abbrev pub failsCompare : Kind → Anchor → Line → Bool
@@ -67,10 +66,6 @@ failsCompare κ a (StealNumber r k) = false
 failsCompare κ a (StealPayload r k n) = false
 failsCompare κ a (StealNext r t) = false
 failsCompare κ a (StealCompare r e t) = not (isSame κ a r)
-
--- one more, up to the counter's ceiling
-abbrev pub oneMore : ℕ → ℕ
-oneMore n = if eqb n 4294967295 then n else n + 1
 
 -- an accepted step counts a restart exactly if it is a compare that fails
 abbrev pub RestartsAreFailedCompares : Type 0
