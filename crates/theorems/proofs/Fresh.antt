@@ -29,7 +29,7 @@ use Rattle.theorems.proofs.Indices.{StandsFor}
 use Rattle.theorems.proofs.Invariant.{tops-refl}
 use Rattle.theorems.proofs.Order.{order-fresh}
 use Rattle.theorems.proofs.Directory.{both, numbers-zeros, Arrays}
-use Rattle.theorems.proofs.Shape.{Bounded, Spent, pending}
+use Rattle.theorems.proofs.Shape.{Bounded, Spent}
 use Rattle.theorems.proofs.Valid.{Whole}
 use Rattle.theorems.proofs.SoundRun.{InvOf}
 
@@ -177,11 +177,11 @@ module _ (κ : Kind) (w c n : ℕ) (m l : List ℕ) (A : Given w c n m) where
 pub record Started (W : World) (w : ℕ) : Type 0 where
   pub whole : Whole W
   pub inv : InvOf W []
-  pub none-open : pending (lineAt (W .bench .workers) 0) ≡ 0
+  pub idle : lineAt (W .bench .workers) 0 ≡ Idle
   pub width : W .bench .width ≡ w
 
 pub fresh-started : (k w c n : ℕ) (m l : List ℕ) → freshOf k w c n m l .answer ≡ Accepted → Started (freshOf k w c n m l .world) w
 fresh-started k w c n m l e =
     let F = fresh-is k w c n m l e in
     subst (λ (W : World). Started W w) (sym (F .0))
-    (record { whole = fresh-whole (kindOf k) w c n m l (F .1); inv = fresh-inv (kindOf k) w c n m l (F .1); none-open = refl; width = refl })
+    (record { whole = fresh-whole (kindOf k) w c n m l (F .1); inv = fresh-inv (kindOf k) w c n m l (F .1); idle = refl; width = refl })

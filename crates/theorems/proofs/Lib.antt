@@ -22,6 +22,7 @@ pub mod SoundRun
 pub mod Fresh
 pub mod Translate
 pub mod PutNumbers
+pub mod EndedPuts
 pub mod NeverForeign
 pub mod Reached
 pub mod NothingLost

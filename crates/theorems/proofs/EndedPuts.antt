@@ -1,0 +1,307 @@
+-- The numbers of puts that end, finished or FULL, rise along every list: while a put is open its number is one of the used
+-- ones, and the next put to begin has a larger one.
+use mathlib.Core.Path.{_≡_, refl, sym, subst}
+use mathlib.Core.Bool.{Bool, true, false}
+use mathlib.Core.Logic.{_⊎_, inl, inr, _≢_}
+use mathlib.Core.List.{List, [], _∷_}
+use Prim.Native.Nat.{ℕ, zero, suc, _+_, _-_, _≤_, _<_}
+use native.Mathlib.Omega.{arith}
+use lib.Dec.{eqb}
+use lib.ListN.{set}
+use Rattle.model.specs.declared.Kind.{Kind}
+use Rattle.model.specs.declared.Kind.the-variants.{Lifo, Fifo, Deque}
+use Rattle.model.specs.declared.Task.{Task}
+use Rattle.model.specs.declared.Anchor.{Anchor}
+use Rattle.model.specs.declared.Line.{Line}
+use Rattle.model.specs.declared.Line.the-variants.{Idle, PutRead, PutTail, PutTest, PutNumber, PutPayload, PutFinish, Claim, Note, Copy, Publish, TakeRead, TakeTail, TakeTest, TakeNumber, TakePayload, TakeFinish, StealRead, StealTail, StealTest, StealNote, StealNumber, StealPayload, StealNext, StealCompare}
+use Rattle.model.specs.declared.Queue.{Queue}
+use Rattle.model.specs.declared.Operation.{Operation}
+use Rattle.model.specs.declared.Operation.the-variants.{Put, Take, Steal}
+use Rattle.model.specs.declared.Answer.{Answer}
+use Rattle.model.specs.declared.Answer.the-variants.{Accepted, Numbered, GoesOn, Finished, HandedOut, Empty, Full, Refused}
+use Rattle.model.specs.Tests.{if_then_else_}
+use Rattle.model.specs.Answers.{entryOf, task}
+use Rattle.model.specs.Figures.{isSame, isFull, isEmpty, stealIndex, putRead, takeRead, stealRead, note, stealLast}
+use Rattle.model.specs.Lines.{Effect, size, fits, copyOn, wordOf, lineStep}
+use Rattle.model.specs.World.{World, Outcome, lineAt}
+use Rattle.model.specs.Calls.{usedBy, firstLine, beginAnswer, begun, stepped, nextEffect, freshOf, Call, callOf}
+use Rattle.model.specs.Run.{Played, played}
+use Rattle.theorems.specs.Demand3.{At, finishes, FromFresh}
+use Rattle.theorems.proofs.Shape.{ThiefShape}
+use Rattle.theorems.proofs.Valid.{thieves, Whole}
+use Rattle.theorems.proofs.Cases.{MayBegin, MayStep, call-cases}
+use Rattle.theorems.proofs.WholeRun.{idle-is, line-same, line-other, not-thief, not-owner, in-crew, call-whole}
+use Rattle.theorems.proofs.Fresh.{Started, fresh-started}
+
+-- the call ends a put, with an entry of kind 1 or 4 and the number n
+abbrev pub EndsPut : ℕ → Played → Type 0
+EndsPut n s = ((entryOf (s .answer) .kind ≡ 1) ⊎ (entryOf (s .answer) .kind ≡ 4)) × (entryOf (s .answer) .number ≡ n)
+
+-- the number of the put that is open at a line; d if none is
+abbrev pub openPut : Line → ℕ → ℕ
+openPut Idle d = d
+openPut (PutRead t) d = t .number
+openPut (PutTail t h) d = t .number
+openPut (PutTest t r) d = t .number
+openPut (PutNumber t r) d = t .number
+openPut (PutPayload t r) d = t .number
+openPut (PutFinish t r) d = t .number
+openPut (Claim t) d = t .number
+openPut (Note t) d = t .number
+openPut (Copy t h n k) d = t .number
+openPut (Publish t) d = t .number
+openPut TakeRead d = d
+openPut (TakeTail h) d = d
+openPut (TakeTest r) d = d
+openPut (TakeNumber r) d = d
+openPut (TakePayload r x) d = d
+openPut (TakeFinish r t) d = d
+openPut StealRead d = d
+openPut (StealTail h) d = d
+openPut (StealTest r) d = d
+openPut (StealNote r) d = d
+openPut (StealNumber r k) d = d
+openPut (StealPayload r k x) d = d
+openPut (StealNext r t) d = d
+openPut (StealCompare r e t) d = d
+
+-- a call answers a. Before it the next put to end has number x, after it number y
+abbrev pub Next : ℕ → ℕ → Answer → Type 0
+Next x y Accepted = x ≤ y
+Next x y (Numbered n) = x ≤ y
+Next x y GoesOn = x ≤ y
+Next x y (Finished i t) = (t .number ≡ x) × (x < y)
+Next x y (HandedOut i t) = x ≤ y
+Next x y (Empty i) = x ≤ y
+Next x y (Full i t) = (t .number ≡ x) × (x < y)
+Next x y (Refused r) = x ≤ y
+
+-- with u numbers used the next put to end at the line o has number `openPut o (suc u)`: an open put's number is used
+abbrev pub Within : ℕ → Line → Type 0
+Within u o = (openPut o u ≤ u) × (openPut o (suc u) ≤ suc u)
+
+-- with u numbers used before it and v after it, a line o is left for o′
+abbrev Goes : ℕ → Line → ℕ → Line → Answer → Type 0
+Goes u o v o′ a = Within v o′ × Next (openPut o (suc u)) (openPut o′ (suc v)) a
+
+-- A LINE keeps its put open, or ends it
+module _ (u : ℕ) where
+  abbrev Leaves : Line → Effect → Type 0
+  Leaves o E = Goes u o u (E .line) (E .answer)
+
+  same-put : (o o′ : Line) → Within u o → ((d : ℕ) → openPut o′ d ≡ openPut o d) → Goes u o u o′ GoesOn
+  same-put o o′ l e = omega (arith, e u, e (suc u))
+
+  either : (o : Line) (x : Bool) (E E′ : Effect) → Leaves o E → Leaves o E′ → Leaves o (if x then E else E′)
+  unfolding if_then_else_
+  either o true E E′ a b = a
+  either o false E E′ a b = b
+
+either-line : (d n : ℕ) (x : Bool) (l l′ : Line) → openPut l d ≡ n → openPut l′ d ≡ n → openPut (if x then l else l′) d ≡ n
+unfolding if_then_else_
+either-line d n true l l′ a b = a
+either-line d n false l l′ a b = b
+
+put-reads : (κ : Kind) (a : Anchor) (t : Task) (d : ℕ) → openPut (putRead κ a t) d ≡ t .number
+put-reads Lifo a t d = refl
+put-reads Fifo a t d = refl
+put-reads Deque a t d = refl
+
+put-notes : (κ : Kind) (z : ℕ) (a : Anchor) (t : Task) (d : ℕ) → openPut (note κ z a t) d ≡ t .number
+put-notes Lifo z a t d = either-line d (t .number) (eqb z 0) _ _ refl refl
+put-notes Fifo z a t d = either-line d (t .number) (eqb (a .count - a .head) 0) _ _ refl refl
+put-notes Deque z a t d = either-line d (t .number) (eqb (a .count) 0) _ _ refl refl
+
+take-reads : (κ : Kind) (a : Anchor) (d : ℕ) → openPut (takeRead κ a) d ≡ d
+take-reads Lifo a d = refl
+take-reads Fifo a d = refl
+take-reads Deque a d = refl
+
+steal-reads : (κ : Kind) (a : Anchor) (d : ℕ) → openPut (stealRead κ a) d ≡ d
+steal-reads Lifo a d = refl
+steal-reads Fifo a d = refl
+steal-reads Deque a d = refl
+
+steal-lasts : (κ : Kind) (r : Anchor) (t : Task) (d : ℕ) → openPut (stealLast κ r t) d ≡ d
+steal-lasts Lifo r t d = refl
+steal-lasts Fifo r t d = refl
+steal-lasts Deque r t d = refl
+
+line-leaves : (u : ℕ) (κ : Kind) (w : ℕ) (q : Queue) (m : List ℕ) (i : ℕ) (o : Line) → Within u o → Leaves u o (lineStep κ w q m i o)
+unfolding lineStep
+line-leaves u κ w q m i Idle l = omega arith
+line-leaves u κ w q m i (PutRead t) l = same-put u (PutRead t) (putRead κ (q .anchor) t) l (put-reads κ (q .anchor) t)
+line-leaves u κ w q m i (PutTail t h) l = omega arith
+line-leaves u κ w q m i (PutTest t r) l = same-put u (PutTest t r) (if isFull κ (size q) r then Claim t else PutNumber t r) l (λ d. either-line d (t .number) (isFull κ (size q) r) (Claim t) (PutNumber t r) refl refl)
+line-leaves u κ w q m i (PutNumber t r) l = omega arith
+line-leaves u κ w q m i (PutPayload t r) l = omega arith
+line-leaves u κ w q m i (PutFinish t r) l = omega arith
+line-leaves u κ w q m i (Claim t) l = either u (Claim t) (fits q m) _ _ (omega arith) (omega arith)
+line-leaves u κ w q m i (Note t) l = same-put u (Note t) (note κ (size q) (q .anchor) t) l (put-notes κ (size q) (q .anchor) t)
+line-leaves u κ w q m i (Copy t h n k) l = same-put u (Copy t h n k) (copyOn t h n k) l (λ d. either-line d (t .number) (eqb (k + 1) n) (Publish t) (Copy t h n (k + 1)) refl refl)
+line-leaves u κ w q m i (Publish t) l = omega arith
+line-leaves u κ w q m i TakeRead l = same-put u TakeRead (takeRead κ (q .anchor)) l (take-reads κ (q .anchor))
+line-leaves u κ w q m i (TakeTail h) l = omega arith
+line-leaves u κ w q m i (TakeTest r) l = either u (TakeTest r) (isEmpty κ r) _ _ (omega arith) (omega arith)
+line-leaves u κ w q m i (TakeNumber r) l = omega arith
+line-leaves u κ w q m i (TakePayload r x) l = omega arith
+line-leaves u κ w q m i (TakeFinish r t) l = omega arith
+line-leaves u κ w q m i StealRead l = same-put u StealRead (stealRead κ (q .anchor)) l (steal-reads κ (q .anchor))
+line-leaves u κ w q m i (StealTail h) l = omega arith
+line-leaves u κ w q m i (StealTest r) l = either u (StealTest r) (isEmpty κ r) _ _ (omega arith) (omega arith)
+line-leaves u κ w q m i (StealNote r) l = omega arith
+line-leaves u κ w q m i (StealNumber r k) l = omega arith
+line-leaves u κ w q m i (StealPayload r k x) l =
+    let t = task x (wordOf κ q m k (stealIndex κ r) 1) in same-put u (StealPayload r k x) (stealLast κ r t) l (steal-lasts κ r t)
+line-leaves u κ w q m i (StealNext r t) l = omega arith
+line-leaves u κ w q m i (StealCompare r e t) l = either u (StealCompare r e t) (isSame κ (q .anchor) r) _ _ (omega arith) (omega arith)
+
+-- a thief has no put open, and so ends none
+thief-open : (κ : Kind) (w : ℕ) (q : Queue) (τ : ℕ) (θ : Line) → ThiefShape κ w q τ θ → (d : ℕ) → openPut θ d ≡ d
+thief-open κ w q τ Idle s d = refl
+thief-open κ w q τ (PutRead t) s d = absurd s
+thief-open κ w q τ (PutTail t h) s d = absurd s
+thief-open κ w q τ (PutTest t r) s d = absurd s
+thief-open κ w q τ (PutNumber t r) s d = absurd s
+thief-open κ w q τ (PutPayload t r) s d = absurd s
+thief-open κ w q τ (PutFinish t r) s d = absurd s
+thief-open κ w q τ (Claim t) s d = absurd s
+thief-open κ w q τ (Note t) s d = absurd s
+thief-open κ w q τ (Copy t h n k) s d = absurd s
+thief-open κ w q τ (Publish t) s d = absurd s
+thief-open κ w q τ TakeRead s d = absurd s
+thief-open κ w q τ (TakeTail h) s d = absurd s
+thief-open κ w q τ (TakeTest r) s d = absurd s
+thief-open κ w q τ (TakeNumber r) s d = absurd s
+thief-open κ w q τ (TakePayload r x) s d = absurd s
+thief-open κ w q τ (TakeFinish r t) s d = absurd s
+thief-open κ w q τ StealRead s d = refl
+thief-open κ w q τ (StealTail h) s d = refl
+thief-open κ w q τ (StealTest r) s d = refl
+thief-open κ w q τ (StealNote r) s d = refl
+thief-open κ w q τ (StealNumber r k) s d = refl
+thief-open κ w q τ (StealPayload r k x) s d = refl
+thief-open κ w q τ (StealNext r t) s d = refl
+thief-open κ w q τ (StealCompare r e t) s d = refl
+
+ends-none : (x y z : ℕ) (a : Answer) → y ≤ x → Next x y a → Next z z a
+ends-none x y z Accepted h n = omega arith
+ends-none x y z (Numbered m) h n = omega arith
+ends-none x y z GoesOn h n = omega arith
+ends-none x y z (Finished i t) h n = absurd (omega arith)
+ends-none x y z (HandedOut i t) h n = omega arith
+ends-none x y z (Empty i) h n = omega arith
+ends-none x y z (Full i t) h n = absurd (omega arith)
+ends-none x y z (Refused r) h n = omega arith
+
+-- A CALL. The number of the next put to end in a world; an open put's number is used
+abbrev pub next : World → ℕ
+next W = openPut (lineAt (W .bench .workers) 0) (suc (W .bench .used))
+
+abbrev pub OpenUsed : World → Type 0
+OpenUsed W = Within (W .bench .used) (lineAt (W .bench .workers) 0)
+
+abbrev pub Moves : World → Outcome → Type 0
+Moves W D = OpenUsed (D .world) × Next (next W) (next (D .world)) (D .answer)
+
+module _ {W : World} (H : Whole W) (J : OpenUsed W) where
+  -- the owner's line becomes x, or stays while a thief's becomes x
+  own-moves : (v : ℕ) (x : Line) (a : Answer) → 0 < W .bench .crew → Goes (W .bench .used) (lineAt (W .bench .workers) 0) v x a
+      → Goes (W .bench .used) (lineAt (W .bench .workers) 0) v (lineAt (set (W .bench .workers) 0 (record { line = x })) 0) a
+  own-moves v x a l g =
+      subst (λ (o : Line). Goes (W .bench .used) (lineAt (W .bench .workers) 0) v o a) (sym (line-same (W .bench .workers) 0 x (in-crew H 0 l))) g
+
+  thief-moves : (k : ℕ) (x : Line) (a : Answer) → ((z : ℕ) → Next z z a)
+      → Goes (W .bench .used) (lineAt (W .bench .workers) 0) (W .bench .used) (lineAt (set (W .bench .workers) (suc k) (record { line = x })) 0) a
+  thief-moves k x a n =
+      subst (λ (o : Line). Goes (W .bench .used) (lineAt (W .bench .workers) 0) (W .bench .used) o a)
+      (sym (line-other (W .bench .workers) (suc k) 0 x (omega arith))) (J, n _)
+
+  own-begins : (op : Operation) → MayBegin W 0 op
+      → Goes (W .bench .used) Idle (usedBy op (W .bench .used)) (firstLine op (W .bench .used)) (beginAnswer op (W .bench .used)) → Moves W (begun W 0 op)
+  own-begins op B g =
+      own-moves (usedBy op (W .bench .used)) (firstLine op (W .bench .used)) (beginAnswer op (W .bench .used)) (B .member)
+      (subst (λ (o : Line). Goes (W .bench .used) o (usedBy op (W .bench .used)) (firstLine op (W .bench .used)) (beginAnswer op (W .bench .used)))
+      (sym (idle-is (lineAt (W .bench .workers) 0) (B .idle))) g)
+
+  begun-moves : (i : ℕ) (op : Operation) → MayBegin W i op → Moves W (begun W i op)
+  begun-moves zero (Put p) B = own-begins (Put p) B (omega arith)
+  begun-moves (suc k) (Put p) B = not-thief k (B .hand)
+  begun-moves zero Take B = own-begins Take B (omega arith)
+  begun-moves (suc k) Take B = not-thief k (B .hand)
+  begun-moves zero Steal B = not-owner (B .hand)
+  begun-moves (suc k) Steal B = thief-moves k StealRead Accepted (omega arith)
+
+  line-of : (i : ℕ) → Within (W .bench .used) (lineAt (W .bench .workers) i)
+      → Leaves (W .bench .used) (lineAt (W .bench .workers) i) (nextEffect W i)
+  line-of i l = line-leaves (W .bench .used) (W .bench .kind) (W .bench .width) (W .bench .queue) (W .store) i (lineAt (W .bench .workers) i) l
+
+  thief-ends-none : (k z : ℕ) → Next z z (nextEffect W (suc k) .answer)
+  thief-ends-none k z =
+      let θ = thieves (W .bench .workers) k in
+      let e = thief-open _ _ _ _ θ (H .shape .th k) in
+      let L = line-of (suc k) (omega (arith, e (W .bench .used), e (suc (W .bench .used)))) in
+      ends-none (openPut θ (suc (W .bench .used))) (openPut (nextEffect W (suc k) .line) (suc (W .bench .used))) z (nextEffect W (suc k) .answer)
+      (omega (arith, e (suc (W .bench .used)), L .0)) (L .1)
+
+  stepped-moves : (i : ℕ) → MayStep W i → Moves W (stepped W i (nextEffect W i))
+  stepped-moves zero M = own-moves (W .bench .used) (nextEffect W 0 .line) (nextEffect W 0 .answer) (M .member) (line-of 0 J)
+  stepped-moves (suc k) M = thief-moves k (nextEffect W (suc k) .line) (nextEffect W (suc k) .answer) (thief-ends-none k)
+
+  pub call-moves : (c : Call) → Moves W (callOf W c)
+  call-moves c = call-cases (Moves W) W (λ r l. (J, omega arith)) begun-moves stepped-moves c
+
+-- A LIST. What ends a put ends the next one, and the next number only rises
+pub next-rises : (x y : ℕ) (a : Answer) → Next x y a → finishes a + x ≤ y
+next-rises x y Accepted n = omega arith
+next-rises x y (Numbered m) n = omega arith
+next-rises x y GoesOn n = omega arith
+next-rises x y (Finished i t) n = omega arith
+next-rises x y (HandedOut i t) n = omega arith
+next-rises x y (Empty i) n = omega arith
+next-rises x y (Full i t) n = omega arith
+next-rises x y (Refused r) n = omega arith
+
+abbrev Ends : Answer → Type 0
+Ends a = (entryOf a .kind ≡ 1) ⊎ (entryOf a .kind ≡ 4)
+
+other-kind : (k : ℕ) {A : Type 0} → k ≢ 1 → k ≢ 4 → (k ≡ 1) ⊎ (k ≡ 4) → A
+other-kind k a b (inl e) = absurd (a e)
+other-kind k a b (inr e) = absurd (b e)
+
+ends-next : (x y : ℕ) (a : Answer) → Next x y a → Ends a → (entryOf a .number ≡ x) × (x < y)
+ends-next x y Accepted n e = other-kind 0 (omega arith) (omega arith) e
+ends-next x y (Numbered m) n e = other-kind 0 (omega arith) (omega arith) e
+ends-next x y GoesOn n e = other-kind 0 (omega arith) (omega arith) e
+ends-next x y (Finished i t) n e = n
+ends-next x y (HandedOut i t) n e = other-kind 2 (omega arith) (omega arith) e
+ends-next x y (Empty i) n e = other-kind 3 (omega arith) (omega arith) e
+ends-next x y (Full i t) n e = n
+ends-next x y (Refused r) n e = other-kind 0 (omega arith) (omega arith) e
+
+ended-from : (cs : List Call) (W : World) → Whole W → OpenUsed W → (j n : ℕ) → At (played W cs) j (EndsPut n) → next W ≤ n
+unfolding played
+ended-from [] W H J j n a = absurd a
+ended-from (c ∷ cs) W H J zero n (e, q) = omega (arith, ends-next _ _ (callOf W c .answer) (call-moves H J c .1) e)
+ended-from (c ∷ cs) W H J (suc j) n a =
+    let M = call-moves H J c in
+    omega (arith, next-rises _ _ (callOf W c .answer) (M .1), ended-from cs (callOf W c .world) (call-whole H c) (M .0) j n a)
+
+ended-rise : (cs : List Call) (W : World) → Whole W → OpenUsed W → (i j m n : ℕ) → i < j → At (played W cs) i (EndsPut m) → At (played W cs) j (EndsPut n) → m < n
+unfolding played
+ended-rise [] W H J i j m n l a b = absurd a
+ended-rise (c ∷ cs) W H J i zero m n l a b = absurd (omega arith)
+ended-rise (c ∷ cs) W H J zero (suc j) m n l (e, q) b =
+    let M = call-moves H J c in
+    omega (arith, ends-next _ _ (callOf W c .answer) (M .1) e, ended-from cs (callOf W c .world) (call-whole H c) (M .0) j n b)
+ended-rise (c ∷ cs) W H J (suc i) (suc j) m n l a b =
+    ended-rise cs (callOf W c .world) (call-whole H c) (call-moves H J c .0) i j m n (omega arith) a b
+
+pub started-open : (W : World) (w : ℕ) → Started W w → OpenUsed W
+started-open W w F = subst (Within (W .bench .used)) (sym (F .idle)) (omega arith)
+
+-- THE CLAIM: of two puts that end, the later one has the larger number
+pub ended-puts-rise : FromFresh (λ W. (cs : List Call) (i j m n : ℕ) → i < j → At (played W cs) i (EndsPut m) → At (played W cs) j (EndsPut n) → m < n)
+ended-puts-rise k w c n m l e cs =
+    let F = fresh-started k w c n m l e in
+    ended-rise cs (freshOf k w c n m l .world) (F .whole) (started-open _ _ F)
