@@ -27,6 +27,7 @@ pub mod NeverForeign
 pub mod Reached
 pub mod NothingLost
 pub mod LogFront
+pub mod Entries
 pub mod LogOrder
 pub mod FifoOrder
 pub mod WidestTag

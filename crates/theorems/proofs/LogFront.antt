@@ -6,6 +6,7 @@ use Prim.Native.Nat.{ℕ, zero, suc, _+_, _≤_, _<_}
 use native.Mathlib.Omega.{arith}
 use lib.Dec.{ltb}
 use lib.ListN.{length, set, take, length-set}
+use lib.Seq.{length-take-le}
 use borrow.Author.Tests.{ltb-false}
 use Rattle.model.specs.declared.Operation.{Operation}
 use Rattle.model.specs.declared.Operation.the-variants.{Put, Take, Steal}
@@ -17,9 +18,11 @@ use Rattle.model.specs.World.{World, Outcome}
 use Rattle.model.specs.Calls.{beginAnswer, logFull, frontOf, kindOf, Call, callOf, nextEffect}
 use Rattle.model.specs.Run.{played, after}
 use Rattle.model.proofs.Tests.{or-false}
+use Rattle.theorems.specs.Demand3.{FromFresh}
 use Rattle.theorems.specs.Order.{wordsOf, entries, LogIsAnswers}
 use Rattle.theorems.proofs.Cases.{call-cases}
-use Rattle.theorems.proofs.Fresh.{start, fresh-is}
+use Rattle.theorems.proofs.WholeRun.{whole-run}
+use Rattle.theorems.proofs.Fresh.{start, fresh-is, fresh-started}
 
 -- a word written right behind a front makes the front one word longer; so the four words of an entry make it four longer
 take-next : (l : List ℕ) (n m x : ℕ) → m ≡ suc n → n < length l → take m (set l n x) ≡ take n l ++ (x ∷ [])
@@ -135,3 +138,9 @@ pub log-is-answers : LogIsAnswers
 log-is-answers k w c n m l e =
     subst (λ (W : World). (cs : List Call) → frontOf (after W cs .bench) (after W cs .log) ≡ entries (played W cs))
     (sym (fresh-is k w c n m l e .0)) (λ cs. front-grows cs (start (kindOf k) w c n m l) (omega arith))
+
+-- which lies in the log, so that the front has as many words as are written
+pub written-is : FromFresh (λ W. (cs : List Call) → after W cs .bench .written ≡ length (entries (played W cs)))
+unfolding frontOf
+written-is k w c n m l e cs =
+    sym (length-take-le _ _ (whole-run cs _ (fresh-started k w c n m l e .whole) .logged)) ∙ ap length (log-is-answers k w c n m l e cs)
