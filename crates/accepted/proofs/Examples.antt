@@ -16,7 +16,7 @@ use Rattle.model.specs.Calls.{freshOf, beginOf, stepOf, frontOf, Call, begin, s
 use Rattle.model.specs.Run.{after}
 use Rattle.model.specs.Window.{windowSize}
 use Rattle.theorems.proofs.Examples.{does, p1, bench}
-use Rattle.judge.specs.Judgement.{allBelow, accepts}
+use Rattle.judgement.specs.Judgement.{allBelow, accepts}
 use Rattle.accepted.specs.Runs.{windowNumbers}
 
 abbrev accepted : World → List Call → Bool

@@ -28,8 +28,8 @@ use Rattle.theorems.proofs.Entries.{kind-1, kind-2, place, place-rises, placed,
 use Rattle.theorems.proofs.EndedPuts.{EndsPut, ended-puts-rise}
 use Rattle.theorems.proofs.NothingLost.{demand3}
 use Rattle.theorems.proofs.LogFront.{log-is-answers, written-is}
-use Rattle.judge.specs.Judgement.{allBelow, known, numbered, rises, finishedAs, honest, listed, kept, accepts}
-use Rattle.judge.proofs.All.{all-true}
+use Rattle.judgement.specs.Judgement.{allBelow, known, numbered, rises, finishedAs, honest, listed, kept, accepts}
+use Rattle.judgement.proofs.All.{all-true}
 use Rattle.accepted.specs.Runs.{windowNumbers, RunsAccepted}
 
 -- a test that is asked only where another holds

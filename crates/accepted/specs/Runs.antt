@@ -8,7 +8,7 @@ use Rattle.model.specs.Calls.{Call, frontOf}
 use Rattle.model.specs.Run.{after}
 use Rattle.model.specs.Window.{windowSize, windowWord}
 use Rattle.theorems.specs.Demand3.{FewPuts, FromFresh}
-use Rattle.judge.specs.Judgement.{accepts}
+use Rattle.judgement.specs.Judgement.{accepts}
 
 -- the put numbers of the window's first tasks
 abbrev pub windowNumbers : World → ℕ → List ℕ

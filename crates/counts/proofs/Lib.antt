@@ -1,3 +1,1 @@
-pub mod Bools
 pub mod Places
-pub mod Seen

@@ -15,6 +15,7 @@ use model::Region;
 use model::Task;
 use model::Worker;
 use queues::Bench;
+use queues::Reply;
 
 fn text(bytes: &[u8]) {
     io::write_all(STDOUT_FILENO, bytes);
@@ -44,47 +45,53 @@ fn refusal_number(why: Refusal) -> u32
     }
 }
 
-fn task_text(task: Task) {
-    text(b"task ");
-    number(task.number);
-    text(b" with payload ");
-    number(task.payload);
+// What an answer says, in numbers: 0 accepted, 1 to 4 the kind of its log entry, 5 goes on, 6 refused, 7 accepted with a put
+// number; and beside it the put's number or the refusal's.
+struct Said {
+    kind: u32,
+    number: u32,
 }
 
-fn answer_text(answer: Answer) {
+fn said_as(kind: u32, number: u32) -> Said {
+    Said { kind, number }
+}
+
+fn heard(answer: Answer) -> Said {
     match answer {
-        Answer::Accepted => text(b"accepted"),
-        Answer::Numbered { number: n } => {
-            text(b"accepted as put ");
-            number(n);
-        }
-        Answer::GoesOn => text(b"goes on"),
-        Answer::Finished { worker: _, task } => {
-            text(b"finished ");
-            task_text(task);
-        }
-        Answer::HandedOut { worker: _, task } => {
-            text(b"handed out ");
-            task_text(task);
-        }
-        Answer::Empty { worker: _ } => text(b"EMPTY"),
-        Answer::Full { worker: _, task } => {
-            text(b"FULL for ");
-            task_text(task);
-        }
-        Answer::Refused { why } => {
-            text(b"refused ");
-            number(refusal_number(why));
-        }
+        Answer::Accepted => said_as(0, 0),
+        Answer::Numbered { number } => said_as(7, number),
+        Answer::GoesOn => said_as(5, 0),
+        Answer::Finished { worker: _, task } => said_as(1, task.number),
+        Answer::HandedOut { worker: _, task } => said_as(2, task.number),
+        Answer::Empty { worker: _ } => said_as(3, 0),
+        Answer::Full { worker: _, task } => said_as(4, task.number),
+        Answer::Refused { why } => said_as(6, refusal_number(why)),
     }
+}
+
+fn said_text(said: Said) {
+    let kind = said.kind;
+    match kind {
+        1 => text(b"finished put "),
+        2 => text(b"handed out put "),
+        3 => text(b"EMPTY"),
+        4 => text(b"FULL for put "),
+        5 => text(b"goes on"),
+        6 => text(b"refused "),
+        7 => text(b"accepted as put "),
+        _ => text(b"accepted"),
+    }
+    if 0 < said.number {
+        number(said.number);
+    }
+    text(b"\n");
 }
 
 // A line of output.
 fn told(tried: &[u8], answer: Answer) {
     text(tried);
     text(b": ");
-    answer_text(answer);
-    text(b"\n");
+    said_text(heard(answer));
 }
 
 // Each try has memory of its own: a store of 30 words and a log of 8.
@@ -95,67 +102,68 @@ fn try_fresh(tried: &[u8], kind: u32, width: u32, size: u32, crew: u32) {
     told(tried, answer);
 }
 
-fn try_begin(tried: &[u8], state: model::Bench, worker: u32, operation: Operation) {
+fn begun(state: model::Bench, worker: u32, operation: Operation) -> Answer {
     let store = [0u32; 30];
     let log = [0u32; 8];
     let bench = Bench { state: state };
-    let begun = bench.begin(worker, operation, &store, &log);
-    let answer = begun.answer;
-    told(tried, answer);
+    let reply = bench.begin(worker, operation, &store, &log);
+    reply.answer
 }
 
-fn try_step(tried: &[u8], state: model::Bench, worker: u32) {
+fn stepped(state: model::Bench, worker: u32) -> Answer {
     let mut store = [0u32; 30];
     let mut log = [0u32; 8];
     let bench = Bench { state: state };
-    let stepped = bench.step(worker, &mut store, &mut log);
-    let answer = stepped.answer;
-    told(tried, answer);
+    let reply = bench.step(worker, &mut store, &mut log);
+    reply.answer
 }
 
 // The owner takes: a state within the limits is refused for no other reason than a busy owner.
 fn try_state(tried: &[u8], state: model::Bench) {
-    try_begin(tried, state, 0, Operation::Take);
-}
-
-// Steps that are not told.
-fn steps(bench: Bench, worker: u32, times: u32, store: &mut [u32], log: &mut [u32]) -> Bench {
-    let mut at = bench;
-    let mut done: u32 = 0;
-    while done < times {
-        let stepped = at.step(worker, store, log);
-        at = stepped.bench;
-        done += 1;
-    }
-    at
-}
-
-// A step of the owner, told.
-fn told_step(tried: &[u8], bench: Bench, store: &mut [u32], log: &mut [u32]) -> Bench {
-    let stepped = bench.step(0, store, log);
-    let answer = stepped.answer;
+    let answer = begun(state, 0, Operation::Take);
     told(tried, answer);
-    stepped.bench
 }
 
-// A put, and a take, of which the last step is told.
-fn told_put(tried: &[u8], bench: Bench, payload: u32, store: &mut [u32], log: &mut [u32]) -> Bench {
-    let begun = bench.begin(0, Operation::Put { payload: payload }, store, log);
-    let last = steps(begun.bench, 0, 4, store, log);
-    told_step(tried, last, store, log)
+// The state that an accepted fresh makes: 2 slots, tags of 4 bits, a crew of 3.
+fn base(kind: u32) -> model::Bench {
+    let mut store = [0u32; 30];
+    let made = Bench::fresh(kind, 4, 2, 3, &mut store);
+    let bench = made.bench;
+    bench.state
 }
 
-fn told_take(tried: &[u8], bench: Bench, store: &mut [u32], log: &mut [u32]) -> Bench {
-    let begun = bench.begin(0, Operation::Take, store, log);
-    let last = steps(begun.bench, 0, 4, store, log);
-    told_step(tried, last, store, log)
+// That state with so many put numbers used, and the owner busy with a take or not.
+fn played(used: u32, busy: bool) -> model::Bench {
+    let mut state = base(1);
+    state.used = used;
+    if busy {
+        state.workers[0] = Worker {
+            line: Line::TakeRead,
+        };
+    }
+    state
 }
 
-fn front_text(bench: Bench, log: &[u32]) {
-    let front = bench.front(log);
-    text(b"the log's front has ");
-    io::print_decimal(STDOUT_FILENO, front.len() as u64);
-    text(b" words\n");
+fn try_begin(tried: &[u8], used: u32, busy: bool, worker: u32, operation: Operation) {
+    let answer = begun(played(used, busy), worker, operation);
+    told(tried, answer);
+}
+
+fn try_put(tried: &[u8], used: u32, busy: bool, worker: u32) {
+    try_begin(tried, used, busy, worker, Operation::Put { payload: 9 });
+}
+
+fn try_take(tried: &[u8], used: u32, busy: bool, worker: u32) {
+    try_begin(tried, used, busy, worker, Operation::Take);
+}
+
+fn try_steal(tried: &[u8], used: u32, busy: bool, worker: u32) {
+    try_begin(tried, used, busy, worker, Operation::Steal);
+}
+
+fn try_step(tried: &[u8], used: u32, busy: bool, worker: u32) {
+    let answer = stepped(played(used, busy), worker);
+    told(tried, answer);
 }
 
 // Each of fresh's refusals, and then their order: a call that breaks every limit, then one fewer each.
@@ -182,111 +190,77 @@ fn fresh_order() {
 }
 
 // Each of begin's and step's refusals but 11.
-fn refusals(made: model::Bench) {
-    try_step(b"a step of worker 3 of 3", made, 3);
-    try_step(b"a step of an idle worker", made, 1);
-    try_begin(b"a take by worker 3 of 3", made, 3, Operation::Take);
-    try_begin(b"a thief takes", made, 1, Operation::Take);
-    try_begin(b"a thief puts", made, 1, Operation::Put { payload: 9 });
-    try_begin(b"the owner steals", made, 0, Operation::Steal);
-    try_begin(b"the owner puts", made, 0, Operation::Put { payload: 9 });
-    let busy = with_line(made, 0, Line::TakeRead);
-    try_begin(
-        b"the busy owner puts",
-        busy,
-        0,
-        Operation::Put { payload: 9 },
-    );
-    let spent = with_used(made, 65535);
-    try_begin(
-        b"a put after number 65535",
-        spent,
-        0,
-        Operation::Put { payload: 9 },
-    );
-    try_begin(b"a take after number 65535", spent, 0, Operation::Take);
+fn refusals() {
+    try_step(b"a step of worker 3 of 3", 0, false, 3);
+    try_step(b"a step of an idle worker", 0, false, 1);
+    try_take(b"a take by worker 3 of 3", 0, false, 3);
+    try_take(b"a thief takes", 0, false, 1);
+    try_put(b"a thief puts", 0, false, 1);
+    try_steal(b"the owner steals", 0, false, 0);
+    try_put(b"the owner puts", 0, false, 0);
+    try_put(b"the busy owner puts", 0, true, 0);
+    try_put(b"a put after number 65535", 65535, false, 0);
+    try_take(b"a take after number 65535", 65535, false, 0);
 }
 
-// Calls that several refusals fit.
-fn order(made: model::Bench) {
-    let busy = with_used(with_line(made, 0, Line::TakeRead), 65535);
-    let foreign = with_used(busy, 65536);
-    try_begin(
-        b"a foreign state, worker 9 takes",
-        foreign,
-        9,
-        Operation::Take,
-    );
-    try_begin(
-        b"worker 9 puts, put numbers spent",
-        busy,
-        9,
-        Operation::Put { payload: 9 },
-    );
-    try_begin(b"the busy owner steals", busy, 0, Operation::Steal);
-    try_begin(
-        b"the busy owner puts, put numbers spent",
-        busy,
-        0,
-        Operation::Put { payload: 9 },
-    );
-    try_step(b"a step of worker 9 in a foreign state", foreign, 9);
-    try_step(b"a step of worker 9", busy, 9);
+// Calls that several refusals fit: 65,536 put numbers used make the state foreign.
+fn order() {
+    try_take(b"a foreign state, worker 9 takes", 65536, true, 9);
+    try_put(b"worker 9 puts, put numbers spent", 65535, true, 9);
+    try_steal(b"the busy owner steals", 65535, true, 0);
+    try_put(b"the busy owner puts, put numbers spent", 65535, true, 0);
+    try_step(b"a step of worker 9 in a foreign state", 65536, true, 9);
+    try_step(b"a step of worker 9", 65535, true, 9);
 }
 
-// The log's last words: an operation that ends with 4 words left, and one with 3.
-fn log_room() {
+fn front_text(bench: Bench, log: &[u32]) {
+    let front = bench.front(log);
+    text(b"the log's front has ");
+    io::print_decimal(STDOUT_FILENO, front.len() as u64);
+    text(b" words\n");
+}
+
+// A put from its begin to its last line.
+fn put(bench: Bench, store: &mut [u32], log: &mut [u32]) -> Reply {
+    let mut last = bench.begin(0, Operation::Put { payload: 65 }, store, log);
+    let mut line: u32 = 0;
+    while line < 5 {
+        let at = last.bench;
+        last = at.step(0, store, log);
+        line += 1;
+    }
+    last
+}
+
+// Two puts, of which the end of the second is told: the first has left 4 words fewer in the log.
+fn try_log(tried: &[u8], log: &mut [u32]) {
     let mut store = [0u32; 4];
-    let mut log = [0u32; 8];
-    let mut longer = [0u32; 11];
-    let mut shorter = [0u32; 7];
     let made = Bench::fresh(1, 4, 2, 1, &mut store);
-    let one = told_put(
-        b"the end of a put, 8 words left in the log",
-        made.bench,
-        65,
-        &mut store,
-        &mut log,
-    );
-    let full = told_put(
-        b"the end of a put, 4 words left in the log",
-        one,
-        66,
-        &mut store,
-        &mut log,
-    );
-    front_text(full, &log);
-    let stuck = told_take(
-        b"the end of a take, 3 words left in the log",
-        full,
-        &mut store,
-        &mut longer,
-    );
-    front_text(stuck, &longer);
-    told_step(
-        b"the same with a log shorter than its length",
-        stuck,
-        &mut store,
-        &mut shorter,
-    );
-    front_text(stuck, &shorter);
+    let one = put(made.bench, &mut store, log);
+    let two = put(one.bench, &mut store, log);
+    let answer = two.answer;
+    told(tried, answer);
+    front_text(two.bench, log);
 }
 
-// The state that an accepted fresh makes: 2 slots, tags of 4 bits, a crew of 3.
-fn base(kind: u32) -> model::Bench {
-    let mut store = [0u32; 30];
-    let made = Bench::fresh(kind, 4, 2, 3, &mut store);
-    let bench = made.bench;
-    bench.state
+// The log's last words.
+fn log_room() {
+    let mut eight = [0u32; 8];
+    let mut seven = [0u32; 7];
+    try_log(b"the end of a put, 4 words left in the log", &mut eight);
+    try_log(b"the end of a put, 3 words left in the log", &mut seven);
+}
+
+// The front of a log of 8 words in a state that has more of them written.
+fn short_front() {
+    let log = [0u32; 8];
+    let mut state = base(1);
+    state.written = 12;
+    text(b"12 words written in a log of 8: ");
+    front_text(Bench { state: state }, &log);
 }
 
 // States that no call made, each like `base` but for what is told.
-fn with_used(state: model::Bench, used: u32) -> model::Bench {
-    let mut next = state;
-    next.used = used;
-    next
-}
-
 fn with_line(state: model::Bench, worker: usize, line: Line) -> model::Bench
     requires { ⌜ worker < 8 ⌝ }
 {
@@ -484,10 +458,10 @@ fn foreign_thieves() {
 fn main() {
     fresh_refusals();
     fresh_order();
-    let made = base(1);
-    refusals(made);
-    order(made);
+    refusals();
+    order();
     log_room();
+    short_front();
     foreign_numbers();
     foreign_directories();
     foreign_anchors();

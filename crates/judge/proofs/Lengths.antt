@@ -8,8 +8,8 @@ use lib.ListN.{length, getD, replicate}
 use borrow.Author.Tests.{le-leb, lt-leb, eq-eqb, ne-eqb}
 use Rattle.model.specs.Tests.{if_then_else_, _and_}
 use Rattle.model.proofs.Tests.{if-true, if-false, fails, and-both, and-false}
-use Rattle.judge.specs.declared.Verdict.the-variants.{TooLong, BadLength}
-use Rattle.judge.specs.Judgement.{wordsOf, judged, judgedWords}
+use Rattle.judgement.specs.declared.Verdict.the-variants.{TooLong, BadLength}
+use Rattle.judgement.specs.Judgement.{wordsOf, judged, judgedWords}
 
 module _ (log list : List ℕ) where
   pub long-log : 65536 < length log → TooLong ≡ judged log list

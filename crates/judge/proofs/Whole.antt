@@ -6,9 +6,9 @@ use Prim.Native.Nat.{ℕ, _-_}
 use Rattle.model.specs.Tests.{if_then_else_, _and_}
 use Rattle.model.specs.Counts.{isKind, countBelow, outFirst}
 use Rattle.model.proofs.Tests.{if-true, if-false, and-left, and-right, and-both, and-assoc, fails, and-false}
-use Rattle.judge.specs.declared.Verdict.{Verdict}
-use Rattle.judge.specs.declared.Verdict.the-variants.{No, Accepted}
-use Rattle.judge.specs.Judgement.{allBelow, known, rises, honest, kept, accepts, judgedWords}
+use Rattle.judgement.specs.declared.Verdict.{Verdict}
+use Rattle.judgement.specs.declared.Verdict.the-variants.{No, Accepted}
+use Rattle.judgement.specs.Judgement.{allBelow, known, rises, honest, kept, accepts, judgedWords}
 
 module _ (l : List ℕ) (n : ℕ) (stored : List ℕ) (m : ℕ) where
   abbrev first-two : Bool

@@ -15,7 +15,8 @@ use Rattle.model.specs.Tests.{if_then_else_}
 use Rattle.model.specs.Memory.{nowhere, offsetAt, sizeAt}
 use Rattle.model.specs.Lines.{size}
 use Rattle.model.specs.Limits.{tidy, directoryOk}
-use Rattle.limits.specs.Parts.{startsOk, followsOk, Doubles}
+use Rattle.ranges.specs.Doubles.{Doubles}
+use Rattle.limits.specs.Parts.{startsOk, followsOk}
 use Rattle.model.proofs.Tests.{holds, and-left, and-right}
 use Rattle.model.proofs.Directory.{size-le, tidy-front, tidy-size, tidy-doubled}
 use Rattle.limits.proofs.Scan.{fails-by}

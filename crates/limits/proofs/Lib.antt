@@ -1,4 +1,3 @@
-pub mod Sizes
 pub mod Scan
 pub mod Directory
 pub mod Crew

@@ -2,7 +2,7 @@
 use mathlib.Core.Bool.{Bool, true}
 use mathlib.Core.List.{List}
 use mathlib.Core.Path.{_≡_}
-use Prim.Native.Nat.{ℕ, zero, suc, _+_, _*_, _/_, _^_, _≤_, _<_}
+use Prim.Native.Nat.{ℕ, zero, suc, _+_, _*_, _/_}
 use lib.Dec.{eqb, ltb, leb}
 use Rattle.model.specs.declared.Kind.{Kind}
 use Rattle.model.specs.declared.Line.{Line}
@@ -11,10 +11,10 @@ use Rattle.model.specs.declared.Region.{Region}
 use Rattle.model.specs.declared.Worker.{Worker}
 use Rattle.model.specs.declared.Bench.{Bench}
 use Rattle.model.specs.Tests.{if_then_else_, _and_}
-use Rattle.model.specs.Memory.{sizeAt}
 use Rattle.model.specs.Lines.{size}
 use Rattle.model.specs.World.{lineAt, isIdle}
 use Rattle.model.specs.Limits.{isSize, anchorOk, numberOk, ownerOk, thiefOk, thievesOk}
+use Rattle.ranges.specs.Doubles.{Doubles}
 use Rattle.limits.specs.declared.Scope.{Scope}
 
 -- an array's size in tasks
@@ -46,10 +46,6 @@ abbrev pub contentsOk : Bench → Bool
 contentsOk b =
     anchorOk (b .kind) (b .width) (size (b .queue)) (b .queue .anchor)
     and numberOk (b .used) and workersOk (b .kind) (b .width) (b .queue) (b .crew) (b .workers) 8
-
--- each published array is twice the one before; f is the first one's size
-abbrev pub Doubles : Queue → ℕ → Type 0
-Doubles q f = (k : ℕ) → k < q .published → (sizeAt (q .arrays) k ≡ f * 2 ^ k) × (f * 2 ^ k ≤ 1024)
 
 -- S tells of the queue q what a line's limits ask
 abbrev pub Scoped : Scope → Queue → Type 0

@@ -1,138 +1,27 @@
 // The state limits of refusal 12, as code of early returns: `valid` is true of exactly the states that
 // the definitions take for no foreign ones. A foreign state holds any 32-bit values, so each limit is
 // tested before a later test counts on it, and a sum of two free values is worked out in 64 bits.
-// Uses `model`. It is used by `state`, `machine` and `queues`.
+// Uses `model`, `stages`, `admission` and `ranges`. It is used by `machine` and `queues`.
 ghost use mathlib.Core.Path.{_≡_};
 ghost use mathlib.Core.Bool.{false};
-ghost use Prim.Native.Nat.{_+_, _-_, _*_, _/_, _^_, _≤_, _<_};
+ghost use Prim.Native.Nat.{_+_, _≤_, _<_};
 ghost use lib.Dec.{eqb, ltb, leb};
 ghost use lib.ListN.{length, getD};
+ghost use Rattle.model.specs.declared.Queue.{Queue};
 ghost use Rattle.model.specs.Tests.{if_then_else_, _and_};
 ghost use Rattle.model.specs.Memory.{nowhere, sizeAt};
 ghost use Rattle.model.specs.Lines.{size};
-ghost use Rattle.model.specs.World.{stage, isIdle, isExpanding};
-ghost use Rattle.model.specs.Limits.{
-  isSize,
-  widthOk,
-  crewOk,
-  tidy,
-  taken,
-  directoryOk,
-  readOk,
-  nearOk,
-  anchorOk,
-  headOk,
-  roomOk,
-  someOk,
-  notedOk,
-  slotOk,
-  placeOk,
-  isDeque,
-  nextOk,
-  numberOk,
-  lineOk,
-  validOf,
-};
+ghost use Rattle.model.specs.World.{isIdle, isExpanding};
+ghost use Rattle.model.specs.Limits.{tidy, taken, directoryOk, validOf};
 ghost use Rattle.model.specs.Calls.{lent};
-ghost use Rattle.limits.specs.Parts.{
-  startsOk,
-  followsOk,
-  memberOk,
-  workersOk,
-  contentsOk,
-  Doubles,
-  Scoped,
-};
-use model::Anchor;
+ghost use Rattle.ranges.specs.Doubles.{Doubles};
+ghost use Rattle.limits.specs.Parts.{startsOk, followsOk, memberOk, workersOk, contentsOk, Scoped};
 use model::Bench;
 use model::Kind;
 use model::Line;
 use model::Queue;
 use model::Region;
-use model::Task;
 use model::Worker;
-
-// How many tags have `width` bits.
-pub fn tag_count(width: u32) -> u32
-    requires { ⌜ width ≤ 16 ⌝ }
-    ensures { λ r. ⌜ r ≡ 2 ^ width ⌝ }
-{
-    1u32 << width
-}
-
-// The sizes of arrays, in tasks.
-pub fn is_size(tasks: u32) -> bool
-    ensures { λ r. ⌜ r ≡ isSize 10 tasks ⌝ }
-{
-    match tasks {
-        1 | 2 | 4 | 8 | 16 | 32 | 64 | 128 | 256 | 512 | 1024 => true,
-        _ => false,
-    }
-}
-
-pub fn width_ok(width: u32) -> bool
-    ensures { λ r. ⌜ r ≡ widthOk width ⌝ }
-{
-    0 < width && width <= 16
-}
-
-pub fn crew_ok(crew: u32) -> bool
-    ensures { λ r. ⌜ r ≡ crewOk crew ⌝ }
-{
-    0 < crew && crew <= 8
-}
-
-// Where a worker stands in its operation: the numbers are those of the definition.
-pub fn stage(line: Line) -> u32
-    ensures { λ r. ⌜ r ≡ stage line ⌝ }
-{
-    match line {
-        Line::Idle => 0,
-        Line::PutRead { task: _ } => 1,
-        Line::PutTail { task: _, head: _ } => 3,
-        Line::PutTest { task: _, read: _ } => 3,
-        Line::PutNumber { task: _, read: _ } => 3,
-        Line::PutPayload { task: _, read: _ } => 3,
-        Line::PutFinish { task: _, read: _ } => 3,
-        Line::Claim { task: _ } => 3,
-        Line::Note { task: _ } => 2,
-        Line::Copy {
-            task: _,
-            head: _,
-            noted: _,
-            copied: _,
-        } => 2,
-        Line::Publish { task: _ } => 2,
-        Line::TakeRead => 1,
-        Line::TakeTail { head: _ } => 3,
-        Line::TakeTest { read: _ } => 3,
-        Line::TakeNumber { read: _ } => 3,
-        Line::TakePayload { read: _, number: _ } => 3,
-        Line::TakeFinish { read: _, task: _ } => 3,
-        Line::StealRead => 4,
-        Line::StealTail { head: _ } => 5,
-        Line::StealTest { read: _ } => 5,
-        Line::StealNote { read: _ } => 5,
-        Line::StealNumber { read: _, place: _ } => 5,
-        Line::StealPayload {
-            read: _,
-            place: _,
-            number: _,
-        } => 5,
-        Line::StealNext { read: _, task: _ } => 5,
-        Line::StealCompare {
-            read: _,
-            next: _,
-            task: _,
-        } => 5,
-    }
-}
-
-fn number_ok(number: u32) -> bool
-    ensures { λ r. ⌜ r ≡ numberOk number ⌝ }
-{
-    number <= 65535
-}
 
 // The directory's first array starts the store.
 fn starts(first: Region) -> bool
@@ -145,7 +34,7 @@ fn starts(first: Region) -> bool
     if first.length != 2 * tasks {
         return false;
     }
-    is_size(tasks)
+    admission::is_size(tasks)
 }
 
 // An array lies behind the one before it and is twice as long.
@@ -219,7 +108,7 @@ fn fits(queue: Queue, store: &[u32]) -> bool
 fn claims_ok(published: u32, claimed: u32, owner: Line) -> bool
     ensures { λ r. ⌜ r ≡ eqb claimed (if isExpanding owner then published + 1 else published) ⌝ }
 {
-    if stage(owner) == 2 {
+    if stages::stage(owner) == 2 {
         claimed as u64 == published as u64 + 1
     } else {
         claimed == published
@@ -246,257 +135,6 @@ fn directory_ok(queue: Queue, store: &[u32], owner: Line) -> bool
     fits(queue, store)
 }
 
-// An anchor as a worker read it, in an array of `tasks`.
-fn read_ok(kind: Kind, width: u32, tasks: u32, read: Anchor) -> bool
-    requires { ⌜ width ≤ 16 ⌝ }
-    ensures { λ r. ⌜ r ≡ readOk kind width tasks read ⌝ }
-{
-    let head = read.head;
-    let count = read.count;
-    let tag = read.tag;
-    let tags = tag_count(width);
-    match kind {
-        Kind::Lifo => head == 0 && (count <= tasks && tag < tags),
-        Kind::Fifo => head <= count && (count <= 65535 && tag == 0),
-        Kind::Deque => head < 2048 && (count <= tasks && tag < tags),
-    }
-}
-
-// FIFO's tail is at most the size ahead of its head.
-fn near_ok(kind: Kind, tasks: u32, anchor: Anchor) -> bool
-    ensures { λ r. ⌜ r ≡ nearOk kind tasks anchor ⌝ }
-{
-    match kind {
-        Kind::Lifo => true,
-        Kind::Fifo => anchor.count as u64 <= anchor.head as u64 + tasks as u64,
-        Kind::Deque => true,
-    }
-}
-
-// The anchor now.
-fn anchor_ok(kind: Kind, width: u32, tasks: u32, anchor: Anchor) -> bool
-    requires { ⌜ width ≤ 16 ⌝ }
-    ensures { λ r. ⌜ r ≡ anchorOk kind width tasks anchor ⌝ }
-{
-    both(
-        read_ok(kind, width, tasks, anchor),
-        near_ok(kind, tasks, anchor),
-    )
-}
-
-fn head_ok(kind: Kind, head: u32) -> bool
-    ensures { λ r. ⌜ r ≡ headOk kind head ⌝ }
-{
-    match kind {
-        Kind::Lifo => false,
-        Kind::Fifo => head <= 65535,
-        Kind::Deque => false,
-    }
-}
-
-// Past a put's test there is room for its task.
-fn room_ok(kind: Kind, tasks: u32, read: Anchor) -> bool
-    ensures { λ r. ⌜ r ≡ roomOk kind tasks read ⌝ }
-{
-    match kind {
-        Kind::Lifo => read.count < tasks,
-        Kind::Fifo => read.count < 65535,
-        Kind::Deque => read.count < tasks,
-    }
-}
-
-// Past a test for EMPTY there is a task.
-fn some_ok(kind: Kind, read: Anchor) -> bool
-    ensures { λ r. ⌜ r ≡ someOk kind read ⌝ }
-{
-    match kind {
-        Kind::Lifo => 0 < read.count,
-        Kind::Fifo => true,
-        Kind::Deque => 0 < read.count,
-    }
-}
-
-// X3's indices, `noted` of them from `head` on.
-fn noted_ok(kind: Kind, head: u32, noted: u32) -> bool
-    ensures { λ r. ⌜ r ≡ notedOk kind head noted ⌝ }
-{
-    match kind {
-        Kind::Lifo => head == 0,
-        Kind::Fifo => head as u64 + noted as u64 <= 65535,
-        Kind::Deque => head < 2048,
-    }
-}
-
-// The slot that a steal reads, in an array of `tasks`.
-fn slot_ok(kind: Kind, tasks: u32, read: Anchor) -> bool
-    ensures { λ r. ⌜ r ≡ slotOk kind tasks read ⌝ }
-{
-    match kind {
-        Kind::Lifo => read.count <= tasks,
-        Kind::Fifo => true,
-        Kind::Deque => true,
-    }
-}
-
-// The noted array exists, and the slot in it. Each array is twice the one before, so its size is the first one's, doubled.
-fn place_ok(kind: Kind, published: u32, first: u32, read: Anchor, place: u32) -> bool
-    requires { ⌜ published ≤ 11 ⌝ }
-    ensures { λ r. ⌜ ((q : Queue) → q .published ≡ published → Doubles q first → r ≡ placeOk kind q read place) ⌝ }
-{
-    if published <= place {
-        return false;
-    }
-    slot_ok(kind, first << place, read)
-}
-
-fn is_deque(kind: Kind) -> bool
-    ensures { λ r. ⌜ r ≡ isDeque kind ⌝ }
-{
-    match kind {
-        Kind::Lifo => false,
-        Kind::Fifo => false,
-        Kind::Deque => true,
-    }
-}
-
-fn next_ok(kind: Kind, next: u32) -> bool
-    ensures { λ r. ⌜ r ≡ nextOk kind next ⌝ }
-{
-    match kind {
-        Kind::Lifo => next == 0,
-        Kind::Fifo => next == 0,
-        Kind::Deque => next < 2048,
-    }
-}
-
-// Both of two limits, where both can be tested.
-fn both(first: bool, second: bool) -> bool
-    ensures { λ r. ⌜ r ≡ (first and second) ⌝ }
-{
-    first && second
-}
-
-// The anchor that a take or a steal past its test for EMPTY read, and what else it holds.
-fn past_empty(kind: Kind, width: u32, tasks: u32, read: Anchor, other: bool) -> bool
-    requires { ⌜ width ≤ 16 ⌝ }
-    ensures { λ r. ⌜ r ≡ (readOk kind width tasks read and someOk kind read and other) ⌝ }
-{
-    both(
-        read_ok(kind, width, tasks, read),
-        both(some_ok(kind, read), other),
-    )
-}
-
-// The anchor and the task of a put past its test.
-fn past_test(kind: Kind, width: u32, tasks: u32, task: Task, read: Anchor) -> bool
-    requires { ⌜ width ≤ 16 ⌝ }
-    ensures { λ r. ⌜ r ≡ (numberOk (task .number) and readOk kind width tasks read and roomOk kind tasks read) ⌝ }
-{
-    both(
-        number_ok(task.number),
-        both(
-            read_ok(kind, width, tasks, read),
-            room_ok(kind, tasks, read),
-        ),
-    )
-}
-
-// What X3 holds.
-fn copy_ok(kind: Kind, tasks: u32, task: Task, head: u32, noted: u32, copied: u32) -> bool
-    ensures { λ r. ⌜ r ≡ (numberOk (task .number) and notedOk kind head noted and leb noted tasks and ltb copied noted) ⌝ }
-{
-    both(
-        number_ok(task.number),
-        both(
-            noted_ok(kind, head, noted),
-            both(noted <= tasks, copied < noted),
-        ),
-    )
-}
-
-// What a worker at the line has read; the current array has `tasks` slots.
-fn line_ok(kind: Kind, width: u32, published: u32, first: u32, tasks: u32, line: Line) -> bool
-    requires { ⌜ width ≤ 16 ⌝ }
-    requires { ⌜ published ≤ 11 ⌝ }
-    ensures { λ r. ⌜ ((q : Queue) → q .published ≡ published → Doubles q first → tasks ≡ size q → r ≡ lineOk kind width q line) ⌝ }
-{
-    match line {
-        Line::Idle => true,
-        Line::PutRead { task } => number_ok(task.number),
-        Line::PutTail { task, head } => both(number_ok(task.number), head_ok(kind, head)),
-        Line::PutTest { task, read } => both(
-            number_ok(task.number),
-            read_ok(kind, width, tasks, read),
-        ),
-        Line::PutNumber { task, read } => past_test(kind, width, tasks, task, read),
-        Line::PutPayload { task, read } => past_test(kind, width, tasks, task, read),
-        Line::PutFinish { task, read } => past_test(kind, width, tasks, task, read),
-        Line::Claim { task } => number_ok(task.number),
-        Line::Note { task } => number_ok(task.number),
-        Line::Copy {
-            task,
-            head,
-            noted,
-            copied,
-        } => copy_ok(kind, tasks, task, head, noted, copied),
-        Line::Publish { task } => number_ok(task.number),
-        Line::TakeRead => true,
-        Line::TakeTail { head } => head_ok(kind, head),
-        Line::TakeTest { read } => read_ok(kind, width, tasks, read),
-        Line::TakeNumber { read } => both(read_ok(kind, width, tasks, read), some_ok(kind, read)),
-        Line::TakePayload { read, number } => past_empty(
-            kind,
-            width,
-            tasks,
-            read,
-            number_ok(number),
-        ),
-        Line::TakeFinish { read, task } => past_empty(
-            kind,
-            width,
-            tasks,
-            read,
-            number_ok(task.number),
-        ),
-        Line::StealRead => true,
-        Line::StealTail { head } => head_ok(kind, head),
-        Line::StealTest { read } => read_ok(kind, width, tasks, read),
-        Line::StealNote { read } => both(read_ok(kind, width, tasks, read), some_ok(kind, read)),
-        Line::StealNumber { read, place } => past_empty(
-            kind,
-            width,
-            tasks,
-            read,
-            place_ok(kind, published, first, read, place),
-        ),
-        Line::StealPayload {
-            read,
-            place,
-            number,
-        } => {
-            let holds = both(
-                place_ok(kind, published, first, read, place),
-                number_ok(number),
-            );
-            past_empty(kind, width, tasks, read, holds)
-        }
-        Line::StealNext { read, task } => {
-            let holds = both(is_deque(kind), number_ok(task.number));
-            past_empty(kind, width, tasks, read, holds)
-        }
-        Line::StealCompare { read, next, task } => {
-            let holds = both(next_ok(kind, next), number_ok(task.number));
-            past_empty(kind, width, tasks, read, holds)
-        }
-    }
-}
-
-pub fn is_idle(line: Line) -> bool
-    ensures { λ r. ⌜ r ≡ isIdle line ⌝ }
-{
-    stage(line) == 0
-}
-
 // A worker that is not idle is at a line of its own operation: the owner's put or take, a thief's steal.
 fn own_line(worker: u32, at: u32) -> bool
     ensures { λ r. ⌜ r ≡ (if eqb worker 0 then ltb at 4 else ltb 3 at) ⌝ }
@@ -519,7 +157,7 @@ fn rests(own: Worker) -> bool
     ensures { λ r. ⌜ r ≡ isIdle (own .line) ⌝ }
 {
     let line = own.line;
-    is_idle(line)
+    stages::is_idle(line)
 }
 
 // A worker that is not idle.
@@ -534,12 +172,12 @@ fn busy_ok(scope: Scope, worker: u32, own: Worker) -> bool
         return false;
     }
     let line = own.line;
-    let at = stage(line);
+    let at = stages::stage(line);
     if !own_line(worker, at) {
         return false;
     }
     let kind = scope.kind;
-    line_ok(
+    ranges::line_ok(
         kind,
         scope.width,
         scope.published,
@@ -618,10 +256,10 @@ fn contents_ok(bench: Bench) -> bool
     let start = queue.arrays[0];
     let first = start.length >> 1;
     let tasks = first << current;
-    if !anchor_ok(kind, width, tasks, anchor) {
+    if !ranges::anchor_ok(kind, width, tasks, anchor) {
         return false;
     }
-    if !number_ok(bench.used) {
+    if !ranges::number_ok(bench.used) {
         return false;
     }
     workers_ok(bench, first, tasks)
@@ -634,10 +272,10 @@ pub fn valid(bench: Bench, store: &[u32], log: &[u32]) -> bool
     let queue = bench.queue;
     let owner = bench.workers[0];
     let line = owner.line;
-    if !width_ok(bench.width) {
+    if !admission::width_ok(bench.width) {
         return false;
     }
-    if !crew_ok(bench.crew) {
+    if !admission::crew_ok(bench.crew) {
         return false;
     }
     if !directory_ok(queue, store, line) {

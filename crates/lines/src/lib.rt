@@ -1,5 +1,5 @@
 // What one line of figures 1, 2 and 3 does: a pure function from the line to an act. Applying the act is another crate's.
-// Uses `model`, `figures` and `slots`. It is used by `machine`, `queues`, `replies` and `listing`.
+// Uses `model`, `anchors`, `figures` and `slots`. It is used by `machine`, `queues`, `replies` and `listing`.
 ghost use mathlib.Core.Path.{_≡_};
 ghost use mathlib.Core.Bool.{true};
 ghost use mathlib.Core.List.{List};
@@ -41,7 +41,7 @@ fn unless_empty(kind: Kind, worker: u32, read: Anchor, next: Line) -> Act
     ensures { λ r. ⌜ ((q : Queue) (m : List ℕ) → enact q m r ≡ unlessEmpty kind q m worker read next) ⌝ }
     ensures { λ r. ⌜ ((q : Queue) (n : ℕ) → InStore q n r) ⌝ }
 {
-    let empty = figures::is_empty(kind, read);
+    let empty = anchors::is_empty(kind, read);
     if empty {
         Act::Stops {
             answer: Answer::Empty { worker },
@@ -59,9 +59,9 @@ fn compare(kind: Kind, queue: Queue, worker: u32, read: Anchor, next: u32, task:
     ensures { λ r. ⌜ ((n : ℕ) → InStore queue n r) ⌝ }
 {
     let anchor = queue.anchor;
-    let same = figures::is_same(kind, anchor, read);
+    let same = anchors::is_same(kind, anchor, read);
     if same {
-        let left = figures::after_steal(kind, anchor, read, next);
+        let left = anchors::after_steal(kind, anchor, read, next);
         Act::Ends {
             anchor: left,
             answer: Answer::HandedOut { worker, task },
@@ -121,7 +121,7 @@ pub fn decide(kind: Kind, width: u32, queue: Queue, store: &[u32], worker: u32, 
         }
         // FIFO's put 2
         Line::PutTail { task, head } => {
-            let read = figures::with_tail(head, anchor);
+            let read = anchors::with_tail(head, anchor);
             Act::Goes {
                 line: Line::PutTest { task, read },
             }
@@ -158,7 +158,7 @@ pub fn decide(kind: Kind, width: u32, queue: Queue, store: &[u32], worker: u32, 
         }
         // put 4; 5
         Line::PutFinish { task, read } => {
-            let left = figures::after_put(kind, width, anchor, read);
+            let left = anchors::after_put(kind, width, anchor, read);
             Act::Ends {
                 anchor: left,
                 answer: Answer::Finished { worker, task },
@@ -206,7 +206,7 @@ pub fn decide(kind: Kind, width: u32, queue: Queue, store: &[u32], worker: u32, 
         }
         // FIFO's take 2
         Line::TakeTail { head } => {
-            let read = figures::with_tail(head, anchor);
+            let read = anchors::with_tail(head, anchor);
             Act::Goes {
                 line: Line::TakeTest { read },
             }
@@ -232,7 +232,7 @@ pub fn decide(kind: Kind, width: u32, queue: Queue, store: &[u32], worker: u32, 
         }
         // take 4; 5
         Line::TakeFinish { read, task } => {
-            let left = figures::after_take(kind, anchor, read);
+            let left = anchors::after_take(kind, anchor, read);
             Act::Ends {
                 anchor: left,
                 answer: Answer::HandedOut { worker, task },
@@ -245,7 +245,7 @@ pub fn decide(kind: Kind, width: u32, queue: Queue, store: &[u32], worker: u32, 
         }
         // FIFO's steal 2
         Line::StealTail { head } => {
-            let read = figures::with_tail(head, anchor);
+            let read = anchors::with_tail(head, anchor);
             Act::Goes {
                 line: Line::StealTest { read },
             }
@@ -279,7 +279,7 @@ pub fn decide(kind: Kind, width: u32, queue: Queue, store: &[u32], worker: u32, 
         }
         // figure 3's steal 5
         Line::StealNext { read, task } => {
-            let h2 = figures::next_head(read);
+            let h2 = anchors::next_head(read);
             Act::Goes {
                 line: Line::StealCompare {
                     read,

@@ -1,5 +1,5 @@
 // Lines of input played one after the other, and what they print, however the input is cut into buffers.
-// Uses `model`, `theorems`, `lines`, `state`, `machine`, `text` and `replies`. It is used by `bench`.
+// Uses `model`, `theorems`, `stages`, `lines`, `machine`, `text` and `replies`. It is used by `bench`.
 ghost use mathlib.Core.Path.{_≡_};
 ghost use Prim.Native.Nat.{_+_, _-_, _≤_, min};
 ghost use lib.ListN.{length, drop};
@@ -135,7 +135,7 @@ pub fn feed(session: Session, buf: &[u8], store: &mut [u32], log: &mut [u32], ou
                 left -= 1;
                 continue;
             };
-            bench.restarts = state::count_restart(bench.restarts, next);
+            bench.restarts = stages::count_restart(bench.restarts, next);
             bench.workers[i] = Worker { line: next };
             left -= 1;
         }

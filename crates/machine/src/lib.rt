@@ -1,6 +1,6 @@
 // The calls on a bench: fresh, begin, and a step's two halves: deciding what it does (decide), and doing it (apply). This is the only code
 // that writes a store or a log, and it writes only once the whole outcome of the call is known.
-// Uses `model`, `lines`, `limits`, `memory` and `state`. It is used by `queues`, `replies` and `listing`.
+// Uses `model`, `stages`, `admission`, `lines`, `limits`, `memory` and `state`. It is used by `queues`, `replies` and `listing`.
 ghost use mathlib.Core.Path.{_≡_};
 ghost use mathlib.Core.Bool.{true};
 ghost use mathlib.Core.List.{List};
@@ -38,7 +38,6 @@ use lines::Change;
 use model::Anchor;
 use model::Answer;
 use model::Bench;
-use model::Kind;
 use model::Line;
 use model::Operation;
 use model::Queue;
@@ -80,22 +79,22 @@ fn refused(bench: Bench, why: Refusal) -> Reply
 fn unmade(why: Refusal) -> Reply
     ensures { λ r. ⌜ r ≡ record { bench = noBench; answer = Refused why } ⌝ }
 {
-    refused(state::made(Kind::Lifo, 0, 0, 0), why)
+    refused(state::none(), why)
 }
 
 pub fn fresh(kind: u32, width: u32, size: u32, crew: u32, store: &mut [u32]) -> Reply
     ensures { λ r. ⌜ ((l : List ℕ) → left r (now (store .exit)) l ≡ freshOf kind width size crew (now (store .entry)) l) ⌝ }
 {
-    if !state::kind_ok(kind) {
+    if !admission::kind_ok(kind) {
         return unmade(Refusal::UnknownQueue);
     }
-    if !limits::width_ok(width) {
+    if !admission::width_ok(width) {
         return unmade(Refusal::TagWidth);
     }
-    if !limits::is_size(size) {
+    if !admission::is_size(size) {
         return unmade(Refusal::ArraySize);
     }
-    if !limits::crew_ok(crew) {
+    if !admission::crew_ok(crew) {
         return unmade(Refusal::Crew);
     }
     let words = 2 * (size as usize);
@@ -104,7 +103,7 @@ pub fn fresh(kind: u32, width: u32, size: u32, crew: u32, store: &mut [u32]) -> 
     }
     memory::zero(store, 0, words);
     Reply {
-        bench: state::made(state::kind_of(kind), width, size, crew),
+        bench: state::made(admission::kind_of(kind), width, size, crew),
         answer: Answer::Accepted,
     }
 }
@@ -150,7 +149,7 @@ pub fn begin_stop(bench: Bench, worker: u32, operation: Operation) -> Stop
             why: Refusal::NoSuchWorker,
         };
     }
-    if !state::right_hand(worker, operation) {
+    if !admission::right_hand(worker, operation) {
         return Stop::Why {
             why: Refusal::WrongHand,
         };
@@ -158,12 +157,12 @@ pub fn begin_stop(bench: Bench, worker: u32, operation: Operation) -> Stop
     let i = worker as usize;
     let own = bench.workers[i];
     let line = own.line;
-    if !limits::is_idle(line) {
+    if !stages::is_idle(line) {
         return Stop::Why {
             why: Refusal::BusyWorker,
         };
     }
-    if !state::numbers_left(operation, bench.used) {
+    if !admission::numbers_left(operation, bench.used) {
         return Stop::Why {
             why: Refusal::NumbersSpent,
         };
@@ -310,7 +309,7 @@ pub fn decide(bench: Bench, worker: u32, line: Line, store: &[u32], log: &[u32])
             why: Refusal::NoSuchWorker,
         };
     }
-    if limits::is_idle(line) {
+    if stages::is_idle(line) {
         return Decision::Refused {
             why: Refusal::IdleWorker,
         };

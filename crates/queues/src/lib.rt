@@ -2,7 +2,7 @@
 // a time in the order that the caller chooses. A bench is a value; each call takes it and hands the
 // next one back, beside the store and the log that the caller lends. A call may be handed any state,
 // any numbers and any memory: it is refused where document 01 says so, and then changes nothing.
-// Uses `model`, `lines`, `limits`, `memory`, `state` and `machine`. It is used by `exercise` and `pace`.
+// Uses `model`, `stages`, `lines`, `limits`, `memory` and `machine`. It is used by `exercise` and `pace`.
 ghost use mathlib.Core.Path.{_≡_};
 ghost use mathlib.Core.List.{List};
 ghost use Prim.Native.Nat.{ℕ, _≤_};
@@ -86,7 +86,7 @@ impl Bench {
                     return faced(machine::apply(next, worker, act, store, log));
                 };
                 // The commonest step changes the worker's record alone: it is replaced in place.
-                next.restarts = state::count_restart(next.restarts, to);
+                next.restarts = stages::count_restart(next.restarts, to);
                 next.workers[i] = Worker { line: to };
                 return Reply {
                     bench: Bench { state: next },

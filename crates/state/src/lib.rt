@@ -1,40 +1,18 @@
-// The pieces of a bench that the calls put together: a state made anew or with one worker's record replaced, and the tests of
-// fresh and begin. Each is a definition's short name, as code.
-// Uses `model` and `limits`. It is used by `machine`, `queues` and `listing`.
+// The pieces of a bench that the calls put together: a state made anew or with one worker's record replaced, and the queue with
+// another anchor or one array more. Each is a definition's short name, as code.
+// Uses `model` and `stages`. It is used by `machine`.
 ghost use mathlib.Core.Path.{_≡_};
 ghost use Prim.Native.Nat.{_≤_, _<_};
-ghost use lib.Dec.{ltb, leb};
-ghost use Rattle.model.specs.Tests.{_and_};
 ghost use Rattle.model.specs.Lines.{anchored, publishing};
-ghost use Rattle.model.specs.World.{isSteal1};
-ghost use Rattle.model.specs.Calls.{blank, kindOf, rightHand, numbersLeft, restarted};
+ghost use Rattle.model.specs.Calls.{blank, noBench};
 ghost use Rattle.state.specs.Pieces.{opened, moved};
 use model::Anchor;
 use model::Bench;
 use model::Kind;
 use model::Line;
-use model::Operation;
 use model::Queue;
 use model::Region;
 use model::Worker;
-
-pub fn kind_ok(kind: u32) -> bool
-    ensures { λ r. ⌜ r ≡ (ltb 0 kind and leb kind 3) ⌝ }
-{
-    0 < kind && kind <= 3
-}
-
-pub fn kind_of(kind: u32) -> Kind
-    ensures { λ r. ⌜ r ≡ kindOf kind ⌝ }
-{
-    if kind == 1 {
-        return Kind::Lifo;
-    }
-    if kind == 2 {
-        return Kind::Fifo;
-    }
-    Kind::Deque
-}
 
 // A state with no operation open, over one array of `size` tasks.
 pub fn made(kind: Kind, width: u32, size: u32, crew: u32) -> Bench
@@ -70,25 +48,11 @@ pub fn made(kind: Kind, width: u32, size: u32, crew: u32) -> Bench
     }
 }
 
-// The owner puts and takes, a thief steals.
-pub fn right_hand(worker: u32, operation: Operation) -> bool
-    ensures { λ r. ⌜ r ≡ rightHand worker operation ⌝ }
+// No bench: what a refused fresh hands back has no crew, and every call refuses it.
+pub fn none() -> Bench
+    ensures { λ r. ⌜ r ≡ noBench ⌝ }
 {
-    match operation {
-        Operation::Put { payload: _ } => worker == 0,
-        Operation::Take => worker == 0,
-        Operation::Steal => 0 < worker,
-    }
-}
-
-pub fn numbers_left(operation: Operation, used: u32) -> bool
-    ensures { λ r. ⌜ r ≡ numbersLeft operation used ⌝ }
-{
-    match operation {
-        Operation::Put { payload: _ } => used < 65535,
-        Operation::Take => true,
-        Operation::Steal => true,
-    }
+    made(Kind::Lifo, 0, 0, 0)
 }
 
 // A worker gets its first line.
@@ -102,32 +66,12 @@ pub fn opens(bench: Bench, worker: usize, used: u32, line: Line) -> Bench
     next
 }
 
-// A thief at its line 1.
-fn is_steal1(line: Line) -> bool
-    ensures { λ r. ⌜ r ≡ isSteal1 line ⌝ }
-{
-    limits::stage(line) == 4
-}
-
-// Only a compare that fails leaves a thief at its line 1: it counts as a restart. The counter stays at its ceiling.
-pub fn count_restart(restarts: u32, line: Line) -> u32
-    ensures { λ r. ⌜ r ≡ restarted restarts line ⌝ }
-{
-    if !is_steal1(line) {
-        return restarts;
-    }
-    if restarts == 4294967295 {
-        return restarts;
-    }
-    restarts + 1
-}
-
 // The state after a worker's line: its record is replaced, with what the line left.
 pub fn moves(bench: Bench, worker: usize, queue: Queue, line: Line, written: u32) -> Bench
     requires { ⌜ worker < 8 ⌝ }
     ensures { λ r. ⌜ r ≡ moved bench worker queue line written ⌝ }
 {
-    let restarts = count_restart(bench.restarts, line);
+    let restarts = stages::count_restart(bench.restarts, line);
     let mut next = bench;
     next.queue = queue;
     next.restarts = restarts;

@@ -4,7 +4,7 @@ use Rattle.model.specs.Window.{windowSize}
 use mathlib.Core.Path.{ap, _∙_}
 use Rattle.model.specs.declared.Task.{Task}
 use Rattle.model.specs.Counts.{someBelow, outWhole, standsAt}
-use Rattle.counts.proofs.Bools.{true-and, false-and, true-or, false-or}
+use Rattle.handouts.proofs.Bools.{true-and, false-and, true-or, false-or}
 use borrow.Author.Needs.{needs}
 use Rattle.counts.proofs.is_lost.Statement.{statement}
 use Rattle.counts.proofs.is_lost.Tie as tie

@@ -1,6 +1,6 @@
 use borrow.Author.Needs.{needs}
 use mathlib.Core.Path.{ap, _∙_}
-use Rattle.judge.specs.Judgement.{numberOf}
+use Rattle.judgement.specs.Judgement.{numberOf}
 use Rattle.judge.proofs.bomqelir_judge.Statement.{statement}
 use Rattle.judge.proofs.bomqelir_judge.Tie as tie
 

@@ -4,8 +4,8 @@ use mathlib.Core.Bool.{true, false}
 use native.Mathlib.Omega.{arith}
 use borrow.Author.Tests.{not-false}
 use Rattle.model.proofs.Tests.{passed, refused, and-right}
-use Rattle.judge.specs.Judgement.{wordsOf}
-use Rattle.judge.proofs.Gathering.{rising-by}
+use Rattle.judgement.specs.Judgement.{wordsOf}
+use Rattle.puts.proofs.Gathering.{rising-by}
 use Rattle.judge.proofs.Keeping.{kept-whole, firsts-fewer}
 use Rattle.judge.proofs.Whole.{not-in-order, not-all-honest, not-all-kept, all-accepted}
 use Rattle.judge.proofs.judge_entries.Statement.{statement}

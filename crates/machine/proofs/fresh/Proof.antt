@@ -6,7 +6,7 @@ use Rattle.model.specs.declared.Kind.{Kind}
 use Rattle.model.specs.declared.Bench.{Bench}
 use Rattle.model.specs.declared.Answer.the-variants.{Accepted}
 use Rattle.model.proofs.Tests.{if-true, if-false, passed, refused}
-use Rattle.limits.proofs.Sizes.{size-in}
+use Rattle.admission.proofs.Sizes.{size-in}
 use Rattle.machine.specs.declared.Reply.{Reply}
 use Rattle.machine.specs.Left.{left}
 use Rattle.machine.proofs.Replies.{same-left}

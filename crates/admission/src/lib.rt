@@ -1,0 +1,70 @@
+// What fresh and begin admit: the ranges of fresh's four numbers, who may begin what, and whether a put number is left.
+// Uses `model`. It is used by `limits` and `machine`.
+ghost use mathlib.Core.Path.{_≡_};
+ghost use lib.Dec.{ltb, leb};
+ghost use Rattle.model.specs.Tests.{_and_};
+ghost use Rattle.model.specs.Limits.{isSize, widthOk, crewOk};
+ghost use Rattle.model.specs.Calls.{kindOf, rightHand, numbersLeft};
+use model::Kind;
+use model::Operation;
+
+pub fn kind_ok(kind: u32) -> bool
+    ensures { λ r. ⌜ r ≡ (ltb 0 kind and leb kind 3) ⌝ }
+{
+    0 < kind && kind <= 3
+}
+
+pub fn kind_of(kind: u32) -> Kind
+    ensures { λ r. ⌜ r ≡ kindOf kind ⌝ }
+{
+    if kind == 1 {
+        return Kind::Lifo;
+    }
+    if kind == 2 {
+        return Kind::Fifo;
+    }
+    Kind::Deque
+}
+
+pub fn width_ok(width: u32) -> bool
+    ensures { λ r. ⌜ r ≡ widthOk width ⌝ }
+{
+    0 < width && width <= 16
+}
+
+// The sizes of arrays, in tasks.
+pub fn is_size(tasks: u32) -> bool
+    ensures { λ r. ⌜ r ≡ isSize 10 tasks ⌝ }
+{
+    match tasks {
+        1 | 2 | 4 | 8 | 16 | 32 | 64 | 128 | 256 | 512 | 1024 => true,
+        _ => false,
+    }
+}
+
+pub fn crew_ok(crew: u32) -> bool
+    ensures { λ r. ⌜ r ≡ crewOk crew ⌝ }
+{
+    0 < crew && crew <= 8
+}
+
+// The owner puts and takes, a thief steals.
+pub fn right_hand(worker: u32, operation: Operation) -> bool
+    ensures { λ r. ⌜ r ≡ rightHand worker operation ⌝ }
+{
+    match operation {
+        Operation::Put { payload: _ } => worker == 0,
+        Operation::Take => worker == 0,
+        Operation::Steal => 0 < worker,
+    }
+}
+
+pub fn numbers_left(operation: Operation, used: u32) -> bool
+    ensures { λ r. ⌜ r ≡ numbersLeft operation used ⌝ }
+{
+    match operation {
+        Operation::Put { payload: _ } => used < 65535,
+        Operation::Take => true,
+        Operation::Steal => true,
+    }
+}

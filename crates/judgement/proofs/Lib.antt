@@ -1,0 +1,4 @@
+pub mod Table
+pub mod Words
+pub mod All
+pub mod Order

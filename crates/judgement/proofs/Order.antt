@@ -1,0 +1,123 @@
+-- Kinds and rising numbers, entry by entry. `floor` is one above the last number that was taken, at first 0.
+use mathlib.Core.Path.{_≡_, refl, sym, ap, _∙_, subst}
+use mathlib.Core.Bool.{Bool, true, false, not}
+use mathlib.Core.List.{List}
+use mathlib.Core.Logic.{_⊎_, inl, inr, ⊎-elim}
+use Prim.Native.Nat.{ℕ, _+_, _≤_, _<_}
+use native.Mathlib.Omega.{arith}
+use lib.Dec.{eqb, ltb, leb}
+use borrow.Author.Tests.{le-leb, lt-leb, lt-ltb, le-ltb, eq-eqb, ne-eqb, eqb-false, ltb-true, ltb-false}
+use Rattle.model.specs.Tests.{_and_, _or_}
+use Rattle.model.specs.Counts.{entryAt, isKind}
+use Rattle.model.proofs.Tests.{holds, fails, and-both, and-false}
+use Rattle.judgement.specs.Judgement.{allBelow, known, numbered, rises}
+use Rattle.judgement.proofs.All.{all-fails, all-true, all-next}
+
+module _ (l : List ℕ) where
+  module _ (j k : ℕ) (e : k ≡ entryAt l j .kind) where
+    pub known-by : 1 ≤ k → k ≤ 4 → known l j ≡ true
+    known-by a b = subst (λ (x : ℕ). (leb 1 x and leb x 4) ≡ true) e (and-both _ _ (le-leb 1 k a) (le-leb k 4 b))
+
+    pub too-low : k < 1 → known l j ≡ false
+    too-low a = subst (λ (x : ℕ). (leb 1 x and leb x 4) ≡ false) e (fails (leb k 4) (lt-leb 1 k a))
+
+    pub too-high : 4 < k → known l j ≡ false
+    too-high a =
+        subst (λ (x : ℕ). (leb 1 x and leb x 4) ≡ false) e (ap (λ (y : Bool). leb 1 k and y) (lt-leb k 4 a) ∙ and-false (leb 1 k))
+
+    pub plain-by : (k ≡ 1 → ⊥) → (k ≡ 4 → ⊥) → numbered l j ≡ false
+    unfolding _or_
+    plain-by a b = subst (λ (x : ℕ). (eqb x 1 or eqb x 4) ≡ false) e (rw (ne-eqb k 1 a, ne-eqb k 4 b))
+
+    numbered-case : (y : Bool) → eqb k 1 ≡ y → 1 ≤ k → k ≤ 4 → (k ≡ 2 → ⊥) → (k ≡ 3 → ⊥) → (eqb k 1 or eqb k 4) ≡ true
+    unfolding _or_
+    numbered-case true h a b c d = rw h
+    numbered-case false h a b c d =
+        rw (h, eq-eqb k 4 (let g = eqb-false k 1 h in omega (arith, a, b, c, d, g)))
+
+    pub numbered-by : 1 ≤ k → k ≤ 4 → (k ≡ 2 → ⊥) → (k ≡ 3 → ⊥) → numbered l j ≡ true
+    numbered-by a b c d = subst (λ (x : ℕ). (eqb x 1 or eqb x 4) ≡ true) e (numbered-case (eqb k 1) refl a b c d)
+
+  abbrev over : ℕ → ℕ → Bool
+  over j i = not (numbered l i) or ltb (entryAt l i .number) (entryAt l j .number)
+
+  pub record Floor (j floor : ℕ) : Type 0 where
+    pub kinds : allBelow (known l) j ≡ true
+    pub order : allBelow (rises l) j ≡ true
+    pub above : (i : ℕ) → i < j → numbered l i ≡ true → entryAt l i .number < floor
+    pub met : (floor ≡ 0) ⊎ ((i : ℕ) × (i < j) × (numbered l i ≡ true) × (entryAt l i .number + 1 ≡ floor))
+
+  pub floor-start : Floor 0 0
+  unfolding allBelow
+  floor-start = record { kinds = refl; order = refl; above = λ i h _. absurd (omega (arith, h)); met = inl refl }
+
+  plain-rises : (j : ℕ) → numbered l j ≡ false → rises l j ≡ true
+  unfolding _or_
+  plain-rises j h = rw h
+
+  above-plain : (j f i : ℕ) → Floor j f → i < j + 1 → numbered l j ≡ false → numbered l i ≡ true → (y : Bool) → ltb i j ≡ y → entryAt l i .number < f
+  above-plain j f i F h g n true e = F .above i (ltb-true i j e) n
+  above-plain j f i F h g n false e =
+      let d = ltb-false i j e in
+      let q : i ≡ j = omega (arith, d, h) in
+      absurd (let z : true ≡ false = sym n ∙ ap (numbered l) q ∙ g in let w : _≡_ {A = ℕ} 0 1 = cc in omega (arith, w))
+
+  module _ (j floor : ℕ) (F : Floor j floor) where
+    widen : (floor ≡ 0) ⊎ ((i : ℕ) × (i < j) × (numbered l i ≡ true) × (entryAt l i .number + 1 ≡ floor)) → (floor ≡ 0) ⊎ ((i : ℕ) × (i < j + 1) × (numbered l i ≡ true) × (entryAt l i .number + 1 ≡ floor))
+    widen (inl e) = inl e
+    widen (inr (i, h, n, e)) = inr (i, omega (arith, h), n, e)
+
+    pub floor-skip : known l j ≡ true → numbered l j ≡ false → Floor (j + 1) floor
+    floor-skip k n =
+        record {
+          kinds = all-next (known l) j (F .kinds) k;
+          order = all-next (rises l) j (F .order) (plain-rises j n);
+          above = λ i h g. above-plain j floor i F h n g (ltb i j) refl;
+          met = widen (F .met);
+        }
+
+    over-one : (i : ℕ) (y : Bool) → numbered l i ≡ y → i < j → floor ≤ entryAt l j .number → over j i ≡ true
+    unfolding _or_
+    over-one i true n h f =
+        let a = F .above i h n in
+        let w = lt-ltb (entryAt l i .number) (entryAt l j .number) (omega (arith, a, f)) in rw (n, w)
+    over-one i false n h f = rw n
+
+    numbered-rises : numbered l j ≡ true → floor ≤ entryAt l j .number → rises l j ≡ true
+    unfolding _or_
+    numbered-rises n f = rw (n, all-true (over j) j (λ i h. over-one i (numbered l i) refl h f))
+
+    above-next : (i : ℕ) (y : Bool) → ltb i j ≡ y → i < j + 1 → floor ≤ entryAt l j .number → numbered l i ≡ true → entryAt l i .number < entryAt l j .number + 1
+    above-next i true e h f n = let a = F .above i (ltb-true i j e) n in omega (arith, a, f)
+    above-next i false e h f n =
+        let d = ltb-false i j e in
+        subst (λ (x : ℕ). entryAt l x .number < entryAt l j .number + 1) {x = j} {y = i} (omega (arith, d, h)) (omega arith)
+
+    pub floor-next : known l j ≡ true → numbered l j ≡ true → floor ≤ entryAt l j .number → Floor (j + 1) (entryAt l j .number + 1)
+    floor-next k n f =
+        record {
+          kinds = all-next (known l) j (F .kinds) k;
+          order = all-next (rises l) j (F .order) (numbered-rises n f);
+          above = λ i h g. above-next i (ltb i j) refl h f g;
+          met = inr (j, omega arith, n, refl);
+        }
+
+    not-over : (i : ℕ) → numbered l i ≡ true → entryAt l j .number ≤ entryAt l i .number → over j i ≡ false
+    unfolding _or_
+    not-over i n h = let w = le-ltb (entryAt l i .number) (entryAt l j .number) h in rw (n, w)
+
+    falls : numbered l j ≡ true → entryAt l j .number < floor → (floor ≡ 0) ⊎ ((i : ℕ) × (i < j) × (numbered l i ≡ true) × (entryAt l i .number + 1 ≡ floor)) → rises l j ≡ false
+    unfolding _or_
+    falls n h (inl e) = absurd (omega (arith, h, e))
+    falls n h (inr (i, a, m, e)) = rw (n, all-fails (over j) j i a (not-over i m (omega (arith, h, e))))
+
+    pub not-rising : (n : ℕ) → j < n → numbered l j ≡ true → entryAt l j .number < floor → false ≡ (allBelow (known l) n and allBelow (rises l) n)
+    not-rising n h m f =
+        sym (ap (λ (y : Bool). allBelow (known l) n and y) (all-fails (rises l) n j h (falls m f (F .met))) ∙ and-false (allBelow (known l) n))
+
+  pub not-known : (n j : ℕ) → j < n → known l j ≡ false → false ≡ (allBelow (known l) n and allBelow (rises l) n)
+  not-known n j h e = sym (fails (allBelow (rises l) n) (all-fails (known l) n j h e))
+
+  pub in-order-whole : (n j floor : ℕ) → Floor j floor → j ≤ n → n ≤ j → true ≡ (allBelow (known l) n and allBelow (rises l) n)
+  in-order-whole n j floor F a b =
+      subst (λ (m : ℕ). true ≡ (allBelow (known l) m and allBelow (rises l) m)) {x = j} {y = n} (omega (arith, a, b)) (sym (and-both _ _ (F .kinds) (F .order)))

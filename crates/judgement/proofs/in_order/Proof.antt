@@ -1,0 +1,131 @@
+use mathlib.Core.Path.{_≡_, sym, _∙_, subst}
+use Prim.Native.Nat.{ℕ, _+_, _-_, _<_, _≤_}
+use native.Mathlib.Omega.{arith}
+use Rattle.judgement.specs.Judgement.{wordsOf}
+use Rattle.judgement.proofs.Order.{Floor, floor-start, floor-skip, floor-next, known-by, too-low, too-high, plain-by, numbered-by, not-known, not-rising, in-order-whole}
+use Rattle.judgement.proofs.in_order.Statement.{statement}
+use Rattle.judgement.proofs.in_order.Tie as tie
+
+abbrev Inv-loop : tie.InvT-loop
+Inv-loop log entries floor₀ j₀ floor j = (j ≤ entries) × Floor (wordsOf log) j floor
+
+abbrev μ-loop : tie.MeasureT-loop
+μ-loop log entries floor₀ j₀ floor j = entries - j
+
+loop-holds : tie.Need-loop-holds Inv-loop μ-loop
+loop-holds c =
+    (omega arith, floor-start (wordsOf (c .before .args .log .now)))
+
+mul-word : tie.Need-mul-word Inv-loop μ-loop
+mul-word c =
+    omega arith
+
+word-requires : tie.Need-word-requires Inv-loop μ-loop
+word-requires c κs =
+    omega arith
+
+returns : tie.Need-returns Inv-loop μ-loop
+returns c =
+    not-known (wordsOf (c .before .before .before .before .before .args .log .now)) (c .before .before .before .before .before .args .entries) (c .before .before .before .loop .j) (omega arith) (too-low (wordsOf (c .before .before .before .before .before .args .log .now)) _ _ (c .before .word .ensures) (omega arith))
+
+returns-2 : tie.Need-returns-2 Inv-loop μ-loop
+returns-2 c =
+    not-known (wordsOf (c .before .before .before .before .before .before .args .log .now)) (c .before .before .before .before .before .before .args .entries) (c .before .before .before .before .loop .j) (omega arith) (too-high (wordsOf (c .before .before .before .before .before .before .args .log .now)) _ _ (c .before .before .word .ensures) (omega arith))
+
+add-j : tie.Need-add-j Inv-loop μ-loop
+add-j c =
+    omega arith
+
+loop-less : tie.Need-loop-less Inv-loop μ-loop
+loop-less c =
+    omega arith
+
+loop-again : tie.Need-loop-again Inv-loop μ-loop
+loop-again c =
+    let t : c .before .before .before .word .result ≡ 2 = c .if3 .taken in
+    (omega arith, floor-skip (wordsOf (c .before .before .before .before .before .before .before .args .log .now)) _ _ (c .before .before .before .before .before .loop .inv .1) (known-by (wordsOf (c .before .before .before .before .before .before .before .args .log .now)) _ _ (c .before .before .before .word .ensures) (omega (arith, t)) (omega (arith, t))) (plain-by (wordsOf (c .before .before .before .before .before .before .before .args .log .now)) _ _ (c .before .before .before .word .ensures) (λ x. omega (arith, t, x)) (λ x. omega (arith, t, x))))
+
+add-j-2 : tie.Need-add-j-2 Inv-loop μ-loop
+add-j-2 c =
+    omega arith
+
+loop-less-2 : tie.Need-loop-less-2 Inv-loop μ-loop
+loop-less-2 c =
+    omega arith
+
+loop-again-2 : tie.Need-loop-again-2 Inv-loop μ-loop
+loop-again-2 c =
+    let t : c .before .before .before .before .word .result ≡ 3 = c .if4 .taken in
+    (omega arith, floor-skip (wordsOf (c .before .before .before .before .before .before .before .before .args .log .now)) _ _ (c .before .before .before .before .before .before .loop .inv .1) (known-by (wordsOf (c .before .before .before .before .before .before .before .before .args .log .now)) _ _ (c .before .before .before .before .word .ensures) (omega (arith, t)) (omega (arith, t))) (plain-by (wordsOf (c .before .before .before .before .before .before .before .before .args .log .now)) _ _ (c .before .before .before .before .word .ensures) (λ x. omega (arith, t, x)) (λ x. omega (arith, t, x))))
+
+mul-word-2 : tie.Need-mul-word-2 Inv-loop μ-loop
+mul-word-2 c =
+    omega arith
+
+add-word : tie.Need-add-word Inv-loop μ-loop
+add-word c =
+    omega arith
+
+word-requires-2 : tie.Need-word-requires-2 Inv-loop μ-loop
+word-requires-2 c κs =
+    omega arith
+
+cast-number : tie.Need-cast-number Inv-loop μ-loop
+cast-number c =
+    omega arith
+
+returns-3 : tie.Need-returns-3 Inv-loop μ-loop
+returns-3 c =
+    let r = c .before .word2 .ensures in
+    let t = c .if5 .taken in
+    not-rising (wordsOf (c .before .before .before .before .before .before .before .before .before .before .args .log .now)) _ _ (c .before .before .before .before .before .before .before .before .loop .inv .1) (c .before .before .before .before .before .before .before .before .before .before .args .entries) (omega arith) (numbered-by (wordsOf (c .before .before .before .before .before .before .before .before .before .before .args .log .now)) _ _ (c .before .before .before .before .before .before .word .ensures) (omega arith) (omega arith) (c .before .before .before .if3 .left) (c .before .before .if4 .left)) (omega (arith, r, t))
+
+add-floor : tie.Need-add-floor Inv-loop μ-loop
+add-floor c =
+    omega arith
+
+add-j-3 : tie.Need-add-j-3 Inv-loop μ-loop
+add-j-3 c =
+    omega arith
+
+loop-less-3 : tie.Need-loop-less-3 Inv-loop μ-loop
+loop-less-3 c =
+    omega arith
+
+loop-again-3 : tie.Need-loop-again-3 Inv-loop μ-loop
+loop-again-3 c =
+    let r = c .before .word2 .ensures in
+    let t = c .if5 .left in
+    (omega arith, subst (λ (x : ℕ). Floor (wordsOf (c .before .before .before .before .before .before .before .before .before .before .args .log .now)) (c .before .before .before .before .before .before .before .before .loop .j + 1) (x + 1)) (sym r) (floor-next (wordsOf (c .before .before .before .before .before .before .before .before .before .before .args .log .now)) _ _ (c .before .before .before .before .before .before .before .before .loop .inv .1) (known-by (wordsOf (c .before .before .before .before .before .before .before .before .before .before .args .log .now)) _ _ (c .before .before .before .before .before .before .word .ensures) (omega arith) (omega arith)) (numbered-by (wordsOf (c .before .before .before .before .before .before .before .before .before .before .args .log .now)) _ _ (c .before .before .before .before .before .before .word .ensures) (omega arith) (omega arith) (c .before .before .before .if3 .left) (c .before .before .if4 .left)) (omega (arith, r, t))))
+
+returns-4 : tie.Need-returns-4 Inv-loop μ-loop
+returns-4 c =
+    in-order-whole (wordsOf (c .before .before .before .args .log .now)) (c .before .before .before .args .entries) _ _ (c .before .loop .inv .1) (c .before .loop .inv .0) (omega arith)
+
+pub in-order-spec : {M : Type 1} → statement M
+in-order-spec =
+    tie.close
+    (tie.spec
+    Inv-loop
+    μ-loop
+    loop-holds
+    mul-word
+    word-requires
+    returns
+    returns-2
+    add-j
+    loop-less
+    loop-again
+    add-j-2
+    loop-less-2
+    loop-again-2
+    mul-word-2
+    add-word
+    word-requires-2
+    cast-number
+    returns-3
+    add-floor
+    add-j-3
+    loop-less-3
+    loop-again-3
+    returns-4)

@@ -1,0 +1,281 @@
+// 'Values in these ranges': the limits on the anchor, and on what a worker at a line has read. A foreign state holds any 32-bit
+// values, so a sum of two of them is worked out in 64 bits.
+// Uses `model`. It is used by `limits`.
+ghost use mathlib.Core.Path.{_≡_};
+ghost use Prim.Native.Nat.{_≤_, _<_};
+ghost use lib.Dec.{ltb, leb};
+ghost use Rattle.model.specs.declared.Queue.{Queue};
+ghost use Rattle.model.specs.Tests.{_and_};
+ghost use Rattle.model.specs.Lines.{size};
+ghost use Rattle.model.specs.Limits.{
+  readOk,
+  nearOk,
+  anchorOk,
+  headOk,
+  roomOk,
+  someOk,
+  notedOk,
+  slotOk,
+  placeOk,
+  isDeque,
+  nextOk,
+  numberOk,
+  lineOk,
+};
+ghost use Rattle.ranges.specs.Doubles.{Doubles};
+use model::Anchor;
+use model::Kind;
+use model::Line;
+use model::Queue;
+use model::Task;
+
+pub fn number_ok(number: u32) -> bool
+    ensures { λ r. ⌜ r ≡ numberOk number ⌝ }
+{
+    number <= 65535
+}
+
+// Both of two limits, where both can be tested.
+fn both(first: bool, second: bool) -> bool
+    ensures { λ r. ⌜ r ≡ (first and second) ⌝ }
+{
+    first && second
+}
+
+// An anchor as a worker read it, in an array of `tasks`.
+fn read_ok(kind: Kind, width: u32, tasks: u32, read: Anchor) -> bool
+    requires { ⌜ width ≤ 16 ⌝ }
+    ensures { λ r. ⌜ r ≡ readOk kind width tasks read ⌝ }
+{
+    let head = read.head;
+    let count = read.count;
+    let tag = read.tag;
+    let tags = 1u32 << width;
+    match kind {
+        Kind::Lifo => head == 0 && (count <= tasks && tag < tags),
+        Kind::Fifo => head <= count && (count <= 65535 && tag == 0),
+        Kind::Deque => head < 2048 && (count <= tasks && tag < tags),
+    }
+}
+
+// FIFO's tail is at most the size ahead of its head.
+fn near_ok(kind: Kind, tasks: u32, anchor: Anchor) -> bool
+    ensures { λ r. ⌜ r ≡ nearOk kind tasks anchor ⌝ }
+{
+    match kind {
+        Kind::Lifo => true,
+        Kind::Fifo => anchor.count as u64 <= anchor.head as u64 + tasks as u64,
+        Kind::Deque => true,
+    }
+}
+
+// The anchor now.
+pub fn anchor_ok(kind: Kind, width: u32, tasks: u32, anchor: Anchor) -> bool
+    requires { ⌜ width ≤ 16 ⌝ }
+    ensures { λ r. ⌜ r ≡ anchorOk kind width tasks anchor ⌝ }
+{
+    both(
+        read_ok(kind, width, tasks, anchor),
+        near_ok(kind, tasks, anchor),
+    )
+}
+
+fn head_ok(kind: Kind, head: u32) -> bool
+    ensures { λ r. ⌜ r ≡ headOk kind head ⌝ }
+{
+    match kind {
+        Kind::Lifo => false,
+        Kind::Fifo => head <= 65535,
+        Kind::Deque => false,
+    }
+}
+
+// Past a put's test there is room for its task.
+fn room_ok(kind: Kind, tasks: u32, read: Anchor) -> bool
+    ensures { λ r. ⌜ r ≡ roomOk kind tasks read ⌝ }
+{
+    match kind {
+        Kind::Lifo => read.count < tasks,
+        Kind::Fifo => read.count < 65535,
+        Kind::Deque => read.count < tasks,
+    }
+}
+
+// Past a test for EMPTY there is a task.
+fn some_ok(kind: Kind, read: Anchor) -> bool
+    ensures { λ r. ⌜ r ≡ someOk kind read ⌝ }
+{
+    match kind {
+        Kind::Lifo => 0 < read.count,
+        Kind::Fifo => true,
+        Kind::Deque => 0 < read.count,
+    }
+}
+
+// X3's indices, `noted` of them from `head` on.
+fn noted_ok(kind: Kind, head: u32, noted: u32) -> bool
+    ensures { λ r. ⌜ r ≡ notedOk kind head noted ⌝ }
+{
+    match kind {
+        Kind::Lifo => head == 0,
+        Kind::Fifo => head as u64 + noted as u64 <= 65535,
+        Kind::Deque => head < 2048,
+    }
+}
+
+// The slot that a steal reads, in an array of `tasks`.
+fn slot_ok(kind: Kind, tasks: u32, read: Anchor) -> bool
+    ensures { λ r. ⌜ r ≡ slotOk kind tasks read ⌝ }
+{
+    match kind {
+        Kind::Lifo => read.count <= tasks,
+        Kind::Fifo => true,
+        Kind::Deque => true,
+    }
+}
+
+// The noted array exists, and the slot in it. Each array is twice the one before, so its size is the first one's, doubled.
+fn place_ok(kind: Kind, published: u32, first: u32, read: Anchor, place: u32) -> bool
+    requires { ⌜ published ≤ 11 ⌝ }
+    ensures { λ r. ⌜ ((q : Queue) → q .published ≡ published → Doubles q first → r ≡ placeOk kind q read place) ⌝ }
+{
+    if published <= place {
+        return false;
+    }
+    slot_ok(kind, first << place, read)
+}
+
+fn is_deque(kind: Kind) -> bool
+    ensures { λ r. ⌜ r ≡ isDeque kind ⌝ }
+{
+    match kind {
+        Kind::Lifo => false,
+        Kind::Fifo => false,
+        Kind::Deque => true,
+    }
+}
+
+fn next_ok(kind: Kind, next: u32) -> bool
+    ensures { λ r. ⌜ r ≡ nextOk kind next ⌝ }
+{
+    match kind {
+        Kind::Lifo => next == 0,
+        Kind::Fifo => next == 0,
+        Kind::Deque => next < 2048,
+    }
+}
+
+// The anchor that a take or a steal past its test for EMPTY read, and what else it holds.
+fn past_empty(kind: Kind, width: u32, tasks: u32, read: Anchor, other: bool) -> bool
+    requires { ⌜ width ≤ 16 ⌝ }
+    ensures { λ r. ⌜ r ≡ (readOk kind width tasks read and someOk kind read and other) ⌝ }
+{
+    both(
+        read_ok(kind, width, tasks, read),
+        both(some_ok(kind, read), other),
+    )
+}
+
+// The anchor and the task of a put past its test.
+fn past_test(kind: Kind, width: u32, tasks: u32, task: Task, read: Anchor) -> bool
+    requires { ⌜ width ≤ 16 ⌝ }
+    ensures { λ r. ⌜ r ≡ (numberOk (task .number) and readOk kind width tasks read and roomOk kind tasks read) ⌝ }
+{
+    both(
+        number_ok(task.number),
+        both(
+            read_ok(kind, width, tasks, read),
+            room_ok(kind, tasks, read),
+        ),
+    )
+}
+
+// What X3 holds.
+fn copy_ok(kind: Kind, tasks: u32, task: Task, head: u32, noted: u32, copied: u32) -> bool
+    ensures { λ r. ⌜ r ≡ (numberOk (task .number) and notedOk kind head noted and leb noted tasks and ltb copied noted) ⌝ }
+{
+    both(
+        number_ok(task.number),
+        both(
+            noted_ok(kind, head, noted),
+            both(noted <= tasks, copied < noted),
+        ),
+    )
+}
+
+// What a worker at the line has read; the current array has `tasks` slots.
+pub fn line_ok(kind: Kind, width: u32, published: u32, first: u32, tasks: u32, line: Line) -> bool
+    requires { ⌜ width ≤ 16 ⌝ }
+    requires { ⌜ published ≤ 11 ⌝ }
+    ensures { λ r. ⌜ ((q : Queue) → q .published ≡ published → Doubles q first → tasks ≡ size q → r ≡ lineOk kind width q line) ⌝ }
+{
+    match line {
+        Line::Idle => true,
+        Line::PutRead { task } => number_ok(task.number),
+        Line::PutTail { task, head } => both(number_ok(task.number), head_ok(kind, head)),
+        Line::PutTest { task, read } => both(
+            number_ok(task.number),
+            read_ok(kind, width, tasks, read),
+        ),
+        Line::PutNumber { task, read } => past_test(kind, width, tasks, task, read),
+        Line::PutPayload { task, read } => past_test(kind, width, tasks, task, read),
+        Line::PutFinish { task, read } => past_test(kind, width, tasks, task, read),
+        Line::Claim { task } => number_ok(task.number),
+        Line::Note { task } => number_ok(task.number),
+        Line::Copy {
+            task,
+            head,
+            noted,
+            copied,
+        } => copy_ok(kind, tasks, task, head, noted, copied),
+        Line::Publish { task } => number_ok(task.number),
+        Line::TakeRead => true,
+        Line::TakeTail { head } => head_ok(kind, head),
+        Line::TakeTest { read } => read_ok(kind, width, tasks, read),
+        Line::TakeNumber { read } => both(read_ok(kind, width, tasks, read), some_ok(kind, read)),
+        Line::TakePayload { read, number } => past_empty(
+            kind,
+            width,
+            tasks,
+            read,
+            number_ok(number),
+        ),
+        Line::TakeFinish { read, task } => past_empty(
+            kind,
+            width,
+            tasks,
+            read,
+            number_ok(task.number),
+        ),
+        Line::StealRead => true,
+        Line::StealTail { head } => head_ok(kind, head),
+        Line::StealTest { read } => read_ok(kind, width, tasks, read),
+        Line::StealNote { read } => both(read_ok(kind, width, tasks, read), some_ok(kind, read)),
+        Line::StealNumber { read, place } => past_empty(
+            kind,
+            width,
+            tasks,
+            read,
+            place_ok(kind, published, first, read, place),
+        ),
+        Line::StealPayload {
+            read,
+            place,
+            number,
+        } => {
+            let holds = both(
+                place_ok(kind, published, first, read, place),
+                number_ok(number),
+            );
+            past_empty(kind, width, tasks, read, holds)
+        }
+        Line::StealNext { read, task } => {
+            let holds = both(is_deque(kind), number_ok(task.number));
+            past_empty(kind, width, tasks, read, holds)
+        }
+        Line::StealCompare { read, next, task } => {
+            let holds = both(next_ok(kind, next), number_ok(task.number));
+            past_empty(kind, width, tasks, read, holds)
+        }
+    }
+}
