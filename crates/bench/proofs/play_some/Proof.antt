@@ -99,22 +99,26 @@ same-length-12 : tie.Need-same-length-12 Inv-loop μ-loop
 same-length-12 c = c .before .before .before .before .before .before .before .before .before .before .before .before .before .before .before .before .before .feed .kept .1 .1 .1 .1 .0 ∙ c .before .before .before .before .before .before .before .before .before .before .before .before .before .before .before .before .before .before .before .before .before .before .before .before .loop .inv .5
 
 returns-3 : tie.Need-returns-3 Inv-loop μ-loop
-returns-3 c = let k = simp (length-take, length-drop) at (c .before .before .carry .ensures .count) in ((omega (arith, k), omega (arith, k, c .before .before .carry .kept .0)), λ e. subst Reachable (left-on _ (c .before .before .before .before .before .before .before .before .before .before .before .before .before .before .before .before .before .feed .result .session) (c .before .before .before .before .before .before .before .before .before .before .before .before .before .before .before .before .before .feed .last .1 .1 .0) (c .before .before .before .before .before .before .before .before .before .before .before .before .before .before .before .before .before .feed .last .1 .1 .1 .0) (c .before .before .before .before .before .before .if2 .left)) (c .before .before .before .before .before .before .before .before .before .before .before .before .before .before .before .before .before .feed .ensures .1))
+returns-3 c =
+    let at-feed = c .before .before .before .before .before .before .before .before .before .before .before .before .before .before .before .before .before in
+    let k = simp (length-take, length-drop) at (c .before .before .carry .ensures .count) in ((omega (arith, k), omega (arith, k, c .before .before .carry .kept .0)), λ e. subst Reachable (left-on _ (at-feed .feed .result .session) (at-feed .feed .last .1 .1 .0) (at-feed .feed .last .1 .1 .1 .0) (c .before .before .before .before .before .before .if2 .left)) (at-feed .feed .ensures .1))
 
 loop-less : tie.Need-loop-less Inv-loop μ-loop
 loop-less c = omega arith
 
 loop-again : tie.Need-loop-again Inv-loop μ-loop
-loop-again c = let l = c .before .before .before .before .before .before .before .before .before .before .before .before .before .before .before .before .before .before .before .before .loop in (
-  omega (arith, l .inv .0, simp (length-take, length-drop) at ((c .before .before .before .before .before .before .before .before .before .before .before .before .before .feed .ensures .0) .within)),
-  l .inv .1,
-  l .inv .2,
-  c .before .before .before .before .before .before .before .before .before .before .before .before .before .feed .kept .1 .1 .0 ∙ l .inv .3,
-  c .before .before .before .before .before .before .before .before .before .before .before .before .before .feed .kept .1 .1 .1 .0 ∙ l .inv .4,
-  c .before .before .before .before .before .before .before .before .before .before .before .before .before .feed .kept .1 .1 .1 .1 .0 ∙ l .inv .5,
-  l .inv .6,
-  subst Reachable (left-on _ (c .before .before .before .before .before .before .before .before .before .before .before .before .before .feed .result .session) (c .before .before .before .before .before .before .before .before .before .before .before .before .before .feed .last .1 .1 .0) (c .before .before .before .before .before .before .before .before .before .before .before .before .before .feed .last .1 .1 .1 .0) (c .before .before .if2 .left)) (c .before .before .before .before .before .before .before .before .before .before .before .before .before .feed .ensures .1),
-)
+loop-again c =
+    let at-feed = c .before .before .before .before .before .before .before .before .before .before .before .before .before in
+    let l = c .before .before .before .before .before .before .before .before .before .before .before .before .before .before .before .before .before .before .before .before .loop in (
+      omega (arith, l .inv .0, simp (length-take, length-drop) at ((at-feed .feed .ensures .0) .within)),
+      l .inv .1,
+      l .inv .2,
+      at-feed .feed .kept .1 .1 .0 ∙ l .inv .3,
+      at-feed .feed .kept .1 .1 .1 .0 ∙ l .inv .4,
+      at-feed .feed .kept .1 .1 .1 .1 .0 ∙ l .inv .5,
+      l .inv .6,
+      subst Reachable (left-on _ (at-feed .feed .result .session) (at-feed .feed .last .1 .1 .0) (at-feed .feed .last .1 .1 .1 .0) (c .before .before .if2 .left)) (at-feed .feed .ensures .1),
+    )
 
 same-length-13 : tie.Need-same-length-13 Inv-loop μ-loop
 same-length-13 c = c .before .loop .inv .2

@@ -71,13 +71,17 @@ returns-2 : tie.Need-returns-2 Inv-loop μ-loop
 returns-2 c = search needs
 
 slice-write-buf : tie.Need-slice-write-buf Inv-loop μ-loop
-slice-write-buf c = omega (arith, c .before .before .before .before .before .before .before .before .before .before .before .before .before .before .pre, c .before .before .before .before .before .before .before .before .loop .inv .0, c .before .before .before .before .before .before .before .before .loop .inv .1, c .before .before .before .before .before .read-more .kept .0)
+slice-write-buf c =
+    let at-loop = c .before .before .before .before .before .before .before .before in
+    omega (arith, c .before .before .before .before .before .before .before .before .before .before .before .before .before .before .pre, at-loop .loop .inv .0, at-loop .loop .inv .1, c .before .before .before .before .before .read-more .kept .0)
 
 add-n : tie.Need-add-n Inv-loop μ-loop
 add-n c = omega (arith, c .before .before .before .before .before .before .before .before .loop .inv .0)
 
 play-some-requires : tie.Need-play-some-requires Inv-loop μ-loop
-play-some-requires c κs = (rw length-set (omega (arith, c .before .before .before .before .before .before .before .before .before .before .before .before .before .before .before .before .before .before .pre, c .before .before .before .before .before .before .before .before .before .before .before .before .loop .inv .0, c .before .before .before .before .before .before .before .before .before .before .before .before .loop .inv .1, c .before .before .before .before .before .before .before .before .before .read-more .kept .0)), c .before .before .before .before .before .before .before .before .before .before .before .before .loop .inv .6)
+play-some-requires c κs =
+    let at-loop = c .before .before .before .before .before .before .before .before .before .before .before .before in
+    (rw length-set (omega (arith, c .before .before .before .before .before .before .before .before .before .before .before .before .before .before .before .before .before .before .pre, at-loop .loop .inv .0, at-loop .loop .inv .1, c .before .before .before .before .before .before .before .before .before .read-more .kept .0)), at-loop .loop .inv .6)
 
 same-length-9 : tie.Need-same-length-9 Inv-loop μ-loop
 same-length-9 c = (rw length-set at (c .before .before .before .before .before .before .before .before .play-some .kept .1 .0)) ∙ c .before .before .before .before .before .before .before .before .before .before .before .before .before .before .before .before .before .before .read-more .kept .0 ∙ c .before .before .before .before .before .before .before .before .before .before .before .before .before .before .before .before .before .before .before .before .before .loop .inv .1
@@ -120,14 +124,15 @@ loop-less c = omega (arith, c .before .before .before .before .before .before .b
 
 loop-again : tie.Need-loop-again Inv-loop μ-loop
 loop-again c =
+    let at-play-some2 = c .before .before .before .before .before .before .before .before .before .before .before in
     let l = c .before .before .before .before .before .before .before .before .before .before .before .before .before .before .before .before .before .before .before .before .before .before .before .before .loop in (
-      c .before .before .before .before .before .before .before .before .before .before .before .play-some2 .ensures .0 .0,
-      c .before .before .before .before .before .before .before .before .before .before .before .play-some2 .kept .1 .0 ∙ c .before .before .before .before .before .before .before .before .before .before .before .before .before .before .before .before .before .before .before .before .before .read-more .kept .0 ∙ l .inv .1,
-      c .before .before .before .before .before .before .before .before .before .before .before .play-some2 .kept .1 .1 .1 .0 ∙ l .inv .2,
-      c .before .before .before .before .before .before .before .before .before .before .before .play-some2 .kept .1 .1 .1 .1 .0 ∙ l .inv .3,
-      c .before .before .before .before .before .before .before .before .before .before .before .play-some2 .kept .1 .1 .1 .1 .1 .0 ∙ l .inv .4,
+      at-play-some2 .play-some2 .ensures .0 .0,
+      at-play-some2 .play-some2 .kept .1 .0 ∙ c .before .before .before .before .before .before .before .before .before .before .before .before .before .before .before .before .before .before .before .before .before .read-more .kept .0 ∙ l .inv .1,
+      at-play-some2 .play-some2 .kept .1 .1 .1 .0 ∙ l .inv .2,
+      at-play-some2 .play-some2 .kept .1 .1 .1 .1 .0 ∙ l .inv .3,
+      at-play-some2 .play-some2 .kept .1 .1 .1 .1 .1 .0 ∙ l .inv .4,
       l .inv .5,
-      c .before .before .before .before .before .before .before .before .before .before .before .play-some2 .ensures .1 (not-false _ (c .before .if2 .left)),
+      at-play-some2 .play-some2 .ensures .1 (not-false _ (c .before .if2 .left)),
     )
 
 same-length-17 : tie.Need-same-length-17 Inv-loop μ-loop

@@ -24,7 +24,9 @@ element-write-seen : tie.Need-element-write-seen
 element-write-seen c = search needs
 
 returns : tie.Need-returns
-returns c = let a = c .before .before .before .before .before .args in seen-mark _ _ (a .entry) _ (ap (λ (t : Task). t .number) (c .before .task-at .ensures)) (c .before .before .before .before .before .pre .1)
+returns c =
+    let start = c .before .before .before .before .before in
+    let a = start .args in seen-mark _ _ (a .entry) _ (ap (λ (t : Task). t .number) (c .before .task-at .ensures)) (start .pre .1)
 
 returns-2 : tie.Need-returns-2
 returns-2 c = let a = c .before .before .before .args in seen-other _ _ (a .entry) (c .before .is-kind .ensures) (c .if1 .left) (c .before .before .before .pre .1)

@@ -15,11 +15,13 @@ returns-2 c =
 
 returns-3 : tie.Need-returns-3
 returns-3 c =
-    odd-log (c .before .before .before .before .before .args .log .now) (c .before .before .before .before .before .args .list .now) (omega arith) (omega arith) (c .if3 .taken)
+    let start = c .before .before .before .before .before in
+    odd-log (start .args .log .now) (start .args .list .now) (omega arith) (omega arith) (c .if3 .taken)
 
 returns-4 : tie.Need-returns-4
 returns-4 c =
-    odd-list (c .before .before .before .before .before .before .args .log .now) (c .before .before .before .before .before .before .args .list .now) (omega arith) (omega arith) (c .if4 .taken)
+    let start = c .before .before .before .before .before .before in
+    odd-list (start .args .log .now) (start .args .list .now) (omega arith) (omega arith) (c .if4 .taken)
 
 slice-aggregate-judge-entries : tie.Need-slice-aggregate-judge-entries
 slice-aggregate-judge-entries c = search needs
@@ -36,7 +38,8 @@ judge-entries-requires c κs =
 
 returns-5 : tie.Need-returns-5
 returns-5 c =
-    c .before .before .before .judge-entries .ensures ∙ even (c .before .before .before .before .before .before .before .before .before .before .before .before .before .args .log .now) (c .before .before .before .before .before .before .before .before .before .before .before .before .before .args .list .now) (omega arith) (omega arith) (c .before .before .before .before .before .before .before .before .if3 .left) (c .before .before .before .before .before .before .before .if4 .left)
+    let start = c .before .before .before .before .before .before .before .before .before .before .before .before .before in
+    c .before .before .before .judge-entries .ensures ∙ even (start .args .log .now) (start .args .list .now) (omega arith) (omega arith) (c .before .before .before .before .before .before .before .before .if3 .left) (c .before .before .before .before .before .before .before .if4 .left)
 
 pub judge-spec : {M : Type 1} → statement M
 judge-spec =

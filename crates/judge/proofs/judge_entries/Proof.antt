@@ -16,15 +16,17 @@ in-order-requires c κs = search needs
 
 returns : tie.Need-returns
 returns c =
-    not-in-order (wordsOf (c .before .before .before .before .before .before .before .args .log .now)) (c .before .before .before .before .before .before .before .args .entries) (wordsOf (c .before .before .before .before .before .before .before .args .list .now)) (c .before .before .before .before .before .before .before .args .numbers) (refused (c .before .in-order .ensures) (c .if1 .taken))
+    let start = c .before .before .before .before .before .before .before in
+    not-in-order (wordsOf (start .args .log .now)) (start .args .entries) (wordsOf (start .args .list .now)) (start .args .numbers) (refused (c .before .in-order .ensures) (c .if1 .taken))
 
 gather-requires : tie.Need-gather-requires
 gather-requires c κs = search needs
 
 hand-outs-requires : tie.Need-hand-outs-requires
 hand-outs-requires c κs =
+    let start = c .before .before .before .before .before .before .before .before .before .before .before .before .before in
     let f = c .before .before .before .before .gather .ensures .few in
-    ((omega arith, omega arith, omega (arith, f), omega (arith, f)), (c .before .before .before .before .gather .ensures, (rising-by (wordsOf (c .before .before .before .before .before .before .before .before .before .before .before .before .before .args .log .now)) (c .before .before .before .before .before .before .before .before .before .before .before .before .before .args .entries) _ _ (c .before .before .before .before .gather .ensures) (and-right _ _ (passed (c .before .before .before .before .before .before .before .in-order .ensures) (c .before .before .before .before .before .before .if1 .left))), c .before .before .before .before .before .before .before .before .before .before .before .before .before .pre .1)))
+    ((omega arith, omega arith, omega (arith, f), omega (arith, f)), (c .before .before .before .before .gather .ensures, (rising-by (wordsOf (start .args .log .now)) (start .args .entries) _ _ (c .before .before .before .before .gather .ensures) (and-right _ _ (passed (c .before .before .before .before .before .before .before .in-order .ensures) (c .before .before .before .before .before .before .if1 .left))), start .pre .1)))
 
 same-length : tie.Need-same-length
 same-length c = search needs
@@ -34,17 +36,22 @@ same-length-2 c = search needs
 
 returns-2 : tie.Need-returns-2
 returns-2 c =
-    not-all-honest (wordsOf (c .before .before .before .before .before .before .before .before .before .before .before .before .before .before .before .before .before .before .args .log .now)) (c .before .before .before .before .before .before .before .before .before .before .before .before .before .before .before .before .before .before .args .entries) (wordsOf (c .before .before .before .before .before .before .before .before .before .before .before .before .before .before .before .before .before .before .args .list .now)) (c .before .before .before .before .before .before .before .before .before .before .before .before .before .before .before .before .before .before .args .numbers) (refused (c .before .before .before .before .hand-outs .ensures .fine) (c .if2 .taken))
+    let start = c .before .before .before .before .before .before .before .before .before .before .before .before .before .before .before .before .before .before in
+    not-all-honest (wordsOf (start .args .log .now)) (start .args .entries) (wordsOf (start .args .list .now)) (start .args .numbers) (refused (c .before .before .before .before .hand-outs .ensures .fine) (c .if2 .taken))
 
 note-hints-requires : tie.Need-note-hints-requires
 note-hints-requires c κs =
-    let f = c .before .before .before .before .before .before .before .before .before .before .before .gather .ensures .few in
-    ((omega (arith, f), omega (arith, f), c .before .before .before .before .before .before .before .before .before .before .before .before .before .before .before .before .before .before .before .before .pre .0 .5), λ k h. let p = c .before .before .before .before .before .before .before .before .before .before .before .gather .ensures .placed k h in omega (arith, p))
+    let at-gather = c .before .before .before .before .before .before .before .before .before .before .before in
+    let f = at-gather .gather .ensures .few in
+    ((omega (arith, f), omega (arith, f), c .before .before .before .before .before .before .before .before .before .before .before .before .before .before .before .before .before .before .before .before .pre .0 .5), λ k h. let p = at-gather .gather .ensures .placed k h in omega (arith, p))
 
 mark-listed-requires : tie.Need-mark-listed-requires
 mark-listed-requires c κs =
-    let f = c .before .before .before .before .before .before .before .before .before .before .before .before .before .before .before .before .before .gather .ensures .few in
-    (let a = c .before .before .before .before .before .before .before .before .before .before .before .before .before .before .before .before .before .before .before .before .before .before .before .before .before .before .pre .0 .3 in let b = c .before .before .before .before .before .before .before .before .before .before .before .before .before .before .before .before .before .before .before .before .before .before .before .before .before .before .pre .0 .4 in let g = c .before .before .before .before .before .before .before .before .before .before .before .before .before .before .before .before .puts .given in let h = c .before .before .before .before .before .before .before .before .before .before .before .seen .given in (c .before .before .before .before .before .before .before .before .before .before .before .before .before .before .before .before .before .before .before .before .before .before .before .before .before .before .pre .0 .2, c .before .before .before .before .before .before .before .before .before .before .before .before .before .before .before .before .before .before .before .before .before .before .before .before .before .before .pre .0 .0, omega (arith, f, a, g), omega (arith, f, b, h), c .before .before .before .before .before .note-hints .ensures), (c .before .before .before .before .before .before .before .before .before .before .before .before .before .before .before .before .before .gather .ensures, (rising-by (wordsOf (c .before .before .before .before .before .before .before .before .before .before .before .before .before .before .before .before .before .before .before .before .before .before .before .before .before .before .args .log .now)) (c .before .before .before .before .before .before .before .before .before .before .before .before .before .before .before .before .before .before .before .before .before .before .before .before .before .before .args .entries) _ _ (c .before .before .before .before .before .before .before .before .before .before .before .before .before .before .before .before .before .gather .ensures) (and-right _ _ (passed (c .before .before .before .before .before .before .before .before .before .before .before .before .before .before .before .before .before .before .before .before .in-order .ensures) (c .before .before .before .before .before .before .before .before .before .before .before .before .before .before .before .before .before .before .before .if1 .left))), c .before .before .before .before .before .before .before .before .before .before .before .before .hand-outs .ensures .marked (not-false _ (c .before .before .before .before .before .before .before .before .if2 .left)) (wordsOf (c .before .before .before .before .before .before .before .before .before .before .before .before .before .before .before .before .before .before .before .before .before .before .before .before .before .before .args .list .now)))))
+    let at-before = c .before .before .before .before .before .before .before .before .before .before .before .before .before .before .before .before in
+    let start = c .before .before .before .before .before .before .before .before .before .before .before .before .before .before .before .before .before .before .before .before .before .before .before .before .before .before in
+    let at-gather = c .before .before .before .before .before .before .before .before .before .before .before .before .before .before .before .before .before in
+    let f = at-gather .gather .ensures .few in
+    (let a = start .pre .0 .3 in let b = start .pre .0 .4 in let g = at-before .puts .given in let h = c .before .before .before .before .before .before .before .before .before .before .before .seen .given in (start .pre .0 .2, start .pre .0 .0, omega (arith, f, a, g), omega (arith, f, b, h), c .before .before .before .before .before .note-hints .ensures), (at-gather .gather .ensures, (rising-by (wordsOf (start .args .log .now)) (start .args .entries) _ _ (at-gather .gather .ensures) (and-right _ _ (passed (c .before .before .before .before .before .before .before .before .before .before .before .before .before .before .before .before .before .before .before .before .in-order .ensures) (c .before .before .before .before .before .before .before .before .before .before .before .before .before .before .before .before .before .before .before .if1 .left))), c .before .before .before .before .before .before .before .before .before .before .before .before .hand-outs .ensures .marked (not-false _ (c .before .before .before .before .before .before .before .before .if2 .left)) (wordsOf (start .args .list .now)))))
 
 all-marked-requires : tie.Need-all-marked-requires
 all-marked-requires c κs =
@@ -65,13 +72,18 @@ same-length-5 c = search needs
 
 returns-3 : tie.Need-returns-3
 returns-3 c =
-    not-all-kept (wordsOf (c .before .before .before .before .before .before .before .before .before .before .before .before .before .before .before .before .before .before .before .before .before .before .before .before .before .before .before .before .before .before .before .before .args .log .now)) (c .before .before .before .before .before .before .before .before .before .before .before .before .before .before .before .before .before .before .before .before .before .before .before .before .before .before .before .before .before .before .before .before .args .entries) (wordsOf (c .before .before .before .before .before .before .before .before .before .before .before .before .before .before .before .before .before .before .before .before .before .before .before .before .before .before .before .before .before .before .before .before .args .list .now)) (c .before .before .before .before .before .before .before .before .before .before .before .before .before .before .before .before .before .before .before .before .before .before .before .before .before .before .before .before .before .before .before .before .args .numbers) (sym (kept-whole (wordsOf (c .before .before .before .before .before .before .before .before .before .before .before .before .before .before .before .before .before .before .before .before .before .before .before .before .before .before .before .before .before .before .before .before .args .log .now)) (c .before .before .before .before .before .before .before .before .before .before .before .before .before .before .before .before .before .before .before .before .before .before .before .before .before .before .before .before .before .before .before .before .args .entries) (wordsOf (c .before .before .before .before .before .before .before .before .before .before .before .before .before .before .before .before .before .before .before .before .before .before .before .before .before .before .before .before .before .before .before .before .args .list .now)) (c .before .before .before .before .before .before .before .before .before .before .before .before .before .before .before .before .before .before .before .before .before .before .before .before .before .before .before .before .before .before .before .before .args .numbers) _ _ (c .before .before .before .before .before .mark-listed .last .1 .1 .1 .1 .1 .1 .1 .0) (c .before .before .before .before .before .before .before .before .before .before .before .before .before .before .before .before .before .before .before .before .before .before .before .gather .ensures) (c .before .before .before .before .before .mark-listed .ensures) false (refused (c .before .all-marked .ensures) (c .if3 .taken))))
+    let start = c .before .before .before .before .before .before .before .before .before .before .before .before .before .before .before .before .before .before .before .before .before .before .before .before .before .before .before .before .before .before .before .before in
+    let at-mark-listed = c .before .before .before .before .before in
+    not-all-kept (wordsOf (start .args .log .now)) (start .args .entries) (wordsOf (start .args .list .now)) (start .args .numbers) (sym (kept-whole (wordsOf (start .args .log .now)) (start .args .entries) (wordsOf (start .args .list .now)) (start .args .numbers) _ _ (at-mark-listed .mark-listed .last .1 .1 .1 .1 .1 .1 .1 .0) (c .before .before .before .before .before .before .before .before .before .before .before .before .before .before .before .before .before .before .before .before .before .before .before .gather .ensures) (at-mark-listed .mark-listed .ensures) false (refused (c .before .all-marked .ensures) (c .if3 .taken))))
 
 sub-repeats : tie.Need-sub-repeats
 sub-repeats c =
-    let a = c .before .before .before .before .before .before .before .before .before .before .before .before .before .before .before .before .before .before .before .hand-outs .ensures .handouts (not-false _ (c .before .before .before .before .before .before .before .before .before .before .before .before .before .before .before .if2 .left)) in
-    let b = c .before .before .before .before .before .before .before .before .before .before .before .before .before .before .before .before .before .before .before .hand-outs .ensures .different (not-false _ (c .before .before .before .before .before .before .before .before .before .before .before .before .before .before .before .if2 .left)) in
-    let f = firsts-fewer (wordsOf (c .before .before .before .before .before .before .before .before .before .before .before .before .before .before .before .before .before .before .before .before .before .before .before .before .before .before .before .before .before .before .before .before .before .args .log .now)) (c .before .before .before .before .before .before .before .before .before .before .before .before .before .before .before .before .before .before .before .before .before .before .before .before .before .before .before .before .before .before .before .before .before .args .entries) in
+    let start = c .before .before .before .before .before .before .before .before .before .before .before .before .before .before .before .before .before .before .before .before .before .before .before .before .before .before .before .before .before .before .before .before .before in
+    let at-hand-outs = c .before .before .before .before .before .before .before .before .before .before .before .before .before .before .before .before .before .before .before in
+    let at-if2 = c .before .before .before .before .before .before .before .before .before .before .before .before .before .before .before in
+    let a = at-hand-outs .hand-outs .ensures .handouts (not-false _ (at-if2 .if2 .left)) in
+    let b = at-hand-outs .hand-outs .ensures .different (not-false _ (at-if2 .if2 .left)) in
+    let f = firsts-fewer (wordsOf (start .args .log .now)) (start .args .entries) in
     omega (arith, a, b, f)
 
 same-length-6 : tie.Need-same-length-6
@@ -85,9 +97,13 @@ same-length-8 c = search needs
 
 returns-4 : tie.Need-returns-4
 returns-4 c =
-    all-accepted (wordsOf (c .before .before .before .before .before .before .before .before .before .before .before .before .before .before .before .before .before .before .before .before .before .before .before .before .before .before .before .before .before .before .before .before .before .args .log .now)) (c .before .before .before .before .before .before .before .before .before .before .before .before .before .before .before .before .before .before .before .before .before .before .before .before .before .before .before .before .before .before .before .before .before .args .entries) (wordsOf (c .before .before .before .before .before .before .before .before .before .before .before .before .before .before .before .before .before .before .before .before .before .before .before .before .before .before .before .before .before .before .before .before .before .args .list .now)) (c .before .before .before .before .before .before .before .before .before .before .before .before .before .before .before .before .before .before .before .before .before .before .before .before .before .before .before .before .before .before .before .before .before .args .numbers) _ _ (passed (c .before .before .before .before .before .before .before .before .before .before .before .before .before .before .before .before .before .before .before .before .before .before .before .before .before .before .before .in-order .ensures) (c .before .before .before .before .before .before .before .before .before .before .before .before .before .before .before .before .before .before .before .before .before .before .before .before .before .before .if1 .left)) (passed (c .before .before .before .before .before .before .before .before .before .before .before .before .before .before .before .before .before .before .before .hand-outs .ensures .fine) (c .before .before .before .before .before .before .before .before .before .before .before .before .before .before .before .if2 .left))
-    (sym (kept-whole (wordsOf (c .before .before .before .before .before .before .before .before .before .before .before .before .before .before .before .before .before .before .before .before .before .before .before .before .before .before .before .before .before .before .before .before .before .args .log .now)) (c .before .before .before .before .before .before .before .before .before .before .before .before .before .before .before .before .before .before .before .before .before .before .before .before .before .before .before .before .before .before .before .before .before .args .entries) (wordsOf (c .before .before .before .before .before .before .before .before .before .before .before .before .before .before .before .before .before .before .before .before .before .before .before .before .before .before .before .before .before .before .before .before .before .args .list .now)) (c .before .before .before .before .before .before .before .before .before .before .before .before .before .before .before .before .before .before .before .before .before .before .before .before .before .before .before .before .before .before .before .before .before .args .numbers) _ _ (c .before .before .before .before .before .before .mark-listed .last .1 .1 .1 .1 .1 .1 .1 .0) (c .before .before .before .before .before .before .before .before .before .before .before .before .before .before .before .before .before .before .before .before .before .before .before .before .gather .ensures) (c .before .before .before .before .before .before .mark-listed .ensures) true (passed (c .before .before .all-marked .ensures) (c .before .if3 .left))))
-    (c .before .before .before .before .before .before .before .before .before .before .before .before .before .before .before .before .before .before .before .hand-outs .ensures .handouts (not-false _ (c .before .before .before .before .before .before .before .before .before .before .before .before .before .before .before .if2 .left))) (c .before .before .before .before .before .before .before .before .before .before .before .before .before .before .before .before .before .before .before .hand-outs .ensures .different (not-false _ (c .before .before .before .before .before .before .before .before .before .before .before .before .before .before .before .if2 .left)))
+    let start = c .before .before .before .before .before .before .before .before .before .before .before .before .before .before .before .before .before .before .before .before .before .before .before .before .before .before .before .before .before .before .before .before .before in
+    let at-hand-outs = c .before .before .before .before .before .before .before .before .before .before .before .before .before .before .before .before .before .before .before in
+    let at-if2 = c .before .before .before .before .before .before .before .before .before .before .before .before .before .before .before in
+    let at-mark-listed = c .before .before .before .before .before .before in
+    all-accepted (wordsOf (start .args .log .now)) (start .args .entries) (wordsOf (start .args .list .now)) (start .args .numbers) _ _ (passed (c .before .before .before .before .before .before .before .before .before .before .before .before .before .before .before .before .before .before .before .before .before .before .before .before .before .before .before .in-order .ensures) (c .before .before .before .before .before .before .before .before .before .before .before .before .before .before .before .before .before .before .before .before .before .before .before .before .before .before .if1 .left)) (passed (at-hand-outs .hand-outs .ensures .fine) (at-if2 .if2 .left))
+    (sym (kept-whole (wordsOf (start .args .log .now)) (start .args .entries) (wordsOf (start .args .list .now)) (start .args .numbers) _ _ (at-mark-listed .mark-listed .last .1 .1 .1 .1 .1 .1 .1 .0) (c .before .before .before .before .before .before .before .before .before .before .before .before .before .before .before .before .before .before .before .before .before .before .before .before .gather .ensures) (at-mark-listed .mark-listed .ensures) true (passed (c .before .before .all-marked .ensures) (c .before .if3 .left))))
+    (at-hand-outs .hand-outs .ensures .handouts (not-false _ (at-if2 .if2 .left))) (at-hand-outs .hand-outs .ensures .different (not-false _ (at-if2 .if2 .left)))
 
 pub judge-entries-spec : {M : Type 1} → statement M
 judge-entries-spec =

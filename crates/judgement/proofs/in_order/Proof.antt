@@ -26,11 +26,13 @@ word-requires c κs =
 
 returns : tie.Need-returns Inv-loop μ-loop
 returns c =
-    not-known (wordsOf (c .before .before .before .before .before .args .log .now)) (c .before .before .before .before .before .args .entries) (c .before .before .before .loop .j) (omega arith) (too-low (wordsOf (c .before .before .before .before .before .args .log .now)) _ _ (c .before .word .ensures) (omega arith))
+    let start = c .before .before .before .before .before in
+    not-known (wordsOf (start .args .log .now)) (start .args .entries) (c .before .before .before .loop .j) (omega arith) (too-low (wordsOf (start .args .log .now)) _ _ (c .before .word .ensures) (omega arith))
 
 returns-2 : tie.Need-returns-2 Inv-loop μ-loop
 returns-2 c =
-    not-known (wordsOf (c .before .before .before .before .before .before .args .log .now)) (c .before .before .before .before .before .before .args .entries) (c .before .before .before .before .loop .j) (omega arith) (too-high (wordsOf (c .before .before .before .before .before .before .args .log .now)) _ _ (c .before .before .word .ensures) (omega arith))
+    let start = c .before .before .before .before .before .before in
+    not-known (wordsOf (start .args .log .now)) (start .args .entries) (c .before .before .before .before .loop .j) (omega arith) (too-high (wordsOf (start .args .log .now)) _ _ (c .before .before .word .ensures) (omega arith))
 
 add-j : tie.Need-add-j Inv-loop μ-loop
 add-j c =
@@ -42,8 +44,9 @@ loop-less c =
 
 loop-again : tie.Need-loop-again Inv-loop μ-loop
 loop-again c =
+    let start = c .before .before .before .before .before .before .before in
     let t : c .before .before .before .word .result ≡ 2 = c .if3 .taken in
-    (omega arith, floor-skip (wordsOf (c .before .before .before .before .before .before .before .args .log .now)) _ _ (c .before .before .before .before .before .loop .inv .1) (known-by (wordsOf (c .before .before .before .before .before .before .before .args .log .now)) _ _ (c .before .before .before .word .ensures) (omega (arith, t)) (omega (arith, t))) (plain-by (wordsOf (c .before .before .before .before .before .before .before .args .log .now)) _ _ (c .before .before .before .word .ensures) (λ x. omega (arith, t, x)) (λ x. omega (arith, t, x))))
+    (omega arith, floor-skip (wordsOf (start .args .log .now)) _ _ (c .before .before .before .before .before .loop .inv .1) (known-by (wordsOf (start .args .log .now)) _ _ (c .before .before .before .word .ensures) (omega (arith, t)) (omega (arith, t))) (plain-by (wordsOf (start .args .log .now)) _ _ (c .before .before .before .word .ensures) (λ x. omega (arith, t, x)) (λ x. omega (arith, t, x))))
 
 add-j-2 : tie.Need-add-j-2 Inv-loop μ-loop
 add-j-2 c =
@@ -55,8 +58,9 @@ loop-less-2 c =
 
 loop-again-2 : tie.Need-loop-again-2 Inv-loop μ-loop
 loop-again-2 c =
+    let start = c .before .before .before .before .before .before .before .before in
     let t : c .before .before .before .before .word .result ≡ 3 = c .if4 .taken in
-    (omega arith, floor-skip (wordsOf (c .before .before .before .before .before .before .before .before .args .log .now)) _ _ (c .before .before .before .before .before .before .loop .inv .1) (known-by (wordsOf (c .before .before .before .before .before .before .before .before .args .log .now)) _ _ (c .before .before .before .before .word .ensures) (omega (arith, t)) (omega (arith, t))) (plain-by (wordsOf (c .before .before .before .before .before .before .before .before .args .log .now)) _ _ (c .before .before .before .before .word .ensures) (λ x. omega (arith, t, x)) (λ x. omega (arith, t, x))))
+    (omega arith, floor-skip (wordsOf (start .args .log .now)) _ _ (c .before .before .before .before .before .before .loop .inv .1) (known-by (wordsOf (start .args .log .now)) _ _ (c .before .before .before .before .word .ensures) (omega (arith, t)) (omega (arith, t))) (plain-by (wordsOf (start .args .log .now)) _ _ (c .before .before .before .before .word .ensures) (λ x. omega (arith, t, x)) (λ x. omega (arith, t, x))))
 
 mul-word-2 : tie.Need-mul-word-2 Inv-loop μ-loop
 mul-word-2 c =
@@ -76,9 +80,10 @@ cast-number c =
 
 returns-3 : tie.Need-returns-3 Inv-loop μ-loop
 returns-3 c =
+    let start = c .before .before .before .before .before .before .before .before .before .before in
     let r = c .before .word2 .ensures in
     let t = c .if5 .taken in
-    not-rising (wordsOf (c .before .before .before .before .before .before .before .before .before .before .args .log .now)) _ _ (c .before .before .before .before .before .before .before .before .loop .inv .1) (c .before .before .before .before .before .before .before .before .before .before .args .entries) (omega arith) (numbered-by (wordsOf (c .before .before .before .before .before .before .before .before .before .before .args .log .now)) _ _ (c .before .before .before .before .before .before .word .ensures) (omega arith) (omega arith) (c .before .before .before .if3 .left) (c .before .before .if4 .left)) (omega (arith, r, t))
+    not-rising (wordsOf (start .args .log .now)) _ _ (c .before .before .before .before .before .before .before .before .loop .inv .1) (start .args .entries) (omega arith) (numbered-by (wordsOf (start .args .log .now)) _ _ (c .before .before .before .before .before .before .word .ensures) (omega arith) (omega arith) (c .before .before .before .if3 .left) (c .before .before .if4 .left)) (omega (arith, r, t))
 
 add-floor : tie.Need-add-floor Inv-loop μ-loop
 add-floor c =
@@ -94,9 +99,12 @@ loop-less-3 c =
 
 loop-again-3 : tie.Need-loop-again-3 Inv-loop μ-loop
 loop-again-3 c =
+    let start = c .before .before .before .before .before .before .before .before .before .before in
+    let at-loop = c .before .before .before .before .before .before .before .before in
+    let at-word = c .before .before .before .before .before .before in
     let r = c .before .word2 .ensures in
     let t = c .if5 .left in
-    (omega arith, subst (λ (x : ℕ). Floor (wordsOf (c .before .before .before .before .before .before .before .before .before .before .args .log .now)) (c .before .before .before .before .before .before .before .before .loop .j + 1) (x + 1)) (sym r) (floor-next (wordsOf (c .before .before .before .before .before .before .before .before .before .before .args .log .now)) _ _ (c .before .before .before .before .before .before .before .before .loop .inv .1) (known-by (wordsOf (c .before .before .before .before .before .before .before .before .before .before .args .log .now)) _ _ (c .before .before .before .before .before .before .word .ensures) (omega arith) (omega arith)) (numbered-by (wordsOf (c .before .before .before .before .before .before .before .before .before .before .args .log .now)) _ _ (c .before .before .before .before .before .before .word .ensures) (omega arith) (omega arith) (c .before .before .before .if3 .left) (c .before .before .if4 .left)) (omega (arith, r, t))))
+    (omega arith, subst (λ (x : ℕ). Floor (wordsOf (start .args .log .now)) (at-loop .loop .j + 1) (x + 1)) (sym r) (floor-next (wordsOf (start .args .log .now)) _ _ (at-loop .loop .inv .1) (known-by (wordsOf (start .args .log .now)) _ _ (at-word .word .ensures) (omega arith) (omega arith)) (numbered-by (wordsOf (start .args .log .now)) _ _ (at-word .word .ensures) (omega arith) (omega arith) (c .before .before .before .if3 .left) (c .before .before .if4 .left)) (omega (arith, r, t))))
 
 returns-4 : tie.Need-returns-4 Inv-loop μ-loop
 returns-4 c =

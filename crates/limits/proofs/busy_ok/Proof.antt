@@ -26,8 +26,9 @@ own-line-requires c κs = search needs
 
 returns-2 : tie.Need-returns-2
 returns-2 c q s =
-    let a = c .before .before .before .before .before .args in
-    let busy = eqb-false (stage (a .own .line)) 0 (c .before .before .before .before .before .pre .1 .1 .1) in
+    let start = c .before .before .before .before .before in
+    let a = start .args in
+    let busy = eqb-false (stage (a .own .line)) 0 (start .pre .1 .1 .1) in
     let hand = c .before .own-line .ensures ∙ ap (λ (x : ℕ). if eqb (a .worker) 0 then ltb x 4 else ltb 3 x) (c .before .before .stage .ensures) in
     sym
     (inside (a .scope .kind) (a .scope .width) q (a .scope .crew) (a .worker) (a .own .line) busy (c .before .before .before .if1 .left)
@@ -38,8 +39,9 @@ line-ok-requires c κs = search needs
 
 returns-3 : tie.Need-returns-3
 returns-3 c q (p, d, t) =
-    let a = c .before .before .before .before .before .before .args in
-    let busy = eqb-false (stage (a .own .line)) 0 (c .before .before .before .before .before .before .pre .1 .1 .1) in
+    let start = c .before .before .before .before .before .before in
+    let a = start .args in
+    let busy = eqb-false (stage (a .own .line)) 0 (start .pre .1 .1 .1) in
     let hand = c .before .before .own-line .ensures ∙ ap (λ (x : ℕ). if eqb (a .worker) 0 then ltb x 4 else ltb 3 x) (c .before .before .before .stage .ensures) in
     c .line-ok .ensures q p d t
     ∙ sym

@@ -23,8 +23,9 @@ anchor-ok-requires c κs = search needs
 returns : tie.Need-returns
 unfolding sizeAt
 returns c =
-    let b = c .before .before .before .before .before .before .args .bench in
-    let now = c .before .anchor-ok .ensures ∙ ap (λ (z : ℕ). anchorOk (b .kind) (b .width) z (b .queue .anchor)) (current (b .queue) (sizeAt (b .queue .arrays) 0) (c .before .before .before .before .before .before .pre .1 .1 .0) (c .before .before .before .before .before .before .pre .1 .0 .0)) in
+    let start = c .before .before .before .before .before .before in
+    let b = start .args .bench in
+    let now = c .before .anchor-ok .ensures ∙ ap (λ (z : ℕ). anchorOk (b .kind) (b .width) z (b .queue .anchor)) (current (b .queue) (sizeAt (b .queue .arrays) 0) (start .pre .1 .1 .0) (start .pre .1 .0 .0)) in
     sym (fails _ (refused now (c .if1 .taken)))
 
 number-ok-requires : tie.Need-number-ok-requires
@@ -33,22 +34,25 @@ number-ok-requires c κs = search needs
 returns-2 : tie.Need-returns-2
 unfolding sizeAt
 returns-2 c =
-    let b = c .before .before .before .before .before .before .before .before .args .bench in
-    let now = c .before .before .before .anchor-ok .ensures ∙ ap (λ (z : ℕ). anchorOk (b .kind) (b .width) z (b .queue .anchor)) (current (b .queue) (sizeAt (b .queue .arrays) 0) (c .before .before .before .before .before .before .before .before .pre .1 .1 .0) (c .before .before .before .before .before .before .before .before .pre .1 .0 .0)) in
+    let start = c .before .before .before .before .before .before .before .before in
+    let b = start .args .bench in
+    let now = c .before .before .before .anchor-ok .ensures ∙ ap (λ (z : ℕ). anchorOk (b .kind) (b .width) z (b .queue .anchor)) (current (b .queue) (sizeAt (b .queue .arrays) 0) (start .pre .1 .1 .0) (start .pre .1 .0 .0)) in
     sym (holds (passed now (c .before .before .if1 .left)) ∙ fails _ (refused (c .before .number-ok .ensures) (c .if2 .taken)))
 
 workers-ok-requires : tie.Need-workers-ok-requires
 unfolding sizeAt
 workers-ok-requires c κs =
-    let b = c .before .before .before .before .before .before .before .before .args .bench in
-    let pre = c .before .before .before .before .before .before .before .before .pre in
+    let start = c .before .before .before .before .before .before .before .before in
+    let b = start .args .bench in
+    let pre = start .pre in
     (pre .0, (pre .1 .0 .1, (pre .1 .1 .0, (current (b .queue) (sizeAt (b .queue .arrays) 0) (pre .1 .1 .0) (pre .1 .0 .0), pre .1 .1 .1))))
 
 returns-3 : tie.Need-returns-3
 unfolding sizeAt
 returns-3 c =
-    let b = c .before .before .before .before .before .before .before .before .before .args .bench in
-    let now = c .before .before .before .before .anchor-ok .ensures ∙ ap (λ (z : ℕ). anchorOk (b .kind) (b .width) z (b .queue .anchor)) (current (b .queue) (sizeAt (b .queue .arrays) 0) (c .before .before .before .before .before .before .before .before .before .pre .1 .1 .0) (c .before .before .before .before .before .before .before .before .before .pre .1 .0 .0)) in
+    let start = c .before .before .before .before .before .before .before .before .before in
+    let b = start .args .bench in
+    let now = c .before .before .before .before .anchor-ok .ensures ∙ ap (λ (z : ℕ). anchorOk (b .kind) (b .width) z (b .queue .anchor)) (current (b .queue) (sizeAt (b .queue .arrays) 0) (start .pre .1 .1 .0) (start .pre .1 .0 .0)) in
     c .workers-ok .ensures
     ∙ sym (holds (passed now (c .before .before .before .if1 .left)) ∙ holds (passed (c .before .before .number-ok .ensures) (c .before .if2 .left)))
 

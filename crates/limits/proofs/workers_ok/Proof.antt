@@ -22,9 +22,10 @@ busy-ok-requires c κs =
 
 returns : tie.Need-returns
 returns c =
-    let b = c .before .before .before .before .before .args .t1 in
-    let d = c .before .before .before .before .before .pre .1 .1 .0 in
-    let t = c .before .before .before .before .before .pre .1 .1 .1 .0 in
+    let start = c .before .before .before .before .before in
+    let b = start .args .t1 in
+    let d = start .pre .1 .1 .0 in
+    let t = start .pre .1 .1 .1 .0 in
     sym
     (no-workers (b .kind) (b .width) (b .queue) (b .crew) (b .workers) 1 8 (omega arith)
     (next-worker (b .kind) (b .width) (b .queue) (b .crew) (b .workers) false 0 refl (refused {t = member (b .kind) (b .width) (b .queue) (b .crew) (b .workers) 0} (c .before .busy-ok .ensures (b .queue) (refl, d, t)) (c .if2 .taken))))
@@ -42,9 +43,10 @@ busy-ok-requires-2 c κs =
 
 returns-2 : tie.Need-returns-2
 returns-2 c =
-    let b = c .before .before .before .before .before .before .before .before .args .t1 in
-    let d = c .before .before .before .before .before .before .before .before .pre .1 .1 .0 in
-    let t = c .before .before .before .before .before .before .before .before .pre .1 .1 .1 .0 in
+    let start = c .before .before .before .before .before .before .before .before in
+    let b = start .args .t1 in
+    let d = start .pre .1 .1 .0 in
+    let t = start .pre .1 .1 .1 .0 in
     let p1 = next-worker (b .kind) (b .width) (b .queue) (b .crew) (b .workers) true 0 refl (⊎-elim (λ x. passed {t = member (b .kind) (b .width) (b .queue) (b .crew) (b .workers) 0} (x .1 .ensures (b .queue) (refl, d, t)) (x .2 .left)) (λ x. idle-passes (b .kind) (b .width) (b .queue) (b .crew) (b .workers) 0 (passed (c .before .before .before .before .before .before .rests .ensures) (x .left))) (c .before .before .before .before .before .if1 .came)) in
     sym
     (no-workers (b .kind) (b .width) (b .queue) (b .crew) (b .workers) 2 8 (omega arith)
@@ -63,9 +65,10 @@ busy-ok-requires-3 c κs =
 
 returns-3 : tie.Need-returns-3
 returns-3 c =
-    let b = c .before .before .before .before .before .before .before .before .before .before .before .args .t1 in
-    let d = c .before .before .before .before .before .before .before .before .before .before .before .pre .1 .1 .0 in
-    let t = c .before .before .before .before .before .before .before .before .before .before .before .pre .1 .1 .1 .0 in
+    let start = c .before .before .before .before .before .before .before .before .before .before .before in
+    let b = start .args .t1 in
+    let d = start .pre .1 .1 .0 in
+    let t = start .pre .1 .1 .1 .0 in
     let p1 = next-worker (b .kind) (b .width) (b .queue) (b .crew) (b .workers) true 0 refl (⊎-elim (λ x. passed {t = member (b .kind) (b .width) (b .queue) (b .crew) (b .workers) 0} (x .1 .ensures (b .queue) (refl, d, t)) (x .2 .left)) (λ x. idle-passes (b .kind) (b .width) (b .queue) (b .crew) (b .workers) 0 (passed (c .before .before .before .before .before .before .before .before .before .rests .ensures) (x .left))) (c .before .before .before .before .before .before .before .before .if1 .came)) in
     let p2 = next-worker (b .kind) (b .width) (b .queue) (b .crew) (b .workers) true 1 p1 (⊎-elim (λ x. passed {t = member (b .kind) (b .width) (b .queue) (b .crew) (b .workers) 1} (x .1 .ensures (b .queue) (refl, d, t)) (x .2 .left)) (λ x. idle-passes (b .kind) (b .width) (b .queue) (b .crew) (b .workers) 1 (passed (c .before .before .before .before .before .before .rests2 .ensures) (x .left))) (c .before .before .before .before .before .if3 .came)) in
     sym
@@ -85,9 +88,10 @@ busy-ok-requires-4 c κs =
 
 returns-4 : tie.Need-returns-4
 returns-4 c =
-    let b = c .before .before .before .before .before .before .before .before .before .before .before .before .before .before .args .t1 in
-    let d = c .before .before .before .before .before .before .before .before .before .before .before .before .before .before .pre .1 .1 .0 in
-    let t = c .before .before .before .before .before .before .before .before .before .before .before .before .before .before .pre .1 .1 .1 .0 in
+    let start = c .before .before .before .before .before .before .before .before .before .before .before .before .before .before in
+    let b = start .args .t1 in
+    let d = start .pre .1 .1 .0 in
+    let t = start .pre .1 .1 .1 .0 in
     let p1 = next-worker (b .kind) (b .width) (b .queue) (b .crew) (b .workers) true 0 refl (⊎-elim (λ x. passed {t = member (b .kind) (b .width) (b .queue) (b .crew) (b .workers) 0} (x .1 .ensures (b .queue) (refl, d, t)) (x .2 .left)) (λ x. idle-passes (b .kind) (b .width) (b .queue) (b .crew) (b .workers) 0 (passed (c .before .before .before .before .before .before .before .before .before .before .before .before .rests .ensures) (x .left))) (c .before .before .before .before .before .before .before .before .before .before .before .if1 .came)) in
     let p2 = next-worker (b .kind) (b .width) (b .queue) (b .crew) (b .workers) true 1 p1 (⊎-elim (λ x. passed {t = member (b .kind) (b .width) (b .queue) (b .crew) (b .workers) 1} (x .1 .ensures (b .queue) (refl, d, t)) (x .2 .left)) (λ x. idle-passes (b .kind) (b .width) (b .queue) (b .crew) (b .workers) 1 (passed (c .before .before .before .before .before .before .before .before .before .rests2 .ensures) (x .left))) (c .before .before .before .before .before .before .before .before .if3 .came)) in
     let p3 = next-worker (b .kind) (b .width) (b .queue) (b .crew) (b .workers) true 2 p2 (⊎-elim (λ x. passed {t = member (b .kind) (b .width) (b .queue) (b .crew) (b .workers) 2} (x .1 .ensures (b .queue) (refl, d, t)) (x .2 .left)) (λ x. idle-passes (b .kind) (b .width) (b .queue) (b .crew) (b .workers) 2 (passed (c .before .before .before .before .before .before .rests3 .ensures) (x .left))) (c .before .before .before .before .before .if5 .came)) in
@@ -108,9 +112,10 @@ busy-ok-requires-5 c κs =
 
 returns-5 : tie.Need-returns-5
 returns-5 c =
-    let b = c .before .before .before .before .before .before .before .before .before .before .before .before .before .before .before .before .before .args .t1 in
-    let d = c .before .before .before .before .before .before .before .before .before .before .before .before .before .before .before .before .before .pre .1 .1 .0 in
-    let t = c .before .before .before .before .before .before .before .before .before .before .before .before .before .before .before .before .before .pre .1 .1 .1 .0 in
+    let start = c .before .before .before .before .before .before .before .before .before .before .before .before .before .before .before .before .before in
+    let b = start .args .t1 in
+    let d = start .pre .1 .1 .0 in
+    let t = start .pre .1 .1 .1 .0 in
     let p1 = next-worker (b .kind) (b .width) (b .queue) (b .crew) (b .workers) true 0 refl (⊎-elim (λ x. passed {t = member (b .kind) (b .width) (b .queue) (b .crew) (b .workers) 0} (x .1 .ensures (b .queue) (refl, d, t)) (x .2 .left)) (λ x. idle-passes (b .kind) (b .width) (b .queue) (b .crew) (b .workers) 0 (passed (c .before .before .before .before .before .before .before .before .before .before .before .before .before .before .before .rests .ensures) (x .left))) (c .before .before .before .before .before .before .before .before .before .before .before .before .before .before .if1 .came)) in
     let p2 = next-worker (b .kind) (b .width) (b .queue) (b .crew) (b .workers) true 1 p1 (⊎-elim (λ x. passed {t = member (b .kind) (b .width) (b .queue) (b .crew) (b .workers) 1} (x .1 .ensures (b .queue) (refl, d, t)) (x .2 .left)) (λ x. idle-passes (b .kind) (b .width) (b .queue) (b .crew) (b .workers) 1 (passed (c .before .before .before .before .before .before .before .before .before .before .before .before .rests2 .ensures) (x .left))) (c .before .before .before .before .before .before .before .before .before .before .before .if3 .came)) in
     let p3 = next-worker (b .kind) (b .width) (b .queue) (b .crew) (b .workers) true 2 p2 (⊎-elim (λ x. passed {t = member (b .kind) (b .width) (b .queue) (b .crew) (b .workers) 2} (x .1 .ensures (b .queue) (refl, d, t)) (x .2 .left)) (λ x. idle-passes (b .kind) (b .width) (b .queue) (b .crew) (b .workers) 2 (passed (c .before .before .before .before .before .before .before .before .before .rests3 .ensures) (x .left))) (c .before .before .before .before .before .before .before .before .if5 .came)) in
@@ -132,9 +137,10 @@ busy-ok-requires-6 c κs =
 
 returns-6 : tie.Need-returns-6
 returns-6 c =
-    let b = c .before .before .before .before .before .before .before .before .before .before .before .before .before .before .before .before .before .before .before .before .args .t1 in
-    let d = c .before .before .before .before .before .before .before .before .before .before .before .before .before .before .before .before .before .before .before .before .pre .1 .1 .0 in
-    let t = c .before .before .before .before .before .before .before .before .before .before .before .before .before .before .before .before .before .before .before .before .pre .1 .1 .1 .0 in
+    let start = c .before .before .before .before .before .before .before .before .before .before .before .before .before .before .before .before .before .before .before .before in
+    let b = start .args .t1 in
+    let d = start .pre .1 .1 .0 in
+    let t = start .pre .1 .1 .1 .0 in
     let p1 = next-worker (b .kind) (b .width) (b .queue) (b .crew) (b .workers) true 0 refl (⊎-elim (λ x. passed {t = member (b .kind) (b .width) (b .queue) (b .crew) (b .workers) 0} (x .1 .ensures (b .queue) (refl, d, t)) (x .2 .left)) (λ x. idle-passes (b .kind) (b .width) (b .queue) (b .crew) (b .workers) 0 (passed (c .before .before .before .before .before .before .before .before .before .before .before .before .before .before .before .before .before .before .rests .ensures) (x .left))) (c .before .before .before .before .before .before .before .before .before .before .before .before .before .before .before .before .before .if1 .came)) in
     let p2 = next-worker (b .kind) (b .width) (b .queue) (b .crew) (b .workers) true 1 p1 (⊎-elim (λ x. passed {t = member (b .kind) (b .width) (b .queue) (b .crew) (b .workers) 1} (x .1 .ensures (b .queue) (refl, d, t)) (x .2 .left)) (λ x. idle-passes (b .kind) (b .width) (b .queue) (b .crew) (b .workers) 1 (passed (c .before .before .before .before .before .before .before .before .before .before .before .before .before .before .before .rests2 .ensures) (x .left))) (c .before .before .before .before .before .before .before .before .before .before .before .before .before .before .if3 .came)) in
     let p3 = next-worker (b .kind) (b .width) (b .queue) (b .crew) (b .workers) true 2 p2 (⊎-elim (λ x. passed {t = member (b .kind) (b .width) (b .queue) (b .crew) (b .workers) 2} (x .1 .ensures (b .queue) (refl, d, t)) (x .2 .left)) (λ x. idle-passes (b .kind) (b .width) (b .queue) (b .crew) (b .workers) 2 (passed (c .before .before .before .before .before .before .before .before .before .before .before .before .rests3 .ensures) (x .left))) (c .before .before .before .before .before .before .before .before .before .before .before .if5 .came)) in
@@ -157,9 +163,10 @@ busy-ok-requires-7 c κs =
 
 returns-7 : tie.Need-returns-7
 returns-7 c =
-    let b = c .before .before .before .before .before .before .before .before .before .before .before .before .before .before .before .before .before .before .before .before .before .before .before .args .t1 in
-    let d = c .before .before .before .before .before .before .before .before .before .before .before .before .before .before .before .before .before .before .before .before .before .before .before .pre .1 .1 .0 in
-    let t = c .before .before .before .before .before .before .before .before .before .before .before .before .before .before .before .before .before .before .before .before .before .before .before .pre .1 .1 .1 .0 in
+    let start = c .before .before .before .before .before .before .before .before .before .before .before .before .before .before .before .before .before .before .before .before .before .before .before in
+    let b = start .args .t1 in
+    let d = start .pre .1 .1 .0 in
+    let t = start .pre .1 .1 .1 .0 in
     let p1 = next-worker (b .kind) (b .width) (b .queue) (b .crew) (b .workers) true 0 refl (⊎-elim (λ x. passed {t = member (b .kind) (b .width) (b .queue) (b .crew) (b .workers) 0} (x .1 .ensures (b .queue) (refl, d, t)) (x .2 .left)) (λ x. idle-passes (b .kind) (b .width) (b .queue) (b .crew) (b .workers) 0 (passed (c .before .before .before .before .before .before .before .before .before .before .before .before .before .before .before .before .before .before .before .before .before .rests .ensures) (x .left))) (c .before .before .before .before .before .before .before .before .before .before .before .before .before .before .before .before .before .before .before .before .if1 .came)) in
     let p2 = next-worker (b .kind) (b .width) (b .queue) (b .crew) (b .workers) true 1 p1 (⊎-elim (λ x. passed {t = member (b .kind) (b .width) (b .queue) (b .crew) (b .workers) 1} (x .1 .ensures (b .queue) (refl, d, t)) (x .2 .left)) (λ x. idle-passes (b .kind) (b .width) (b .queue) (b .crew) (b .workers) 1 (passed (c .before .before .before .before .before .before .before .before .before .before .before .before .before .before .before .before .before .before .rests2 .ensures) (x .left))) (c .before .before .before .before .before .before .before .before .before .before .before .before .before .before .before .before .before .if3 .came)) in
     let p3 = next-worker (b .kind) (b .width) (b .queue) (b .crew) (b .workers) true 2 p2 (⊎-elim (λ x. passed {t = member (b .kind) (b .width) (b .queue) (b .crew) (b .workers) 2} (x .1 .ensures (b .queue) (refl, d, t)) (x .2 .left)) (λ x. idle-passes (b .kind) (b .width) (b .queue) (b .crew) (b .workers) 2 (passed (c .before .before .before .before .before .before .before .before .before .before .before .before .before .before .before .rests3 .ensures) (x .left))) (c .before .before .before .before .before .before .before .before .before .before .before .before .before .before .if5 .came)) in
@@ -183,9 +190,10 @@ busy-ok-requires-8 c κs =
 
 returns-8 : tie.Need-returns-8
 returns-8 c =
-    let b = c .before .before .before .before .before .before .before .before .before .before .before .before .before .before .before .before .before .before .before .before .before .before .before .before .before .before .args .t1 in
-    let d = c .before .before .before .before .before .before .before .before .before .before .before .before .before .before .before .before .before .before .before .before .before .before .before .before .before .before .pre .1 .1 .0 in
-    let t = c .before .before .before .before .before .before .before .before .before .before .before .before .before .before .before .before .before .before .before .before .before .before .before .before .before .before .pre .1 .1 .1 .0 in
+    let start = c .before .before .before .before .before .before .before .before .before .before .before .before .before .before .before .before .before .before .before .before .before .before .before .before .before .before in
+    let b = start .args .t1 in
+    let d = start .pre .1 .1 .0 in
+    let t = start .pre .1 .1 .1 .0 in
     let p1 = next-worker (b .kind) (b .width) (b .queue) (b .crew) (b .workers) true 0 refl (⊎-elim (λ x. passed {t = member (b .kind) (b .width) (b .queue) (b .crew) (b .workers) 0} (x .1 .ensures (b .queue) (refl, d, t)) (x .2 .left)) (λ x. idle-passes (b .kind) (b .width) (b .queue) (b .crew) (b .workers) 0 (passed (c .before .before .before .before .before .before .before .before .before .before .before .before .before .before .before .before .before .before .before .before .before .before .before .before .rests .ensures) (x .left))) (c .before .before .before .before .before .before .before .before .before .before .before .before .before .before .before .before .before .before .before .before .before .before .before .if1 .came)) in
     let p2 = next-worker (b .kind) (b .width) (b .queue) (b .crew) (b .workers) true 1 p1 (⊎-elim (λ x. passed {t = member (b .kind) (b .width) (b .queue) (b .crew) (b .workers) 1} (x .1 .ensures (b .queue) (refl, d, t)) (x .2 .left)) (λ x. idle-passes (b .kind) (b .width) (b .queue) (b .crew) (b .workers) 1 (passed (c .before .before .before .before .before .before .before .before .before .before .before .before .before .before .before .before .before .before .before .before .before .rests2 .ensures) (x .left))) (c .before .before .before .before .before .before .before .before .before .before .before .before .before .before .before .before .before .before .before .before .if3 .came)) in
     let p3 = next-worker (b .kind) (b .width) (b .queue) (b .crew) (b .workers) true 2 p2 (⊎-elim (λ x. passed {t = member (b .kind) (b .width) (b .queue) (b .crew) (b .workers) 2} (x .1 .ensures (b .queue) (refl, d, t)) (x .2 .left)) (λ x. idle-passes (b .kind) (b .width) (b .queue) (b .crew) (b .workers) 2 (passed (c .before .before .before .before .before .before .before .before .before .before .before .before .before .before .before .before .before .before .rests3 .ensures) (x .left))) (c .before .before .before .before .before .before .before .before .before .before .before .before .before .before .before .before .before .if5 .came)) in
@@ -199,9 +207,10 @@ returns-8 c =
 
 returns-9 : tie.Need-returns-9
 returns-9 c =
-    let b = c .before .before .before .before .before .before .before .before .before .before .before .before .before .before .before .before .before .before .before .before .before .before .before .before .args .t1 in
-    let d = c .before .before .before .before .before .before .before .before .before .before .before .before .before .before .before .before .before .before .before .before .before .before .before .before .pre .1 .1 .0 in
-    let t = c .before .before .before .before .before .before .before .before .before .before .before .before .before .before .before .before .before .before .before .before .before .before .before .before .pre .1 .1 .1 .0 in
+    let start = c .before .before .before .before .before .before .before .before .before .before .before .before .before .before .before .before .before .before .before .before .before .before .before .before in
+    let b = start .args .t1 in
+    let d = start .pre .1 .1 .0 in
+    let t = start .pre .1 .1 .1 .0 in
     let p1 = next-worker (b .kind) (b .width) (b .queue) (b .crew) (b .workers) true 0 refl (⊎-elim (λ x. passed {t = member (b .kind) (b .width) (b .queue) (b .crew) (b .workers) 0} (x .1 .ensures (b .queue) (refl, d, t)) (x .2 .left)) (λ x. idle-passes (b .kind) (b .width) (b .queue) (b .crew) (b .workers) 0 (passed (c .before .before .before .before .before .before .before .before .before .before .before .before .before .before .before .before .before .before .before .before .before .before .rests .ensures) (x .left))) (c .before .before .before .before .before .before .before .before .before .before .before .before .before .before .before .before .before .before .before .before .before .if1 .came)) in
     let p2 = next-worker (b .kind) (b .width) (b .queue) (b .crew) (b .workers) true 1 p1 (⊎-elim (λ x. passed {t = member (b .kind) (b .width) (b .queue) (b .crew) (b .workers) 1} (x .1 .ensures (b .queue) (refl, d, t)) (x .2 .left)) (λ x. idle-passes (b .kind) (b .width) (b .queue) (b .crew) (b .workers) 1 (passed (c .before .before .before .before .before .before .before .before .before .before .before .before .before .before .before .before .before .before .before .rests2 .ensures) (x .left))) (c .before .before .before .before .before .before .before .before .before .before .before .before .before .before .before .before .before .before .if3 .came)) in
     let p3 = next-worker (b .kind) (b .width) (b .queue) (b .crew) (b .workers) true 2 p2 (⊎-elim (λ x. passed {t = member (b .kind) (b .width) (b .queue) (b .crew) (b .workers) 2} (x .1 .ensures (b .queue) (refl, d, t)) (x .2 .left)) (λ x. idle-passes (b .kind) (b .width) (b .queue) (b .crew) (b .workers) 2 (passed (c .before .before .before .before .before .before .before .before .before .before .before .before .before .before .before .before .rests3 .ensures) (x .left))) (c .before .before .before .before .before .before .before .before .before .before .before .before .before .before .before .if5 .came)) in

@@ -92,13 +92,18 @@ part-parse-start : tie.Need-part-parse-start Inv-loop μ-loop Inv-lines μ-lines
 part-parse-start c = omega (arith, c .before .line-end .ensures)
 
 part-parse-end : tie.Need-part-parse-end Inv-loop μ-loop Inv-lines μ-lines
-part-parse-end c = let l = c .before .before .before .before .lines in omega (arith, c .before .line-end .ensures, front-fits (drop (l .used) (c .before .before .before .before .before .before .before .before .before .before .args .buf .now)), length-drop (l .used) (c .before .before .before .before .before .before .before .before .before .before .args .buf .now), l .inv .0 .within)
+part-parse-end c =
+    let start = c .before .before .before .before .before .before .before .before .before .before in
+    let l = c .before .before .before .before .lines in omega (arith, c .before .line-end .ensures, front-fits (drop (l .used) (start .args .buf .now)), length-drop (l .used) (start .args .buf .now), l .inv .0 .within)
 
 parse-requires : tie.Need-parse-requires Inv-loop μ-loop Inv-lines μ-lines
 parse-requires c κs = search needs
 
 add-used : tie.Need-add-used Inv-loop μ-loop Inv-lines μ-lines
-add-used c = omega (arith, c .before .before .before .line-end .ensures, front-fits (drop (c .before .before .before .before .before .before .lines .used) (c .before .before .before .before .before .before .before .before .before .before .before .before .args .buf .now)), length-drop (c .before .before .before .before .before .before .lines .used) (c .before .before .before .before .before .before .before .before .before .before .before .before .args .buf .now), c .before .before .before .before .before .before .lines .inv .0 .within, c .before .before .if2 .left)
+add-used c =
+    let start = c .before .before .before .before .before .before .before .before .before .before .before .before in
+    let at-lines = c .before .before .before .before .before .before in
+    omega (arith, c .before .before .before .line-end .ensures, front-fits (drop (at-lines .lines .used) (start .args .buf .now)), length-drop (at-lines .lines .used) (start .args .buf .now), at-lines .lines .inv .0 .within, c .before .before .if2 .left)
 
 ask-requires : tie.Need-ask-requires Inv-loop μ-loop Inv-lines μ-lines
 ask-requires c κs = search needs
@@ -110,7 +115,9 @@ enum-told : tie.Need-enum-told Inv-loop μ-loop Inv-lines μ-lines
 enum-told c = search needs
 
 refused-at-once-requires : tie.Need-refused-at-once-requires Inv-loop μ-loop Inv-lines μ-lines
-refused-at-once-requires c κs = crew-of (sessionOf (c .before .before .before .before .before .before .before .before .before .lines .live) (c .before .before .before .before .before .before .before .before .before .lines .words) (c .before .before .before .before .before .before .before .before .before .lines .bench)) (c .before .before .before .before .before .before .before .before .before .lines .store) (c .before .before .before .before .before .before .before .before .before .lines .log) (c .before .before .before .before .before .before .before .before .before .lines .inv .0 .reach)
+refused-at-once-requires c κs =
+    let at-lines = c .before .before .before .before .before .before .before .before .before in
+    crew-of (sessionOf (at-lines .lines .live) (at-lines .lines .words) (at-lines .lines .bench)) (at-lines .lines .store) (at-lines .lines .log) (at-lines .lines .inv .0 .reach)
 
 enum-known-stop : tie.Need-enum-known-stop Inv-loop μ-loop Inv-lines μ-lines
 enum-known-stop c = search needs
@@ -126,11 +133,13 @@ lines-less c = omega (arith, c .before .before .before .before .before .before .
 
 lines-again : tie.Need-lines-again Inv-loop μ-loop Inv-lines μ-lines
 lines-again c =
+    let at-parse = c .before .before .before .before .before .before .before .before .before .before .before in
+    let at-stop = c .before .before .before .before .before in
     let l = c .before .before .before .before .before .before .before .before .before .before .before .before .before .before .before .before .before .lines in
     let s = sessionOf (l .live) (l .words) (l .bench) in
-    let at-once = subst (RefusedAtOnce (l .live) (worldOf s (l .store) (l .log)) (c .before .before .before .before .before .before .before .before .before .before .before .parse .result)) (c .before .before .before .before .before .stop .given .1) (c .before .before .before .before .before .before .before .refused-at-once .ensures (take (l .words) (l .store)) (l .log) (valid-of s (l .store) (l .log) (l .inv .0 .reach))) in (
-      standing-on _ _ s (l .store) (l .log) (l .out) (l .used) (l .wrote) _ _ _ _ _ _ (l .inv .0) (c .before .before .before .before .before .before .before .before .before .before .before .before .before .before .line-end .ensures) (c .before .before .before .before .before .before .before .before .before .before .before .before .before .if2 .left) (let z : l .wrote + 72 ≤ length (l .out) = omega (arith, l .inv .0 .fits, l .inv .3, c .before .before .before .before .before .before .before .before .before .before .before .before .before .before .before .if1 .left) in z) (c .before .before .before .before .before .before .before .before .before .before .before .parse .ensures)
-          (at-once-by s (l .store) (l .log) (c .before .before .before .before .before .before .before .before .before .before .before .parse .result) (c .before .before .before .before .before .stop .given .0 .0) _ _ _ _ at-once (c .before .before .show .ensures)) (refl),
+    let at-once = subst (RefusedAtOnce (l .live) (worldOf s (l .store) (l .log)) (at-parse .parse .result)) (at-stop .stop .given .1) (c .before .before .before .before .before .before .before .refused-at-once .ensures (take (l .words) (l .store)) (l .log) (valid-of s (l .store) (l .log) (l .inv .0 .reach))) in (
+      standing-on _ _ s (l .store) (l .log) (l .out) (l .used) (l .wrote) _ _ _ _ _ _ (l .inv .0) (c .before .before .before .before .before .before .before .before .before .before .before .before .before .before .line-end .ensures) (c .before .before .before .before .before .before .before .before .before .before .before .before .before .if2 .left) (let z : l .wrote + 72 ≤ length (l .out) = omega (arith, l .inv .0 .fits, l .inv .3, c .before .before .before .before .before .before .before .before .before .before .before .before .before .before .before .if1 .left) in z) (at-parse .parse .ensures)
+          (at-once-by s (l .store) (l .log) (at-parse .parse .result) (at-stop .stop .given .0 .0) _ _ _ _ at-once (c .before .before .show .ensures)) (refl),
       l .inv .1,
       l .inv .2,
       c .before .before .show .kept .1 .0 ∙ l .inv .3,
@@ -156,11 +165,12 @@ same-length-9 c = c .before .before .before .before .before .before .before .bef
 
 returns-3 : tie.Need-returns-3 Inv-loop μ-loop Inv-lines μ-lines
 returns-3 c =
+    let at-play = c .before .before .before .before .before .before .before .before .before in
     let l = c .before .before .before .before .before .before .before .before .before .before .before .before .before .before .before .before .before .before .before .before .before .before .before .before .before .lines in
     let s = sessionOf (l .live) (l .words) (l .bench) in (
       standing-over _ _ s (l .store) (l .log) (l .out) (l .used) (l .wrote) _ _ _ _ _ _ (l .inv .0) (c .before .before .before .before .before .before .before .before .before .before .before .before .before .before .before .before .before .before .before .before .before .before .line-end .ensures) (c .before .before .before .before .before .before .before .before .before .before .before .before .before .before .before .before .before .before .before .before .before .if2 .left) (let z : l .wrote + 72 ≤ length (l .out) = omega (arith, l .inv .0 .fits, l .inv .3, c .before .before .before .before .before .before .before .before .before .before .before .before .before .before .before .before .before .before .before .before .before .before .before .if1 .left) in z) (c .before .before .before .before .before .before .before .before .before .before .before .before .before .before .before .before .before .before .before .parse .ensures)
-          (c .before .before .before .before .before .before .before .before .before .play .ensures) (c .if3 .taken),
-      reach-over (c .before .before .before .before .before .before .before .before .before .play .result .session) (c .before .before .before .before .before .before .before .before .before .play .last .1 .1 .0) (c .before .before .before .before .before .before .before .before .before .play .last .1 .1 .1 .0),
+          (at-play .play .ensures) (c .if3 .taken),
+      reach-over (at-play .play .result .session) (at-play .play .last .1 .1 .0) (at-play .play .last .1 .1 .1 .0),
     )
 
 lines-less-2 : tie.Need-lines-less-2 Inv-loop μ-loop Inv-lines μ-lines
@@ -168,13 +178,14 @@ lines-less-2 c = omega (arith, c .before .before .before .before .before .before
 
 lines-again-2 : tie.Need-lines-again-2 Inv-loop μ-loop Inv-lines μ-lines
 lines-again-2 c =
+    let at-play = c .before .before .before .before .before .before .before .before .before in
     let l = c .before .before .before .before .before .before .before .before .before .before .before .before .before .before .before .before .before .before .before .before .before .before .before .before .before .lines in
     let s = sessionOf (l .live) (l .words) (l .bench) in (
       standing-on _ _ s (l .store) (l .log) (l .out) (l .used) (l .wrote) _ _ _ _ _ _ (l .inv .0) (c .before .before .before .before .before .before .before .before .before .before .before .before .before .before .before .before .before .before .before .before .before .before .line-end .ensures) (c .before .before .before .before .before .before .before .before .before .before .before .before .before .before .before .before .before .before .before .before .before .if2 .left) (let z : l .wrote + 72 ≤ length (l .out) = omega (arith, l .inv .0 .fits, l .inv .3, c .before .before .before .before .before .before .before .before .before .before .before .before .before .before .before .before .before .before .before .before .before .before .before .if1 .left) in z) (c .before .before .before .before .before .before .before .before .before .before .before .before .before .before .before .before .before .before .before .parse .ensures)
-          (c .before .before .before .before .before .before .before .before .before .play .ensures) (c .if3 .left),
-      c .before .before .before .before .before .before .before .before .before .play .kept .1 .1 .0 ∙ l .inv .1,
-      c .before .before .before .before .before .before .before .before .before .play .kept .1 .1 .1 .0 ∙ l .inv .2,
-      c .before .before .before .before .before .before .before .before .before .play .kept .1 .1 .1 .1 .0 ∙ l .inv .3,
+          (at-play .play .ensures) (c .if3 .left),
+      at-play .play .kept .1 .1 .0 ∙ l .inv .1,
+      at-play .play .kept .1 .1 .1 .0 ∙ l .inv .2,
+      at-play .play .kept .1 .1 .1 .1 .0 ∙ l .inv .3,
     )
 
 place-of-requires : tie.Need-place-of-requires Inv-loop μ-loop Inv-lines μ-lines
@@ -237,12 +248,13 @@ refusal-of-requires c κs = search needs
 
 show-requires-2 : tie.Need-show-requires-2 Inv-loop μ-loop Inv-lines μ-lines
 show-requires-2 c κs =
+    let at-asked = c .before .before .before .before .before .before .before .before .before .before .before .before .before .before in
     let l = c .before .before .before .before .before .before .before .before .before .before .before .before .before .before .before .before .before .before .before .before .before .before .before .lines in
     let s = sessionOf (l .live) (l .words) (l .bench) in
     let k = c .before .before .before .before .before .before .before .before .before .loop in
     let t = sessionOf (l .live) (l .words) (k .bench) in
     let e = c .before .before .before .before .before .before .before .before .before .before .span .ensures ∙ ap (min (l .words)) (sym (k .inv .2)) in
-    let decided = subst (DecisionOf (worldOf t (k .store) (k .log)) (c .before .before .before .before .before .before .before .before .before .before .before .before .before .before .asked .given .0 .0)) (c .before .before .enum-told3 .given .1) (decision-front (k .bench) (l .words) _ (k .store) (k .log) (c .before .before .before .before .before .before .before .before .before .before .before .before .before .before .asked .given .0 .0) (c .before .before .before .before .decide .result) e (c .before .before .before .before .decide .ensures)) in
+    let decided = subst (DecisionOf (worldOf t (k .store) (k .log)) (at-asked .asked .given .0 .0)) (c .before .before .enum-told3 .given .1) (decision-front (k .bench) (l .words) _ (k .store) (k .log) (at-asked .asked .given .0 .0) (c .before .before .before .before .decide .result) e (c .before .before .before .before .decide .ensures)) in
     stepping-room _ _ _ _ _ _ (k .left) _ _ _ _ (k .inv .0) _ (let z : l .wrote + 72 ≤ length (l .out) = omega (arith, l .inv .0 .fits, l .inv .3, c .before .before .before .before .before .before .before .before .before .before .before .before .before .before .before .before .before .before .before .before .before .if1 .left) in z) (c .before .before .before .before .before .before .before .before .loop-test .taken) (c .before .refusal-of .ensures ∙ ap refusalOf (c .before .before .enum-told3 .given .1) ∙ ap (λ (d : Outcome). d .answer) (sym decided))
 
 lines-less-4 : tie.Need-lines-less-4 Inv-loop μ-loop Inv-lines μ-lines
@@ -250,15 +262,18 @@ lines-less-4 c = omega (arith, c .before .before .before .before .before .before
 
 lines-again-4 : tie.Need-lines-again-4 Inv-loop μ-loop Inv-lines μ-lines
 lines-again-4 c =
+    let at-asked = c .before .before .before .before .before .before .before .before .before .before .before .before .before .before .before .before .before in
+    let at-decide = c .before .before .before .before .before .before .before in
+    let at-enum-told3 = c .before .before .before .before .before in
     let l = c .before .before .before .before .before .before .before .before .before .before .before .before .before .before .before .before .before .before .before .before .before .before .before .before .before .before .lines in
     let s = sessionOf (l .live) (l .words) (l .bench) in
     let k = c .before .before .before .before .before .before .before .before .before .before .before .before .loop in
     let t = sessionOf (l .live) (l .words) (k .bench) in
     let e = c .before .before .before .before .before .before .before .before .before .before .before .before .before .span .ensures ∙ ap (min (l .words)) (sym (k .inv .2)) in
-    let decided = subst (DecisionOf (worldOf t (k .store) (k .log)) (c .before .before .before .before .before .before .before .before .before .before .before .before .before .before .before .before .before .asked .given .0 .0)) (c .before .before .before .before .before .enum-told3 .given .1) (decision-front (k .bench) (l .words) _ (k .store) (k .log) (c .before .before .before .before .before .before .before .before .before .before .before .before .before .before .before .before .before .asked .given .0 .0) (c .before .before .before .before .before .before .before .decide .result) e (c .before .before .before .before .before .before .before .decide .ensures)) in
-    let says = c .before .before .before .before .refusal-of .ensures ∙ ap refusalOf (c .before .before .before .before .before .enum-told3 .given .1) in (
+    let decided = subst (DecisionOf (worldOf t (k .store) (k .log)) (at-asked .asked .given .0 .0)) (at-enum-told3 .enum-told3 .given .1) (decision-front (k .bench) (l .words) _ (k .store) (k .log) (at-asked .asked .given .0 .0) (at-decide .decide .result) e (at-decide .decide .ensures)) in
+    let says = c .before .before .before .before .refusal-of .ensures ∙ ap refusalOf (at-enum-told3 .enum-told3 .given .1) in (
       standing-on _ _ s (l .store) (l .log) (l .out) (l .used) (l .wrote) _ _ _ _ _ _ (l .inv .0) (c .before .before .before .before .before .before .before .before .before .before .before .before .before .before .before .before .before .before .before .before .before .before .before .line-end .ensures) (c .before .before .before .before .before .before .before .before .before .before .before .before .before .before .before .before .before .before .before .before .before .before .if2 .left) (let z : l .wrote + 72 ≤ length (l .out) = omega (arith, l .inv .0 .fits, l .inv .3, c .before .before .before .before .before .before .before .before .before .before .before .before .before .before .before .before .before .before .before .before .before .before .before .before .if1 .left) in z) (c .before .before .before .before .before .before .before .before .before .before .before .before .before .before .before .before .before .before .before .before .parse .ensures)
-          (steps-by s _ _ _ _ _ _ _ _ _ _ _ (sym (c .before .before .before .before .before .before .before .before .before .before .before .before .before .before .before .before .before .before .before .ask .ensures) ∙ c .before .before .before .before .before .before .before .before .before .before .before .before .before .before .before .before .before .asked .given .1) (stepping-stops _ _ _ _ _ _ (k .left) _ _ _ _ (k .inv .0) (c .before .before .before .before .before .before .before .before .before .before .before .loop-test .taken) t (c .before .before .before .before .refusal-of .result) (k .store) (k .log) (ap (λ (a : Answer). record { world = worldOf t (k .store) (k .log); answer = a }) says ∙ sym decided) (k .inv .0 .live) _ _ (c .before .before .show2 .ensures) (ap isRefused says))) (refl),
+          (steps-by s _ _ _ _ _ _ _ _ _ _ _ (sym (c .before .before .before .before .before .before .before .before .before .before .before .before .before .before .before .before .before .before .before .ask .ensures) ∙ at-asked .asked .given .1) (stepping-stops _ _ _ _ _ _ (k .left) _ _ _ _ (k .inv .0) (c .before .before .before .before .before .before .before .before .before .before .before .loop-test .taken) t (c .before .before .before .before .refusal-of .result) (k .store) (k .log) (ap (λ (a : Answer). record { world = worldOf t (k .store) (k .log); answer = a }) says ∙ sym decided) (k .inv .0 .live) _ _ (c .before .before .show2 .ensures) (ap isRefused says))) (refl),
       k .inv .2 ∙ l .inv .1,
       k .inv .3 ∙ l .inv .2,
       c .before .before .show2 .kept .1 .0 ∙ k .inv .4 ∙ l .inv .3,
@@ -269,23 +284,28 @@ enum-known-act c = search needs
 
 do-act-requires : tie.Need-do-act-requires Inv-loop μ-loop Inv-lines μ-lines
 do-act-requires c κs =
+    let at-asked = c .before .before .before .before .before .before .before .before .before .before .before .before .before .before .before .before in
+    let at-decide = c .before .before .before .before .before .before in
     let l = c .before .before .before .before .before .before .before .before .before .before .before .before .before .before .before .before .before .before .before .before .before .before .before .before .before .lines in
     let s = sessionOf (l .live) (l .words) (l .bench) in
     let k = c .before .before .before .before .before .before .before .before .before .before .before .loop in
     let t = sessionOf (l .live) (l .words) (k .bench) in
     let e = c .before .before .before .before .before .before .before .before .before .before .before .before .span .ensures ∙ ap (min (l .words)) (sym (k .inv .2)) in
-    let decided = subst (DecisionOf (worldOf t (k .store) (k .log)) (c .before .before .before .before .before .before .before .before .before .before .before .before .before .before .before .before .asked .given .0 .0)) (c .before .before .before .before .decision .given .1) (decision-front (k .bench) (l .words) _ (k .store) (k .log) (c .before .before .before .before .before .before .before .before .before .before .before .before .before .before .before .before .asked .given .0 .0) (c .before .before .before .before .before .before .decide .result) e (c .before .before .before .before .before .before .decide .ensures)) in
+    let decided = subst (DecisionOf (worldOf t (k .store) (k .log)) (at-asked .asked .given .0 .0)) (c .before .before .before .before .decision .given .1) (decision-front (k .bench) (l .words) _ (k .store) (k .log) (at-asked .asked .given .0 .0) (at-decide .decide .result) e (at-decide .decide .ensures)) in
     ((decided .0, decided .1), decided .2)
 
 show-requires-3 : tie.Need-show-requires-3 Inv-loop μ-loop Inv-lines μ-lines
 show-requires-3 c κs =
+    let at-asked = c .before .before .before .before .before .before .before .before .before .before .before .before .before .before .before .before .before .before .before .before .before .before .before in
+    let at-decide = c .before .before .before .before .before .before .before .before .before .before .before .before .before in
+    let at-do-act = c .before .before .before .before .before .before in
     let l = c .before .before .before .before .before .before .before .before .before .before .before .before .before .before .before .before .before .before .before .before .before .before .before .before .before .before .before .before .before .before .before .before .lines in
     let s = sessionOf (l .live) (l .words) (l .bench) in
     let k = c .before .before .before .before .before .before .before .before .before .before .before .before .before .before .before .before .before .before .loop in
     let t = sessionOf (l .live) (l .words) (k .bench) in
     let e = c .before .before .before .before .before .before .before .before .before .before .before .before .before .before .before .before .before .before .before .span .ensures ∙ ap (min (l .words)) (sym (k .inv .2)) in
-    let decided = subst (DecisionOf (worldOf t (k .store) (k .log)) (c .before .before .before .before .before .before .before .before .before .before .before .before .before .before .before .before .before .before .before .before .before .before .before .asked .given .0 .0)) (c .before .before .before .before .before .before .before .before .before .before .before .decision .given .1) (decision-front (k .bench) (l .words) _ (k .store) (k .log) (c .before .before .before .before .before .before .before .before .before .before .before .before .before .before .before .before .before .before .before .before .before .before .before .asked .given .0 .0) (c .before .before .before .before .before .before .before .before .before .before .before .before .before .decide .result) e (c .before .before .before .before .before .before .before .before .before .before .before .before .before .decide .ensures)) in
-    stepping-room _ _ _ _ _ _ (k .left) _ _ _ _ (k .inv .0) (c .before .before .before .before .before .before .do-act .result .answer) (let z : l .wrote + 72 ≤ length (l .out) = omega (arith, l .inv .0 .fits, l .inv .3, c .before .before .before .before .before .before .before .before .before .before .before .before .before .before .before .before .before .before .before .before .before .before .before .before .before .before .before .before .before .before .if1 .left) in z) (c .before .before .before .before .before .before .before .before .before .before .before .before .before .before .before .before .before .loop-test .taken) (ap (λ (d : Outcome). d .answer) (c .before .before .before .before .before .before .do-act .ensures ∙ sym (decided .3)))
+    let decided = subst (DecisionOf (worldOf t (k .store) (k .log)) (at-asked .asked .given .0 .0)) (c .before .before .before .before .before .before .before .before .before .before .before .decision .given .1) (decision-front (k .bench) (l .words) _ (k .store) (k .log) (at-asked .asked .given .0 .0) (at-decide .decide .result) e (at-decide .decide .ensures)) in
+    stepping-room _ _ _ _ _ _ (k .left) _ _ _ _ (k .inv .0) (at-do-act .do-act .result .answer) (let z : l .wrote + 72 ≤ length (l .out) = omega (arith, l .inv .0 .fits, l .inv .3, c .before .before .before .before .before .before .before .before .before .before .before .before .before .before .before .before .before .before .before .before .before .before .before .before .before .before .before .before .before .before .if1 .left) in z) (c .before .before .before .before .before .before .before .before .before .before .before .before .before .before .before .before .before .loop-test .taken) (ap (λ (d : Outcome). d .answer) (at-do-act .do-act .ensures ∙ sym (decided .3)))
 
 judge-requires : tie.Need-judge-requires Inv-loop μ-loop Inv-lines μ-lines
 judge-requires c κs = search needs
@@ -301,19 +321,23 @@ lines-less-5 c = omega (arith, c .before .before .before .before .before .before
 
 lines-again-5 : tie.Need-lines-again-5 Inv-loop μ-loop Inv-lines μ-lines
 lines-again-5 c =
+    let at-asked = c .before .before .before .before .before .before .before .before .before .before .before .before .before .before .before .before .before .before .before .before .before .before .before .before .before .before .before .before .before in
+    let at-decide = c .before .before .before .before .before .before .before .before .before .before .before .before .before .before .before .before .before .before .before in
+    let at-do-act = c .before .before .before .before .before .before .before .before .before .before .before .before in
+    let at-show3 = c .before .before .before .before .before in
     let l = c .before .before .before .before .before .before .before .before .before .before .before .before .before .before .before .before .before .before .before .before .before .before .before .before .before .before .before .before .before .before .before .before .before .before .before .before .before .before .lines in
     let s = sessionOf (l .live) (l .words) (l .bench) in
     let k = c .before .before .before .before .before .before .before .before .before .before .before .before .before .before .before .before .before .before .before .before .before .before .before .before .loop in
     let t = sessionOf (l .live) (l .words) (k .bench) in
     let e = c .before .before .before .before .before .before .before .before .before .before .before .before .before .before .before .before .before .before .before .before .before .before .before .before .before .span .ensures ∙ ap (min (l .words)) (sym (k .inv .2)) in
-    let decided = subst (DecisionOf (worldOf t (k .store) (k .log)) (c .before .before .before .before .before .before .before .before .before .before .before .before .before .before .before .before .before .before .before .before .before .before .before .before .before .before .before .before .before .asked .given .0 .0)) (c .before .before .before .before .before .before .before .before .before .before .before .before .before .before .before .before .before .decision .given .1) (decision-front (k .bench) (l .words) _ (k .store) (k .log) (c .before .before .before .before .before .before .before .before .before .before .before .before .before .before .before .before .before .before .before .before .before .before .before .before .before .before .before .before .before .asked .given .0 .0) (c .before .before .before .before .before .before .before .before .before .before .before .before .before .before .before .before .before .before .before .decide .result) e (c .before .before .before .before .before .before .before .before .before .before .before .before .before .before .before .before .before .before .before .decide .ensures)) in
-    let next = sessionOf (l .live) (l .words) (c .before .before .before .before .before .before .before .before .before .before .before .before .do-act .result .bench) in
-    let by = c .before .before .before .before .before .before .before .before .before .before .before .before .do-act .ensures ∙ sym (decided .3) in (
+    let decided = subst (DecisionOf (worldOf t (k .store) (k .log)) (at-asked .asked .given .0 .0)) (c .before .before .before .before .before .before .before .before .before .before .before .before .before .before .before .before .before .decision .given .1) (decision-front (k .bench) (l .words) _ (k .store) (k .log) (at-asked .asked .given .0 .0) (at-decide .decide .result) e (at-decide .decide .ensures)) in
+    let next = sessionOf (l .live) (l .words) (at-do-act .do-act .result .bench) in
+    let by = at-do-act .do-act .ensures ∙ sym (decided .3) in (
       standing-on _ _ s (l .store) (l .log) (l .out) (l .used) (l .wrote) _ _ _ _ _ _ (l .inv .0) (c .before .before .before .before .before .before .before .before .before .before .before .before .before .before .before .before .before .before .before .before .before .before .before .before .before .before .before .before .before .before .before .before .before .before .before .line-end .ensures) (c .before .before .before .before .before .before .before .before .before .before .before .before .before .before .before .before .before .before .before .before .before .before .before .before .before .before .before .before .before .before .before .before .before .before .if2 .left) (let z : l .wrote + 72 ≤ length (l .out) = omega (arith, l .inv .0 .fits, l .inv .3, c .before .before .before .before .before .before .before .before .before .before .before .before .before .before .before .before .before .before .before .before .before .before .before .before .before .before .before .before .before .before .before .before .before .before .before .before .if1 .left) in z) (c .before .before .before .before .before .before .before .before .before .before .before .before .before .before .before .before .before .before .before .before .before .before .before .before .before .before .before .before .before .before .before .before .parse .ensures)
-          (steps-by s _ _ _ _ _ _ _ _ _ _ _ (sym (c .before .before .before .before .before .before .before .before .before .before .before .before .before .before .before .before .before .before .before .before .before .before .before .before .before .before .before .before .before .before .before .ask .ensures) ∙ c .before .before .before .before .before .before .before .before .before .before .before .before .before .before .before .before .before .before .before .before .before .before .before .before .before .before .before .before .before .asked .given .1) (stepping-stops _ _ _ _ _ _ (k .left) _ _ _ _ (k .inv .0) (c .before .before .before .before .before .before .before .before .before .before .before .before .before .before .before .before .before .before .before .before .before .before .before .loop-test .taken) next (c .before .before .before .before .before .before .before .before .before .before .before .before .do-act .result .answer) _ _ by (k .inv .0 .live) _ _ (c .before .before .before .before .before .show3 .ensures) (judged-stopped (c .before .before .before .before .before .before .before .before .before .before .before .before .do-act .result .answer) (sym (c .before .before .judge .ensures) ∙ c .enum-told5 .given .1)))) (refl),
-      c .before .before .before .before .before .before .before .before .before .before .before .before .do-act .kept .1 .1 .1 .1 .0 ∙ k .inv .2 ∙ l .inv .1,
-      c .before .before .before .before .before .before .before .before .before .before .before .before .do-act .kept .1 .1 .1 .1 .1 .0 ∙ k .inv .3 ∙ l .inv .2,
-      c .before .before .before .before .before .show3 .kept .1 .0 ∙ k .inv .4 ∙ l .inv .3,
+          (steps-by s _ _ _ _ _ _ _ _ _ _ _ (sym (c .before .before .before .before .before .before .before .before .before .before .before .before .before .before .before .before .before .before .before .before .before .before .before .before .before .before .before .before .before .before .before .ask .ensures) ∙ at-asked .asked .given .1) (stepping-stops _ _ _ _ _ _ (k .left) _ _ _ _ (k .inv .0) (c .before .before .before .before .before .before .before .before .before .before .before .before .before .before .before .before .before .before .before .before .before .before .before .loop-test .taken) next (at-do-act .do-act .result .answer) _ _ by (k .inv .0 .live) _ _ (at-show3 .show3 .ensures) (judged-stopped (at-do-act .do-act .result .answer) (sym (c .before .before .judge .ensures) ∙ c .enum-told5 .given .1)))) (refl),
+      at-do-act .do-act .kept .1 .1 .1 .1 .0 ∙ k .inv .2 ∙ l .inv .1,
+      at-do-act .do-act .kept .1 .1 .1 .1 .1 .0 ∙ k .inv .3 ∙ l .inv .2,
+      at-show3 .show3 .kept .1 .0 ∙ k .inv .4 ∙ l .inv .3,
     )
 
 sub-left : tie.Need-sub-left Inv-loop μ-loop Inv-lines μ-lines
@@ -324,19 +348,23 @@ loop-less c = omega (arith, c .before .before .before .before .before .before .b
 
 loop-again : tie.Need-loop-again Inv-loop μ-loop Inv-lines μ-lines
 loop-again c =
+    let at-asked = c .before .before .before .before .before .before .before .before .before .before .before .before .before .before .before .before .before .before .before .before .before .before .before .before .before .before .before .before .before in
+    let at-decide = c .before .before .before .before .before .before .before .before .before .before .before .before .before .before .before .before .before .before .before in
+    let at-do-act = c .before .before .before .before .before .before .before .before .before .before .before .before in
+    let at-show3 = c .before .before .before .before .before in
     let l = c .before .before .before .before .before .before .before .before .before .before .before .before .before .before .before .before .before .before .before .before .before .before .before .before .before .before .before .before .before .before .before .before .before .before .before .before .before .before .lines in
     let s = sessionOf (l .live) (l .words) (l .bench) in
     let k = c .before .before .before .before .before .before .before .before .before .before .before .before .before .before .before .before .before .before .before .before .before .before .before .before .loop in
     let t = sessionOf (l .live) (l .words) (k .bench) in
     let e = c .before .before .before .before .before .before .before .before .before .before .before .before .before .before .before .before .before .before .before .before .before .before .before .before .before .span .ensures ∙ ap (min (l .words)) (sym (k .inv .2)) in
-    let decided = subst (DecisionOf (worldOf t (k .store) (k .log)) (c .before .before .before .before .before .before .before .before .before .before .before .before .before .before .before .before .before .before .before .before .before .before .before .before .before .before .before .before .before .asked .given .0 .0)) (c .before .before .before .before .before .before .before .before .before .before .before .before .before .before .before .before .before .decision .given .1) (decision-front (k .bench) (l .words) _ (k .store) (k .log) (c .before .before .before .before .before .before .before .before .before .before .before .before .before .before .before .before .before .before .before .before .before .before .before .before .before .before .before .before .before .asked .given .0 .0) (c .before .before .before .before .before .before .before .before .before .before .before .before .before .before .before .before .before .before .before .decide .result) e (c .before .before .before .before .before .before .before .before .before .before .before .before .before .before .before .before .before .before .before .decide .ensures)) in
-    let next = sessionOf (l .live) (l .words) (c .before .before .before .before .before .before .before .before .before .before .before .before .do-act .result .bench) in
-    let by = c .before .before .before .before .before .before .before .before .before .before .before .before .do-act .ensures ∙ sym (decided .3) in (
-      stepping-on _ _ _ _ _ _ (k .left) _ _ _ _ (k .inv .0) (c .before .before .before .before .before .before .before .before .before .before .before .before .before .before .before .before .before .before .before .before .before .before .before .loop-test .taken) next (c .before .before .before .before .before .before .before .before .before .before .before .before .do-act .result .answer) _ _ by (k .inv .0 .live) _ _ (c .before .before .before .before .before .show3 .ensures) (judged-made (c .before .before .before .before .before .before .before .before .before .before .before .before .do-act .result .answer) (sym (c .before .before .judge .ensures) ∙ c .enum-told4 .given .1)),
+    let decided = subst (DecisionOf (worldOf t (k .store) (k .log)) (at-asked .asked .given .0 .0)) (c .before .before .before .before .before .before .before .before .before .before .before .before .before .before .before .before .before .decision .given .1) (decision-front (k .bench) (l .words) _ (k .store) (k .log) (at-asked .asked .given .0 .0) (at-decide .decide .result) e (at-decide .decide .ensures)) in
+    let next = sessionOf (l .live) (l .words) (at-do-act .do-act .result .bench) in
+    let by = at-do-act .do-act .ensures ∙ sym (decided .3) in (
+      stepping-on _ _ _ _ _ _ (k .left) _ _ _ _ (k .inv .0) (c .before .before .before .before .before .before .before .before .before .before .before .before .before .before .before .before .before .before .before .before .before .before .before .loop-test .taken) next (at-do-act .do-act .result .answer) _ _ by (k .inv .0 .live) _ _ (at-show3 .show3 .ensures) (judged-made (at-do-act .do-act .result .answer) (sym (c .before .before .judge .ensures) ∙ c .enum-told4 .given .1)),
       reached-step (worldOf t (k .store) (k .log)) _ _ _ by (k .inv .1),
-      c .before .before .before .before .before .before .before .before .before .before .before .before .do-act .kept .1 .1 .1 .1 .0 ∙ k .inv .2,
-      c .before .before .before .before .before .before .before .before .before .before .before .before .do-act .kept .1 .1 .1 .1 .1 .0 ∙ k .inv .3,
-      c .before .before .before .before .before .show3 .kept .1 .0 ∙ k .inv .4,
+      at-do-act .do-act .kept .1 .1 .1 .1 .0 ∙ k .inv .2,
+      at-do-act .do-act .kept .1 .1 .1 .1 .1 .0 ∙ k .inv .3,
+      at-show3 .show3 .kept .1 .0 ∙ k .inv .4,
     )
 
 count-restart-requires : tie.Need-count-restart-requires Inv-loop μ-loop Inv-lines μ-lines
@@ -357,13 +385,15 @@ loop-less-2 c = omega (arith, c .before .before .before .before .before .before 
 loop-again-2 : tie.Need-loop-again-2 Inv-loop μ-loop Inv-lines μ-lines
 unfolding enact
 loop-again-2 c =
+    let at-asked = c .before .before .before .before .before .before .before .before .before .before .before .before .before .before .before .before .before in
+    let at-decide = c .before .before .before .before .before .before .before in
     let l = c .before .before .before .before .before .before .before .before .before .before .before .before .before .before .before .before .before .before .before .before .before .before .before .before .before .before .lines in
     let s = sessionOf (l .live) (l .words) (l .bench) in
     let k = c .before .before .before .before .before .before .before .before .before .before .before .before .loop in
     let t = sessionOf (l .live) (l .words) (k .bench) in
     let e = c .before .before .before .before .before .before .before .before .before .before .before .before .before .span .ensures ∙ ap (min (l .words)) (sym (k .inv .2)) in
-    let decided = subst (DecisionOf (worldOf t (k .store) (k .log)) (c .before .before .before .before .before .before .before .before .before .before .before .before .before .before .before .before .before .asked .given .0 .0)) (c .before .before .before .before .before .decision .given .1) (decision-front (k .bench) (l .words) _ (k .store) (k .log) (c .before .before .before .before .before .before .before .before .before .before .before .before .before .before .before .before .before .asked .given .0 .0) (c .before .before .before .before .before .before .before .decide .result) e (c .before .before .before .before .before .before .before .decide .ensures)) in
-    let by = goes-by (k .bench) _ _ _ _ (take (l .words) (k .store)) (k .log) (c .before .before .before .before .before .before .before .before .before .before .before .before .before .before .before .place-of .ensures .1 (decided .0)) (c .count-restart .ensures) (decided .3 ∙ ap (λ (a : Act). commit (worldOf t (k .store) (k .log)) (c .before .before .before .before .before .before .before .before .before .before .before .before .before .before .before .before .before .asked .given .0 .0) (enact (k .bench .queue) (take (l .words) (k .store)) a)) (c .before .before .act .given .1)) in (
+    let decided = subst (DecisionOf (worldOf t (k .store) (k .log)) (at-asked .asked .given .0 .0)) (c .before .before .before .before .before .decision .given .1) (decision-front (k .bench) (l .words) _ (k .store) (k .log) (at-asked .asked .given .0 .0) (at-decide .decide .result) e (at-decide .decide .ensures)) in
+    let by = goes-by (k .bench) _ _ _ _ (take (l .words) (k .store)) (k .log) (c .before .before .before .before .before .before .before .before .before .before .before .before .before .before .before .place-of .ensures .1 (decided .0)) (c .count-restart .ensures) (decided .3 ∙ ap (λ (a : Act). commit (worldOf t (k .store) (k .log)) (at-asked .asked .given .0 .0) (enact (k .bench .queue) (take (l .words) (k .store)) a)) (c .before .before .act .given .1)) in (
       stepping-on _ _ _ _ _ _ (k .left) _ _ _ _ (k .inv .0) (c .before .before .before .before .before .before .before .before .before .before .before .loop-test .taken) _ GoesOn (k .store) (k .log) by (k .inv .0 .live) _ _ (shows-none (k .out) (k .wrote)) refl,
       reached-step (worldOf t (k .store) (k .log)) _ _ _ by (k .inv .1),
       k .inv .2,

@@ -17,7 +17,8 @@ enum-known-act-2 c = search needs
 
 changed-requires : tie.Need-changed-requires
 changed-requires c κs =
-    (c .before .before .before .before .before .before .before .pre .1 .0, change-in (c .before .before .before .before .before .before .before .args .bench .queue) (length (c .before .before .before .before .before .before .before .args .store .now)) (c .before .before .before .before .before .before .before .args .act) (c .before .before .before .before .before .before .before .pre .1 .1) (c .before .before .act2 .given .1))
+    let start = c .before .before .before .before .before .before .before in
+    (start .pre .1 .0, change-in (start .args .bench .queue) (length (start .args .store .now)) (start .args .act) (start .pre .1 .1) (c .before .before .act2 .given .1))
 
 goes-on-requires-2 : tie.Need-goes-on-requires-2
 goes-on-requires-2 c κs = search needs
@@ -40,11 +41,12 @@ ends-requires-2 c κs = search needs
 returns : tie.Need-returns
 unfolding enact
 returns c =
-    let b = c .before .before .before .before .before .before .before .args .bench in
-    let m = c .before .before .before .before .before .before .before .args .store .now in
-    let l = c .before .before .before .before .before .before .before .args .log .now in
-    let i = c .before .before .before .before .before .before .before .args .worker in
-    let act = c .before .before .before .before .before .before .before .args .act in
+    let start = c .before .before .before .before .before .before .before in
+    let b = start .args .bench in
+    let m = start .args .store .now in
+    let l = start .args .log .now in
+    let i = start .args .worker in
+    let act = start .args .act in
     went-on b i m l act (ap (enact (b .queue) m) (c .before .before .act .given .1)) (c .goes-on .ensures)
 
 same-length : tie.Need-same-length
@@ -53,11 +55,12 @@ same-length c = search needs
 returns-2 : tie.Need-returns-2
 unfolding enact
 returns-2 c =
-    let b = c .before .before .before .before .before .before .before .before .before .before .before .args .bench in
-    let m = c .before .before .before .before .before .before .before .before .before .before .before .args .store .now in
-    let l = c .before .before .before .before .before .before .before .before .before .before .before .args .log .now in
-    let i = c .before .before .before .before .before .before .before .before .before .before .before .args .worker in
-    let act = c .before .before .before .before .before .before .before .before .before .before .before .args .act in
+    let start = c .before .before .before .before .before .before .before .before .before .before .before in
+    let b = start .args .bench in
+    let m = start .args .store .now in
+    let l = start .args .log .now in
+    let i = start .args .worker in
+    let act = start .args .act in
     went-on b i m l act (ap (enact (b .queue) m) (c .before .before .before .before .before .before .act2 .given .1) ∙ same-effect (sym (c .before .before .before .changed .ensures .0)) (sym (c .before .before .before .changed .ensures .1))) (c .goes-on2 .ensures)
 
 same-length-2 : tie.Need-same-length-2
@@ -66,11 +69,12 @@ same-length-2 c = search needs
 returns-3 : tie.Need-returns-3
 unfolding enact
 returns-3 c =
-    let b = c .before .before .before .before .before .before .before .before .before .before .args .bench in
-    let m = c .before .before .before .before .before .before .before .before .before .before .args .store .now in
-    let l = c .before .before .before .before .before .before .before .before .before .before .args .log .now in
-    let i = c .before .before .before .before .before .before .before .before .before .before .args .worker in
-    let act = c .before .before .before .before .before .before .before .before .before .before .args .act in
+    let start = c .before .before .before .before .before .before .before .before .before .before in
+    let b = start .args .bench in
+    let m = start .args .store .now in
+    let l = start .args .log .now in
+    let i = start .args .worker in
+    let act = start .args .act in
     ended b i m l act (ap (enact (b .queue) m) (c .before .before .before .before .before .act3 .given .1)) (c .before .before .ends .ensures m)
 
 same-length-3 : tie.Need-same-length-3
@@ -79,11 +83,12 @@ same-length-3 c = search needs
 returns-4 : tie.Need-returns-4
 unfolding enact
 returns-4 c =
-    let b = c .before .before .before .before .before .before .before .before .before .before .before .args .bench in
-    let m = c .before .before .before .before .before .before .before .before .before .before .before .args .store .now in
-    let l = c .before .before .before .before .before .before .before .before .before .before .before .args .log .now in
-    let i = c .before .before .before .before .before .before .before .before .before .before .before .args .worker in
-    let act = c .before .before .before .before .before .before .before .before .before .before .before .args .act in
+    let start = c .before .before .before .before .before .before .before .before .before .before .before in
+    let b = start .args .bench in
+    let m = start .args .store .now in
+    let l = start .args .log .now in
+    let i = start .args .worker in
+    let act = start .args .act in
     ended b i m l act (ap (enact (b .queue) m) (c .before .before .before .before .before .before .act4 .given .1) ∙ same-effect (sym (c .before .before .before .before .with-anchor .ensures)) refl) (c .before .before .ends2 .ensures m)
 
 pub apply-spec : {M : Type 1} → statement M

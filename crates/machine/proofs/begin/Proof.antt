@@ -31,26 +31,29 @@ refused-requires-2 c κs = search needs
 
 returns-2 : tie.Need-returns-2
 returns-2 c =
-    let W = lent (c .before .before .before .before .before .before .before .before .before .args .bench) (c .before .before .before .before .before .before .before .before .before .args .store .now) (c .before .before .before .before .before .before .before .before .before .args .log .now) in
+    let start = c .before .before .before .before .before .before .before .before .before in
+    let W = lent (start .args .bench) (start .args .store .now) (start .args .log .now) in
     same-left (c .refused2 .ensures) refl refl
-    ∙ sym (subst (BeginStops W (c .before .before .before .before .before .before .before .before .before .args .worker) (c .before .before .before .before .before .before .before .before .before .args .operation)) (c .before .before .stop .given .1) (c .before .before .before .before .begin-stop .ensures _ _ (passed (c .before .before .before .before .before .before .valid .ensures) (c .before .before .before .before .before .if1 .left))))
+    ∙ sym (subst (BeginStops W (start .args .worker) (start .args .operation)) (c .before .before .stop .given .1) (c .before .before .before .before .begin-stop .ensures _ _ (passed (c .before .before .before .before .before .before .valid .ensures) (c .before .before .before .before .before .if1 .left))))
 
 enum-told : tie.Need-enum-told
 enum-told c = search needs
 
 accept-requires : tie.Need-accept-requires
 accept-requires c κs =
-    let W = lent (c .before .before .before .before .before .before .before .args .bench) (c .before .before .before .before .before .before .before .args .store .now) (c .before .before .before .before .before .before .before .args .log .now) in
+    let start = c .before .before .before .before .before .before .before in
+    let W = lent (start .args .bench) (start .args .store .now) (start .args .log .now) in
     let v = passed (c .before .before .before .before .valid .ensures) (c .before .before .before .if1 .left) in
     let b = bounds-of W v in
-    let s = subst (BeginStops W (c .before .before .before .before .before .before .before .args .worker) (c .before .before .before .before .before .before .before .args .operation)) (c .enum-told .given .1) (c .before .before .begin-stop .ensures _ _ v) in
+    let s = subst (BeginStops W (start .args .worker) (start .args .operation)) (c .enum-told .given .1) (c .before .before .begin-stop .ensures _ _ v) in
     (omega (arith, s .0), b .used)
 
 returns-3 : tie.Need-returns-3
 returns-3 c =
-    let W = lent (c .before .before .before .before .before .before .before .before .args .bench) (c .before .before .before .before .before .before .before .before .args .store .now) (c .before .before .before .before .before .before .before .before .args .log .now) in
+    let start = c .before .before .before .before .before .before .before .before in
+    let W = lent (start .args .bench) (start .args .store .now) (start .args .log .now) in
     c .accept .ensures _ _
-    ∙ sym (subst (BeginStops W (c .before .before .before .before .before .before .before .before .args .worker) (c .before .before .before .before .before .before .before .before .args .operation)) (c .before .enum-told .given .1) (c .before .before .before .begin-stop .ensures _ _ (passed (c .before .before .before .before .before .valid .ensures) (c .before .before .before .before .if1 .left))) .1)
+    ∙ sym (subst (BeginStops W (start .args .worker) (start .args .operation)) (c .before .enum-told .given .1) (c .before .before .before .begin-stop .ensures _ _ (passed (c .before .before .before .before .before .valid .ensures) (c .before .before .before .before .if1 .left))) .1)
 
 pub begin-spec : {M : Type 1} → statement M
 begin-spec =

@@ -49,13 +49,15 @@ returns-4 c = λ m l v.
 
 returns-5 : tie.Need-returns-5
 unfolding beginOf
-returns-5 c = λ m l v. (
-  c .before .before .before .before .before .before .before .if1 .left,
-  if-true _ v ∙ if-true _ (lt-ltb _ _ (c .before .before .before .before .before .before .before .if1 .left))
-      ∙ if-true _ (passed (c .before .before .before .before .before .before .right-hand .ensures) (c .before .before .before .before .before .if2 .left))
-      ∙ if-true _ (passed (c .before .before .before .is-idle .ensures) (c .before .before .if3 .left))
-      ∙ if-true _ (passed (c .before .numbers-left .ensures) (c .if4 .left)),
-)
+returns-5 c =
+    let at-if1 = c .before .before .before .before .before .before .before in
+    λ m l v. (
+      at-if1 .if1 .left,
+      if-true _ v ∙ if-true _ (lt-ltb _ _ (at-if1 .if1 .left))
+          ∙ if-true _ (passed (c .before .before .before .before .before .before .right-hand .ensures) (c .before .before .before .before .before .if2 .left))
+          ∙ if-true _ (passed (c .before .before .before .is-idle .ensures) (c .before .before .if3 .left))
+          ∙ if-true _ (passed (c .before .numbers-left .ensures) (c .if4 .left)),
+    )
 
 pub begin-stop-spec : {M : Type 1} → statement M
 begin-stop-spec =

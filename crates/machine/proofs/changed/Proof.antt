@@ -58,11 +58,13 @@ cast-zero-2 c = search needs
 
 zero-requires : tie.Need-zero-requires
 zero-requires c κs =
-    claims-in (c .before .before .before .before .before .args .queue) (length (c .before .before .before .before .before .args .store .now)) (c .before .before .before .before .before .args .change) (c .before .before .before .before .before .pre .1) (c .before .before .change3 .given .1) .0
+    let start = c .before .before .before .before .before in
+    claims-in (start .args .queue) (length (start .args .store .now)) (start .args .change) (start .pre .1) (c .before .before .change3 .given .1) .0
 
 with-array-requires : tie.Need-with-array-requires
 with-array-requires c κs =
-    claims-in (c .before .before .before .before .before .before .before .before .args .queue) (length (c .before .before .before .before .before .before .before .before .args .store .now)) (c .before .before .before .before .before .before .before .before .args .change) (c .before .before .before .before .before .before .before .before .pre .1) (c .before .before .before .before .before .change3 .given .1) .1
+    let start = c .before .before .before .before .before .before .before .before in
+    claims-in (start .args .queue) (length (start .args .store .now)) (start .args .change) (start .pre .1) (c .before .before .before .before .before .change3 .given .1) .1
 
 enum-told : tie.Need-enum-told
 enum-told c = search needs
@@ -92,7 +94,9 @@ same-length-3 c = search needs
 returns-3 : tie.Need-returns-3
 unfolding changedQueue changedStore
 returns-3 c =
-    (c .with-array .ensures ∙ ap (changedQueue (c .before .before .before .before .before .before .before .before .before .args .queue)) (sym (c .before .before .before .before .before .before .change3 .given .1)), c .before .before .before .zero .ensures ∙ ap (changedStore (c .before .before .before .before .before .before .before .before .before .args .store .now)) (sym (c .before .before .before .before .before .before .change3 .given .1)))
+    let start = c .before .before .before .before .before .before .before .before .before in
+    let at-change3 = c .before .before .before .before .before .before in
+    (c .with-array .ensures ∙ ap (changedQueue (start .args .queue)) (sym (at-change3 .change3 .given .1)), c .before .before .before .zero .ensures ∙ ap (changedStore (start .args .store .now)) (sym (at-change3 .change3 .given .1)))
 
 returns-4 : tie.Need-returns-4
 unfolding changedQueue changedStore

@@ -101,10 +101,12 @@ same-length c = search needs
 
 returns-6 : tie.Need-returns-6
 unfolding freshOf
-returns-6 c = λ l.
+returns-6 c =
+    let start = c .before .before .before .before .before .before .before .before .before .before .before .before .before .before .before .before in
+    λ l.
     same-left
     (ap (λ (b : Bench). record { bench = b; answer = Accepted })
-    (c .made .ensures ∙ ap (λ (κ : Kind). blank κ (c .before .before .before .before .before .before .before .before .before .before .before .before .before .before .before .before .args .width) (c .before .before .before .before .before .before .before .before .before .before .before .before .before .before .before .before .args .size) (c .before .before .before .before .before .before .before .before .before .before .before .before .before .before .before .before .args .crew)) (c .before .kind-of .ensures)))
+    (c .made .ensures ∙ ap (λ (κ : Kind). blank κ (start .args .width) (start .args .size) (start .args .crew)) (c .before .kind-of .ensures)))
     (c .before .before .before .before .zero .ensures)
     refl
     ∙ sym

@@ -42,11 +42,13 @@ loop-less c =
 
 loop-again : tie.Need-loop-again Inv-loop μ-loop
 loop-again c =
-    (omega arith, c .before .before .before .loop .inv .1, told-skip (wordsOf (c .before .before .before .before .before .before .before .args .log .now)) (c .before .before .before .before .before .before .before .args .entries) (c .before .before .before .before .before .before .before .args .puts .now) (c .before .before .before .before .before .before .before .args .count) (c .before .before .before .before .before .before .before .pre .1 .0) (c .before .before .before .before .before .before .before .pre .1 .1 .0) _ _ _ _ (c .before .before .before .loop .inv .2) (ap (λ (x : ℕ). eqb x 2) (sym (c .before .word .ensures)) ∙ ne-eqb _ 2 (c .if1 .taken)))
+    let start = c .before .before .before .before .before .before .before in
+    (omega arith, c .before .before .before .loop .inv .1, told-skip (wordsOf (start .args .log .now)) (start .args .entries) (start .args .puts .now) (start .args .count) (start .pre .1 .0) (start .pre .1 .1 .0) _ _ _ _ (c .before .before .before .loop .inv .2) (ap (λ (x : ℕ). eqb x 2) (sym (c .before .word .ensures)) ∙ ne-eqb _ 2 (c .if1 .taken)))
 
 repeated-requires : tie.Need-repeated-requires Inv-loop μ-loop
 repeated-requires c κs =
-    ((omega arith, omega arith, c .before .before .before .before .before .before .before .pre .0 .2, omega arith), (c .before .before .before .before .before .before .before .pre .1 .0, c .before .before .before .before .before .before .before .pre .1 .1 .0))
+    let start = c .before .before .before .before .before .before .before in
+    ((omega arith, omega arith, start .pre .0 .2, omega arith), (start .pre .1 .0, start .pre .1 .1 .0))
 
 same-length : tie.Need-same-length Inv-loop μ-loop
 same-length c =
@@ -54,13 +56,16 @@ same-length c =
 
 returns : tie.Need-returns Inv-loop μ-loop
 returns c =
-    let d : false ≡ allBelow (honest (wordsOf (c .before .before .before .before .before .before .before .before .before .args .log .now))) (c .before .before .before .before .before .before .before .before .before .args .entries) = not-honest (wordsOf (c .before .before .before .before .before .before .before .before .before .args .log .now)) (c .before .before .before .before .before .before .before .before .before .args .entries) (c .before .before .before .before .before .before .before .before .before .args .puts .now) (c .before .before .before .before .before .before .before .before .before .args .count) (c .before .before .before .before .before .before .before .before .before .pre .1 .0) (c .before .before .before .before .before .before .before .before .before .pre .1 .1 .0) (c .before .before .before .before .before .loop .j) (omega arith) (ap (λ (x : ℕ). eqb x 2) (sym (c .before .before .before .word .ensures)) ∙ eq-eqb _ 2 (c .before .before .if1 .left)) (subst (λ (x : ℕ). RepeatsPut (wordsOf (c .before .before .before .before .before .before .before .before .before .args .log .now)) (c .before .before .before .before .before .before .before .before .before .args .puts .now) (c .before .before .before .before .before .before .before .before .before .args .count) (c .before .before .before .before .before .loop .j) x) (c .if2 .taken) (c .before .repeated .ensures)) in
+    let start = c .before .before .before .before .before .before .before .before .before in
+    let at-loop = c .before .before .before .before .before in
+    let d : false ≡ allBelow (honest (wordsOf (start .args .log .now))) (start .args .entries) = not-honest (wordsOf (start .args .log .now)) (start .args .entries) (start .args .puts .now) (start .args .count) (start .pre .1 .0) (start .pre .1 .1 .0) (at-loop .loop .j) (omega arith) (ap (λ (x : ℕ). eqb x 2) (sym (c .before .before .before .word .ensures)) ∙ eq-eqb _ 2 (c .before .before .if1 .left)) (subst (λ (x : ℕ). RepeatsPut (wordsOf (start .args .log .now)) (start .args .puts .now) (start .args .count) (at-loop .loop .j) x) (c .if2 .taken) (c .before .repeated .ensures)) in
     record { fine = d; handouts = λ e. absurd (clash (sym e)); different = λ e. absurd (clash (sym e)); marked = λ e. absurd (clash (sym e)) }
 
 add-handouts : tie.Need-add-handouts Inv-loop μ-loop
 add-handouts c =
-    let e = c .before .before .before .before .before .loop .inv .2 .outs-are in
-    let m = count-le (isKind (wordsOf (c .before .before .before .before .before .before .before .before .before .args .log .now)) 2) (c .before .before .before .before .before .loop .j) in
+    let at-loop = c .before .before .before .before .before in
+    let e = at-loop .loop .inv .2 .outs-are in
+    let m = count-le (isKind (wordsOf (c .before .before .before .before .before .before .before .before .before .args .log .now)) 2) (at-loop .loop .j) in
     omega (arith, e, m)
 
 add-j-2 : tie.Need-add-j-2 Inv-loop μ-loop
@@ -87,8 +92,10 @@ loop-less-2 c =
 
 loop-again-2 : tie.Need-loop-again-2 Inv-loop μ-loop
 loop-again-2 c =
-    let b : c .before .before .before .repeated .result < c .before .before .before .before .before .before .before .before .before .before .before .args .count = (let w = c .before .before .before .repeated .ensures .within in let d = c .before .before .if2 .left in omega (arith, w, d)) in
-    (omega arith, c .before .before .before .before .before .before .before .loop .inv .1, told-again (wordsOf (c .before .before .before .before .before .before .before .before .before .before .before .args .log .now)) (c .before .before .before .before .before .before .before .before .before .before .before .args .entries) (c .before .before .before .before .before .before .before .before .before .before .before .args .puts .now) (c .before .before .before .before .before .before .before .before .before .before .before .args .count) (c .before .before .before .before .before .before .before .before .before .before .before .pre .1 .0) (c .before .before .before .before .before .before .before .before .before .before .before .pre .1 .1 .0) _ _ _ _ (c .before .before .before .before .before .before .before .loop .inv .2) (c .before .before .before .repeated .result) (omega arith) (ap (λ (x : ℕ). eqb x 2) (sym (c .before .before .before .before .before .word .ensures)) ∙ eq-eqb _ 2 (c .before .before .before .before .if1 .left)) (c .before .before .before .repeated .ensures) b (ne-eqb _ 0 (c .if3 .taken)))
+    let start = c .before .before .before .before .before .before .before .before .before .before .before in
+    let at-loop = c .before .before .before .before .before .before .before in
+    let b : c .before .before .before .repeated .result < start .args .count = (let w = c .before .before .before .repeated .ensures .within in let d = c .before .before .if2 .left in omega (arith, w, d)) in
+    (omega arith, at-loop .loop .inv .1, told-again (wordsOf (start .args .log .now)) (start .args .entries) (start .args .puts .now) (start .args .count) (start .pre .1 .0) (start .pre .1 .1 .0) _ _ _ _ (at-loop .loop .inv .2) (c .before .before .before .repeated .result) (omega arith) (ap (λ (x : ℕ). eqb x 2) (sym (c .before .before .before .before .before .word .ensures)) ∙ eq-eqb _ 2 (c .before .before .before .before .if1 .left)) (c .before .before .before .repeated .ensures) b (ne-eqb _ 0 (c .if3 .taken)))
 
 mul-seen : tie.Need-mul-seen Inv-loop μ-loop
 mul-seen c =
@@ -106,8 +113,9 @@ slice-write-seen c =
 
 add-different : tie.Need-add-different Inv-loop μ-loop
 add-different c =
-    let e = c .before .before .before .before .before .before .before .loop .inv .2 .firsts-are in
-    let m = count-le (outFirst (wordsOf (c .before .before .before .before .before .before .before .before .before .before .before .args .log .now))) (c .before .before .before .before .before .before .before .loop .j) in
+    let at-loop = c .before .before .before .before .before .before .before in
+    let e = at-loop .loop .inv .2 .firsts-are in
+    let m = count-le (outFirst (wordsOf (c .before .before .before .before .before .before .before .before .before .before .before .args .log .now))) (at-loop .loop .j) in
     omega (arith, e, m)
 
 loop-less-3 : tie.Need-loop-less-3 Inv-loop μ-loop
@@ -116,9 +124,11 @@ loop-less-3 c =
 
 loop-again-3 : tie.Need-loop-again-3 Inv-loop μ-loop
 loop-again-3 c =
-    let b : c .before .before .before .repeated .result < c .before .before .before .before .before .before .before .before .before .before .before .args .count = (let w = c .before .before .before .repeated .ensures .within in let d = c .before .before .if2 .left in omega (arith, w, d)) in
-    let q = c .before .before .before .before .before .before .before .loop .inv .1 in
-    (omega arith, length-set (c .before .before .before .before .before .before .before .loop .seen) (c .before .before .before .repeated .result) 1 ∙ q, told-first (wordsOf (c .before .before .before .before .before .before .before .before .before .before .before .args .log .now)) (c .before .before .before .before .before .before .before .before .before .before .before .args .entries) (c .before .before .before .before .before .before .before .before .before .before .before .args .puts .now) (c .before .before .before .before .before .before .before .before .before .before .before .args .count) (c .before .before .before .before .before .before .before .before .before .before .before .pre .1 .0) (c .before .before .before .before .before .before .before .before .before .before .before .pre .1 .1 .0) _ _ _ _ (c .before .before .before .before .before .before .before .loop .inv .2) (c .before .before .before .repeated .result) (omega arith) (ap (λ (x : ℕ). eqb x 2) (sym (c .before .before .before .before .before .word .ensures)) ∙ eq-eqb _ 2 (c .before .before .before .before .if1 .left)) (c .before .before .before .repeated .ensures) b (eq-eqb _ 0 (c .if3 .left)) (omega (arith, b, q)))
+    let start = c .before .before .before .before .before .before .before .before .before .before .before in
+    let at-loop = c .before .before .before .before .before .before .before in
+    let b : c .before .before .before .repeated .result < start .args .count = (let w = c .before .before .before .repeated .ensures .within in let d = c .before .before .if2 .left in omega (arith, w, d)) in
+    let q = at-loop .loop .inv .1 in
+    (omega arith, length-set (at-loop .loop .seen) (c .before .before .before .repeated .result) 1 ∙ q, told-first (wordsOf (start .args .log .now)) (start .args .entries) (start .args .puts .now) (start .args .count) (start .pre .1 .0) (start .pre .1 .1 .0) _ _ _ _ (at-loop .loop .inv .2) (c .before .before .before .repeated .result) (omega arith) (ap (λ (x : ℕ). eqb x 2) (sym (c .before .before .before .before .before .word .ensures)) ∙ eq-eqb _ 2 (c .before .before .before .before .if1 .left)) (c .before .before .before .repeated .ensures) b (eq-eqb _ 0 (c .if3 .left)) (omega (arith, b, q)))
 
 same-length-2 : tie.Need-same-length-2 Inv-loop μ-loop
 same-length-2 c =
@@ -126,7 +136,8 @@ same-length-2 c =
 
 returns-2 : tie.Need-returns-2 Inv-loop μ-loop
 returns-2 c =
-    outs-told (wordsOf (c .before .before .before .before .before .args .log .now)) (c .before .before .before .before .before .args .entries) (c .before .before .before .before .before .args .puts .now) (c .before .before .before .before .before .args .count) (c .before .loop .j) _ _ _ (omega arith) (c .before .loop .inv .2)
+    let start = c .before .before .before .before .before in
+    outs-told (wordsOf (start .args .log .now)) (start .args .entries) (start .args .puts .now) (start .args .count) (c .before .loop .j) _ _ _ (omega arith) (c .before .loop .inv .2)
 
 pub hand-outs-spec : {M : Type 1} → statement M
 hand-outs-spec =

@@ -26,7 +26,8 @@ word-requires c κs =
 
 look-up-requires : tie.Need-look-up-requires Inv-loop μ-loop
 look-up-requires c κs =
-    ((c .before .before .before .before .before .before .before .before .pre .0 .2, c .before .before .before .before .before .before .before .before .pre .0 .4), (λ k h. let p = c .before .before .before .before .before .before .before .before .pre .1 .0 .placed k h in omega (arith, p), c .before .before .before .before .before .before .before .before .pre .1 .1 .0))
+    let start = c .before .before .before .before .before .before .before .before in
+    ((start .pre .0 .2, start .pre .0 .4), (λ k h. let p = start .pre .1 .0 .placed k h in omega (arith, p), start .pre .1 .1 .0))
 
 add-i : tie.Need-add-i Inv-loop μ-loop
 add-i c =
@@ -38,8 +39,9 @@ loop-less c =
 
 loop-again : tie.Need-loop-again Inv-loop μ-loop
 loop-again c =
-    let F = subst (λ (x : ℕ). FoundBy (wordsOf (c .before .before .before .before .before .before .before .before .before .before .args .log .now)) (c .before .before .before .before .before .before .before .before .before .before .args .puts .now) (c .before .before .before .before .before .before .before .before .before .before .args .count) x (c .before .look-up .result)) (c .before .before .word .ensures) (c .before .look-up .ensures) in
-    (omega arith, c .before .before .before .before .loop .inv .1, lists-none (wordsOf (c .before .before .before .before .before .before .before .before .before .before .args .log .now)) (c .before .before .before .before .before .before .before .before .before .before .args .entries) (wordsOf (c .before .before .before .before .before .before .before .before .before .before .args .list .now)) (c .before .before .before .before .loop .i) (c .before .before .before .before .before .before .before .before .before .before .args .puts .now) (c .before .before .before .before .before .before .before .before .before .before .args .count) (c .before .before .before .before .loop .seen) (c .before .before .before .before .loop .inv .2) (subst (λ (x : ℕ). FoundBy (wordsOf (c .before .before .before .before .before .before .before .before .before .before .args .log .now)) (c .before .before .before .before .before .before .before .before .before .before .args .puts .now) (c .before .before .before .before .before .before .before .before .before .before .args .count) (getD (wordsOf (c .before .before .before .before .before .before .before .before .before .before .args .list .now)) (c .before .before .before .before .loop .i) 0) x) (c .if1 .taken) F))
+    let start = c .before .before .before .before .before .before .before .before .before .before in
+    let F = subst (λ (x : ℕ). FoundBy (wordsOf (start .args .log .now)) (start .args .puts .now) (start .args .count) x (c .before .look-up .result)) (c .before .before .word .ensures) (c .before .look-up .ensures) in
+    (omega arith, c .before .before .before .before .loop .inv .1, lists-none (wordsOf (start .args .log .now)) (start .args .entries) (wordsOf (start .args .list .now)) (c .before .before .before .before .loop .i) (start .args .puts .now) (start .args .count) (c .before .before .before .before .loop .seen) (c .before .before .before .before .loop .inv .2) (subst (λ (x : ℕ). FoundBy (wordsOf (start .args .log .now)) (start .args .puts .now) (start .args .count) (getD (wordsOf (start .args .list .now)) (c .before .before .before .before .loop .i) 0) x) (c .if1 .taken) F))
 
 mul-seen : tie.Need-mul-seen Inv-loop μ-loop
 mul-seen c =
@@ -61,10 +63,11 @@ loop-less-2 c =
 
 loop-again-2 : tie.Need-loop-again-2 Inv-loop μ-loop
 loop-again-2 c =
-    let F = subst (λ (x : ℕ). FoundBy (wordsOf (c .before .before .before .before .before .before .before .before .before .before .args .log .now)) (c .before .before .before .before .before .before .before .before .before .before .args .puts .now) (c .before .before .before .before .before .before .before .before .before .before .args .count) x (c .before .look-up .result)) (c .before .before .word .ensures) (c .before .look-up .ensures) in
-    let b : c .before .look-up .result < c .before .before .before .before .before .before .before .before .before .before .args .count = (let w = F .within in let d = c .if1 .left in omega (arith, w, d)) in
+    let start = c .before .before .before .before .before .before .before .before .before .before in
+    let F = subst (λ (x : ℕ). FoundBy (wordsOf (start .args .log .now)) (start .args .puts .now) (start .args .count) x (c .before .look-up .result)) (c .before .before .word .ensures) (c .before .look-up .ensures) in
+    let b : c .before .look-up .result < start .args .count = (let w = F .within in let d = c .if1 .left in omega (arith, w, d)) in
     let q = c .before .before .before .before .loop .inv .1 in
-    (omega arith, length-set (c .before .before .before .before .loop .seen) (c .before .look-up .result) 1 ∙ q, lists-one (wordsOf (c .before .before .before .before .before .before .before .before .before .before .args .log .now)) (c .before .before .before .before .before .before .before .before .before .before .args .entries) (wordsOf (c .before .before .before .before .before .before .before .before .before .before .args .list .now)) (c .before .before .before .before .loop .i) (c .before .before .before .before .before .before .before .before .before .before .args .puts .now) (c .before .before .before .before .before .before .before .before .before .before .args .count) (c .before .before .before .before .loop .seen) (c .before .before .before .before .loop .inv .2) (c .before .before .before .before .before .before .before .before .before .before .pre .1 .1 .0) (c .before .look-up .result) b (F .found b) (omega (arith, b, q)) (λ x h e. one-place (wordsOf (c .before .before .before .before .before .before .before .before .before .before .args .log .now)) (c .before .before .before .before .before .before .before .before .before .before .args .entries) (c .before .before .before .before .before .before .before .before .before .before .args .puts .now) (c .before .before .before .before .before .before .before .before .before .before .args .count) (c .before .before .before .before .before .before .before .before .before .before .pre .1 .0) (c .before .before .before .before .before .before .before .before .before .before .pre .1 .1 .0) x (c .before .look-up .result) h b e))
+    (omega arith, length-set (c .before .before .before .before .loop .seen) (c .before .look-up .result) 1 ∙ q, lists-one (wordsOf (start .args .log .now)) (start .args .entries) (wordsOf (start .args .list .now)) (c .before .before .before .before .loop .i) (start .args .puts .now) (start .args .count) (c .before .before .before .before .loop .seen) (c .before .before .before .before .loop .inv .2) (start .pre .1 .1 .0) (c .before .look-up .result) b (F .found b) (omega (arith, b, q)) (λ x h e. one-place (wordsOf (start .args .log .now)) (start .args .entries) (start .args .puts .now) (start .args .count) (start .pre .1 .0) (start .pre .1 .1 .0) x (c .before .look-up .result) h b e))
 
 same-length : tie.Need-same-length Inv-loop μ-loop
 same-length c =
@@ -72,7 +75,8 @@ same-length c =
 
 returns : tie.Need-returns Inv-loop μ-loop
 returns c =
-    subst (λ (n : ℕ). Marked (wordsOf (c .before .before .before .before .before .before .before .args .log .now)) (c .before .before .before .before .before .before .before .args .entries) (wordsOf (c .before .before .before .before .before .before .before .args .list .now)) n (c .before .before .before .before .before .before .before .args .puts .now) (c .before .before .before .before .before .before .before .args .count) (c .before .loop .seen)) {x = c .before .loop .i} {y = c .before .before .before .before .before .before .before .args .numbers} (omega arith) (c .before .loop .inv .2)
+    let start = c .before .before .before .before .before .before .before in
+    subst (λ (n : ℕ). Marked (wordsOf (start .args .log .now)) (start .args .entries) (wordsOf (start .args .list .now)) n (start .args .puts .now) (start .args .count) (c .before .loop .seen)) {x = c .before .loop .i} {y = start .args .numbers} (omega arith) (c .before .loop .inv .2)
 
 pub mark-listed-spec : {M : Type 1} → statement M
 mark-listed-spec =

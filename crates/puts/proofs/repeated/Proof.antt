@@ -24,8 +24,9 @@ find-requires c κs =
 
 returns : tie.Need-returns
 returns c =
-    let F = subst (λ (x : ℕ). FoundBy (wordsOf (c .before .before .before .before .before .args .log .now)) (c .before .before .before .before .before .args .puts .now) (c .before .before .before .before .before .args .count) x (c .before .find .result)) (c .before .before .word .ensures) (c .before .find .ensures) in
-    no-such-number (wordsOf (c .before .before .before .before .before .args .log .now)) (c .before .before .before .before .before .args .entries) (c .before .before .before .before .before .args .puts .now) (c .before .before .before .before .before .args .count) (c .before .before .before .before .before .pre .1 .0) (c .before .before .before .before .before .pre .1 .1) (c .before .before .before .before .before .args .j) (c .before .before .before .before .before .pre .0 .3) (subst (λ (x : ℕ). FoundBy (wordsOf (c .before .before .before .before .before .args .log .now)) (c .before .before .before .before .before .args .puts .now) (c .before .before .before .before .before .args .count) (entryAt (wordsOf (c .before .before .before .before .before .args .log .now)) (c .before .before .before .before .before .args .j) .number) x) (c .if1 .taken) F)
+    let start = c .before .before .before .before .before in
+    let F = subst (λ (x : ℕ). FoundBy (wordsOf (start .args .log .now)) (start .args .puts .now) (start .args .count) x (c .before .find .result)) (c .before .before .word .ensures) (c .before .find .ensures) in
+    no-such-number (wordsOf (start .args .log .now)) (start .args .entries) (start .args .puts .now) (start .args .count) (start .pre .1 .0) (start .pre .1 .1) (start .args .j) (start .pre .0 .3) (subst (λ (x : ℕ). FoundBy (wordsOf (start .args .log .now)) (start .args .puts .now) (start .args .count) (entryAt (wordsOf (start .args .log .now)) (start .args .j) .number) x) (c .if1 .taken) F)
 
 mul-place : tie.Need-mul-place
 mul-place c = search needs
@@ -42,9 +43,10 @@ cast-place c =
 
 returns-2 : tie.Need-returns-2
 returns-2 c =
-    let F = subst (λ (x : ℕ). FoundBy (wordsOf (c .before .before .before .before .before .before .before .args .log .now)) (c .before .before .before .before .before .before .before .args .puts .now) (c .before .before .before .before .before .before .before .args .count) x (c .before .before .before .find .result)) (c .before .before .before .before .word .ensures) (c .before .before .before .find .ensures) in
-    let b : c .before .before .before .find .result < c .before .before .before .before .before .before .before .args .count = (let w = F .within in let d = c .before .before .if1 .left in omega (arith, w, d)) in
-    not-before (wordsOf (c .before .before .before .before .before .before .before .args .log .now)) (c .before .before .before .before .before .before .before .args .entries) (c .before .before .before .before .before .before .before .args .puts .now) (c .before .before .before .before .before .before .before .args .count) (c .before .before .before .before .before .before .before .pre .1 .0) (c .before .before .before .before .before .before .before .pre .1 .1) (c .before .before .before .before .before .before .before .args .j) (c .before .before .before .before .before .before .before .pre .0 .3) (c .before .before .before .find .result) b (F .found b) (let t = c .if2 .taken in omega (arith, t))
+    let start = c .before .before .before .before .before .before .before in
+    let F = subst (λ (x : ℕ). FoundBy (wordsOf (start .args .log .now)) (start .args .puts .now) (start .args .count) x (c .before .before .before .find .result)) (c .before .before .before .before .word .ensures) (c .before .before .before .find .ensures) in
+    let b : c .before .before .before .find .result < start .args .count = (let w = F .within in let d = c .before .before .if1 .left in omega (arith, w, d)) in
+    not-before (wordsOf (start .args .log .now)) (start .args .entries) (start .args .puts .now) (start .args .count) (start .pre .1 .0) (start .pre .1 .1) (start .args .j) (start .pre .0 .3) (c .before .before .before .find .result) b (F .found b) (let t = c .if2 .taken in omega (arith, t))
 
 mul-word-2 : tie.Need-mul-word-2
 mul-word-2 c = search needs
@@ -66,15 +68,21 @@ word-requires-3 c κs = search needs
 
 returns-3 : tie.Need-returns-3
 returns-3 c =
-    let F = subst (λ (x : ℕ). FoundBy (wordsOf (c .before .before .before .before .before .before .before .before .before .before .args .log .now)) (c .before .before .before .before .before .before .before .before .before .before .args .puts .now) (c .before .before .before .before .before .before .before .before .before .before .args .count) x (c .before .before .before .before .before .before .find .result)) (c .before .before .before .before .before .before .before .word .ensures) (c .before .before .before .before .before .before .find .ensures) in
-    let b : c .before .before .before .before .before .before .find .result < c .before .before .before .before .before .before .before .before .before .before .args .count = (let w = F .within in let d = c .before .before .before .before .before .if1 .left in omega (arith, w, d)) in
-    other-payload (wordsOf (c .before .before .before .before .before .before .before .before .before .before .args .log .now)) (c .before .before .before .before .before .before .before .before .before .before .args .entries) (c .before .before .before .before .before .before .before .before .before .before .args .puts .now) (c .before .before .before .before .before .before .before .before .before .before .args .count) (c .before .before .before .before .before .before .before .before .before .before .pre .1 .0) (c .before .before .before .before .before .before .before .before .before .before .pre .1 .1) (c .before .before .before .before .before .before .before .before .before .before .args .j) (c .before .before .before .before .before .before .before .before .before .before .pre .0 .3) (c .before .before .before .before .before .before .find .result) b (F .found b) (λ q. c .if3 .taken (c .before .before .word2 .ensures ∙ q ∙ sym (c .before .word3 .ensures)))
+    let at-before = c .before .before .before .before .before in
+    let start = c .before .before .before .before .before .before .before .before .before .before in
+    let at-find = c .before .before .before .before .before .before in
+    let F = subst (λ (x : ℕ). FoundBy (wordsOf (start .args .log .now)) (start .args .puts .now) (start .args .count) x (at-find .find .result)) (c .before .before .before .before .before .before .before .word .ensures) (at-find .find .ensures) in
+    let b : at-find .find .result < start .args .count = (let w = F .within in let d = at-before .if1 .left in omega (arith, w, d)) in
+    other-payload (wordsOf (start .args .log .now)) (start .args .entries) (start .args .puts .now) (start .args .count) (start .pre .1 .0) (start .pre .1 .1) (start .args .j) (start .pre .0 .3) (at-find .find .result) b (F .found b) (λ q. c .if3 .taken (c .before .before .word2 .ensures ∙ q ∙ sym (c .before .word3 .ensures)))
 
 returns-4 : tie.Need-returns-4
 returns-4 c =
-    let F = subst (λ (x : ℕ). FoundBy (wordsOf (c .before .before .before .before .before .before .before .before .before .before .args .log .now)) (c .before .before .before .before .before .before .before .before .before .before .args .puts .now) (c .before .before .before .before .before .before .before .before .before .before .args .count) x (c .before .before .before .before .before .before .find .result)) (c .before .before .before .before .before .before .before .word .ensures) (c .before .before .before .before .before .before .find .ensures) in
-    let b : c .before .before .before .before .before .before .find .result < c .before .before .before .before .before .before .before .before .before .before .args .count = (let w = F .within in let d = c .before .before .before .before .before .if1 .left in omega (arith, w, d)) in
-    this-put (wordsOf (c .before .before .before .before .before .before .before .before .before .before .args .log .now)) (c .before .before .before .before .before .before .before .before .before .before .args .entries) (c .before .before .before .before .before .before .before .before .before .before .args .puts .now) (c .before .before .before .before .before .before .before .before .before .before .args .count) (c .before .before .before .before .before .before .before .before .before .before .pre .1 .0) (c .before .before .before .before .before .before .before .before .before .before .pre .1 .1) (c .before .before .before .before .before .before .before .before .before .before .args .j) (c .before .before .before .before .before .before .before .before .before .before .pre .0 .3) (c .before .before .before .before .before .before .find .result) b (F .found b) (let t = c .before .before .before .if2 .left in omega (arith, t)) (sym (c .before .before .word2 .ensures) ∙ c .if3 .left ∙ c .before .word3 .ensures)
+    let at-before = c .before .before .before .before .before in
+    let start = c .before .before .before .before .before .before .before .before .before .before in
+    let at-find = c .before .before .before .before .before .before in
+    let F = subst (λ (x : ℕ). FoundBy (wordsOf (start .args .log .now)) (start .args .puts .now) (start .args .count) x (at-find .find .result)) (c .before .before .before .before .before .before .before .word .ensures) (at-find .find .ensures) in
+    let b : at-find .find .result < start .args .count = (let w = F .within in let d = at-before .if1 .left in omega (arith, w, d)) in
+    this-put (wordsOf (start .args .log .now)) (start .args .entries) (start .args .puts .now) (start .args .count) (start .pre .1 .0) (start .pre .1 .1) (start .args .j) (start .pre .0 .3) (at-find .find .result) b (F .found b) (let t = c .before .before .before .if2 .left in omega (arith, t)) (sym (c .before .before .word2 .ensures) ∙ c .if3 .left ∙ c .before .word3 .ensures)
 
 pub repeated-spec : {M : Type 1} → statement M
 repeated-spec =

@@ -22,8 +22,9 @@ slice-aggregate-apply c = sym (length-take-le _ _ (omega (arith, c .before .span
 
 apply-requires : tie.Need-apply-requires
 apply-requires c κs =
-    let a = c .before .before .before .before .before .before .args in
-    (c .before .before .before .before .before .before .pre .0 .0, (c .before .before .before .before .before .before .pre .0 .1, subst (λ (m : List ℕ). InStore (a .bench .queue) (length m) (a .act)) (sym (lent-front (a .words) _ (a .store .now) (c .before .before .span .ensures))) (c .before .before .before .before .before .before .pre .1)))
+    let start = c .before .before .before .before .before .before in
+    let a = start .args in
+    (start .pre .0 .0, (start .pre .0 .1, subst (λ (m : List ℕ). InStore (a .bench .queue) (length m) (a .act)) (sym (lent-front (a .words) _ (a .store .now) (c .before .before .span .ensures))) (start .pre .1)))
 
 same-length : tie.Need-same-length
 same-length c = search needs

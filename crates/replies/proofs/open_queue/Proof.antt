@@ -38,9 +38,12 @@ same-length-2 : tie.Need-same-length-2
 same-length-2 c = search needs
 
 returns : tie.Need-returns
-returns c = let a = c .before .before .before .before .before .before .before .before .before .before .before .before .before .before .before .args in λ l.
-    refused-by (a .kind) (a .width) (a .size) (a .workers) (a .words) _ (a .store .now) l _ (c .before .before .before .before .before .before .before .before .before .fresh .result .bench) (c .before .before .before .before .before .before .before .before .before .fresh .result .answer) _ _ _ _ (c .before .before .before .before .before .before .before .before .before .before .before .span .ensures) (c .before .before .before .before .before .before .before .before .before .fresh .kept .1 .1 .1 .1 .0) (c .before .before .before .before .before .before .before .before .before .fresh .ensures l) (c .before .before .before .before .before .show .ensures)
-    (a .session) (c .before .before .before .before .before .before .before .before .before .before .before .before .before .before .before .pre .1) (judged-stopped (c .before .before .before .before .before .before .before .before .before .fresh .result .answer) (sym (c .before .before .judge .ensures) ∙ c .enum-told2 .given .1))
+returns c =
+    let start = c .before .before .before .before .before .before .before .before .before .before .before .before .before .before .before in
+    let at-fresh = c .before .before .before .before .before .before .before .before .before in
+    let a = start .args in λ l.
+    refused-by (a .kind) (a .width) (a .size) (a .workers) (a .words) _ (a .store .now) l _ (at-fresh .fresh .result .bench) (at-fresh .fresh .result .answer) _ _ _ _ (c .before .before .before .before .before .before .before .before .before .before .before .span .ensures) (at-fresh .fresh .kept .1 .1 .1 .1 .0) (at-fresh .fresh .ensures l) (c .before .before .before .before .before .show .ensures)
+    (a .session) (start .pre .1) (judged-stopped (at-fresh .fresh .result .answer) (sym (c .before .before .judge .ensures) ∙ c .enum-told2 .given .1))
 
 same-length-3 : tie.Need-same-length-3
 same-length-3 c = search needs
@@ -49,9 +52,11 @@ same-length-4 : tie.Need-same-length-4
 same-length-4 c = search needs
 
 returns-2 : tie.Need-returns-2
-returns-2 c = let a = c .before .before .before .before .before .before .before .before .before .before .before .before .before .before .before .before .args in λ l.
-    opened-by (a .kind) (a .width) (a .size) (a .workers) (a .words) _ (a .store .now) l _ (c .before .before .before .before .before .before .before .before .before .before .fresh .result .bench) (c .before .before .before .before .before .before .before .before .before .before .fresh .result .answer) _ _ _ _ (c .before .before .before .before .before .before .before .before .before .before .before .before .span .ensures) (c .before .before .before .before .before .before .before .before .before .before .fresh .kept .1 .1 .1 .1 .0) (c .before .before .before .before .before .before .before .before .before .before .fresh .ensures l) (c .before .before .before .before .before .before .show .ensures)
-    (judged-made (c .before .before .before .before .before .before .before .before .before .before .fresh .result .answer) (sym (c .before .before .before .judge .ensures) ∙ c .before .enum-told .given .1))
+returns-2 c =
+    let at-fresh = c .before .before .before .before .before .before .before .before .before .before in
+    let a = c .before .before .before .before .before .before .before .before .before .before .before .before .before .before .before .before .args in λ l.
+    opened-by (a .kind) (a .width) (a .size) (a .workers) (a .words) _ (a .store .now) l _ (at-fresh .fresh .result .bench) (at-fresh .fresh .result .answer) _ _ _ _ (c .before .before .before .before .before .before .before .before .before .before .before .before .span .ensures) (at-fresh .fresh .kept .1 .1 .1 .1 .0) (at-fresh .fresh .ensures l) (c .before .before .before .before .before .before .show .ensures)
+    (judged-made (at-fresh .fresh .result .answer) (sym (c .before .before .before .judge .ensures) ∙ c .before .enum-told .given .1))
 
 pub open-queue-spec : {M : Type 1} → statement M
 open-queue-spec =

@@ -11,8 +11,9 @@ use Rattle.replies.proofs.play.Tie as tie
 
 play-live-requires : tie.Need-play-live-requires
 play-live-requires c κs =
-    let a = c .before .before .before .before .before .before .before .args in
-    ((c .before .before .before .before .before .before .before .pre .0, c .before .before .before .if1 .taken), subst (λ (v : Bool). askedOf v (a .command) ≡ Other) (c .before .before .before .if1 .taken) (c .before .before .before .before .before .before .before .pre .1))
+    let start = c .before .before .before .before .before .before .before in
+    let a = start .args in
+    ((start .pre .0, c .before .before .before .if1 .taken), subst (λ (v : Bool). askedOf v (a .command) ≡ Other) (c .before .before .before .if1 .taken) (start .pre .1))
 
 same-length : tie.Need-same-length
 same-length c = search needs

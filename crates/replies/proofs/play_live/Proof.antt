@@ -53,8 +53,9 @@ same-length c = search needs
 returns : tie.Need-returns
 unfolding respond
 returns c =
-    let a = c .before .before .before .before .before .before .before .before .before .args in
-    rw (c .before .before .before .before .enum-told .given .1) (bad-at _ _ _ _ _ _ (program-live (a .session) (a .store .now) (a .log .now) (c .before .before .before .before .before .before .before .before .before .pre .0 .1)) (c .before .before .refuse .ensures (a .store .now) (a .log .now)))
+    let start = c .before .before .before .before .before .before .before .before .before in
+    let a = start .args in
+    rw (c .before .before .before .before .enum-told .given .1) (bad-at _ _ _ _ _ _ (program-live (a .session) (a .store .now) (a .log .now) (start .pre .0 .1)) (c .before .before .refuse .ensures (a .store .now) (a .log .now)))
 
 same-length-2 : tie.Need-same-length-2
 same-length-2 c = search needs
@@ -120,8 +121,9 @@ same-length-15 c = search needs
 returns-7 : tie.Need-returns-7
 unfolding respond
 returns-7 c =
-    let a = c .before .before .before .before .before .before .before .before .before .args in
-    rw (c .before .before .before .before .enum-told5 .given .1) (bad-at _ _ _ _ _ _ (program-live (a .session) (a .store .now) (a .log .now) (c .before .before .before .before .before .before .before .before .before .pre .0 .1)) (c .before .before .refuse3 .ensures (a .store .now) (a .log .now)))
+    let start = c .before .before .before .before .before .before .before .before .before in
+    let a = start .args in
+    rw (c .before .before .before .before .enum-told5 .given .1) (bad-at _ _ _ _ _ _ (program-live (a .session) (a .store .now) (a .log .now) (start .pre .0 .1)) (c .before .before .refuse3 .ensures (a .store .now) (a .log .now)))
 
 pub play-live-spec : {M : Type 1} → statement M
 play-live-spec =

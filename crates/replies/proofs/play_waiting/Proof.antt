@@ -61,48 +61,60 @@ same-length-3 c = search needs
 
 returns-2 : tie.Need-returns-2
 unfolding respond
-returns-2 c = let a = c .before .before .before .before .before .before .before .before .args in λ l.
-    rw (c .before .before .before .before .enum-told .given .1) (bad-at _ _ _ _ _ _ (program-waits (a .session) (a .store .now) l (c .before .before .before .before .before .before .before .before .pre .1)) (c .before .before .refuse .ensures (a .store .now) l))
+returns-2 c =
+    let start = c .before .before .before .before .before .before .before .before in
+    let a = start .args in λ l.
+    rw (c .before .before .before .before .enum-told .given .1) (bad-at _ _ _ _ _ _ (program-waits (a .session) (a .store .now) l (start .pre .1)) (c .before .before .refuse .ensures (a .store .now) l))
 
 same-length-4 : tie.Need-same-length-4
 same-length-4 c = search needs
 
 returns-3 : tie.Need-returns-3
 unfolding respond
-returns-3 c = let a = c .before .before .before .before .before .before .before .before .args in λ l.
-    rw (c .before .before .before .before .enum-told2 .given .1) (bad-at _ _ _ _ _ _ (program-waits (a .session) (a .store .now) l (c .before .before .before .before .before .before .before .before .pre .1)) (c .before .before .refuse2 .ensures (a .store .now) l))
+returns-3 c =
+    let start = c .before .before .before .before .before .before .before .before in
+    let a = start .args in λ l.
+    rw (c .before .before .before .before .enum-told2 .given .1) (bad-at _ _ _ _ _ _ (program-waits (a .session) (a .store .now) l (start .pre .1)) (c .before .before .refuse2 .ensures (a .store .now) l))
 
 same-length-5 : tie.Need-same-length-5
 same-length-5 c = search needs
 
 returns-4 : tie.Need-returns-4
 unfolding respond
-returns-4 c = let a = c .before .before .before .before .before .before .before .before .args in λ l.
-    rw (c .before .before .before .before .enum-told3 .given .1) (bad-at _ _ _ _ _ _ (program-waits (a .session) (a .store .now) l (c .before .before .before .before .before .before .before .before .pre .1)) (c .before .before .refuse3 .ensures (a .store .now) l))
+returns-4 c =
+    let start = c .before .before .before .before .before .before .before .before in
+    let a = start .args in λ l.
+    rw (c .before .before .before .before .enum-told3 .given .1) (bad-at _ _ _ _ _ _ (program-waits (a .session) (a .store .now) l (start .pre .1)) (c .before .before .refuse3 .ensures (a .store .now) l))
 
 same-length-6 : tie.Need-same-length-6
 same-length-6 c = search needs
 
 returns-5 : tie.Need-returns-5
 unfolding respond
-returns-5 c = let a = c .before .before .before .before .before .before .before .before .args in λ l.
-    rw (c .before .before .before .before .enum-told4 .given .1) (bad-at _ _ _ _ _ _ (program-waits (a .session) (a .store .now) l (c .before .before .before .before .before .before .before .before .pre .1)) (c .before .before .refuse4 .ensures (a .store .now) l))
+returns-5 c =
+    let start = c .before .before .before .before .before .before .before .before in
+    let a = start .args in λ l.
+    rw (c .before .before .before .before .enum-told4 .given .1) (bad-at _ _ _ _ _ _ (program-waits (a .session) (a .store .now) l (start .pre .1)) (c .before .before .refuse4 .ensures (a .store .now) l))
 
 same-length-7 : tie.Need-same-length-7
 same-length-7 c = search needs
 
 returns-6 : tie.Need-returns-6
 unfolding respond
-returns-6 c = let a = c .before .before .before .before .before .before .before .before .args in λ l.
-    rw (c .before .before .before .before .enum-told5 .given .1) (bad-at _ _ _ _ _ _ (program-waits (a .session) (a .store .now) l (c .before .before .before .before .before .before .before .before .pre .1)) (c .before .before .refuse5 .ensures (a .store .now) l))
+returns-6 c =
+    let start = c .before .before .before .before .before .before .before .before in
+    let a = start .args in λ l.
+    rw (c .before .before .before .before .enum-told5 .given .1) (bad-at _ _ _ _ _ _ (program-waits (a .session) (a .store .now) l (start .pre .1)) (c .before .before .refuse5 .ensures (a .store .now) l))
 
 same-length-8 : tie.Need-same-length-8
 same-length-8 c = search needs
 
 returns-7 : tie.Need-returns-7
 unfolding respond
-returns-7 c = let a = c .before .before .before .before .before .before .before .before .args in λ l.
-    rw (c .before .before .before .before .enum-told6 .given .1) (bad-at _ _ _ _ _ _ (program-waits (a .session) (a .store .now) l (c .before .before .before .before .before .before .before .before .pre .1)) (c .before .before .refuse6 .ensures (a .store .now) l))
+returns-7 c =
+    let start = c .before .before .before .before .before .before .before .before in
+    let a = start .args in λ l.
+    rw (c .before .before .before .before .enum-told6 .given .1) (bad-at _ _ _ _ _ _ (program-waits (a .session) (a .store .now) l (start .pre .1)) (c .before .before .refuse6 .ensures (a .store .now) l))
 
 pub play-waiting-spec : {M : Type 1} → statement M
 play-waiting-spec =

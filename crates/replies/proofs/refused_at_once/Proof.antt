@@ -48,7 +48,9 @@ returns-2 c = λ m l v. (not-false _ (c .before .before .if1 .left), rw (c .enum
 
 returns-3 : tie.Need-returns-3
 unfolding respond
-returns-3 c = λ m l v. let h = not-false _ (c .before .before .before .before .if1 .left) in begin-at-once _ _ _ _ (c .before .before .before .before .before .args .command) (c .begin-stop .result) h (c .begin-stop .ensures m l (v h)) (ap (respond (playing (lent (c .before .before .before .before .before .args .bench) m l))) (c .before .before .command .given .1))
+returns-3 c =
+    let start = c .before .before .before .before .before in
+    λ m l v. let h = not-false _ (c .before .before .before .before .if1 .left) in begin-at-once _ _ _ _ (start .args .command) (c .begin-stop .result) h (c .begin-stop .ensures m l (v h)) (ap (respond (playing (lent (start .args .bench) m l))) (c .before .before .command .given .1))
 
 returns-4 : tie.Need-returns-4
 unfolding respond
@@ -56,7 +58,9 @@ returns-4 c = λ m l v. let h = not-false _ (c .before .before .before .if1 .lef
 
 returns-5 : tie.Need-returns-5
 unfolding respond
-returns-5 c = λ m l v. let h = not-false _ (c .before .before .before .before .if1 .left) in begin-at-once _ _ _ _ (c .before .before .before .before .before .args .command) (c .begin-stop3 .result) h (c .begin-stop3 .ensures m l (v h)) (ap (respond (playing (lent (c .before .before .before .before .before .args .bench) m l))) (c .before .before .command2 .given .1))
+returns-5 c =
+    let start = c .before .before .before .before .before in
+    λ m l v. let h = not-false _ (c .before .before .before .before .if1 .left) in begin-at-once _ _ _ _ (start .args .command) (c .begin-stop3 .result) h (c .begin-stop3 .ensures m l (v h)) (ap (respond (playing (lent (start .args .bench) m l))) (c .before .before .command2 .given .1))
 
 returns-6 : tie.Need-returns-6
 returns-6 c = search needs

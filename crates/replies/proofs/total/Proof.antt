@@ -26,7 +26,9 @@ same-length : tie.Need-same-length
 same-length c = search needs
 
 returns : tie.Need-returns
-returns c = let a = c .before .before .before .before .before .before .before .before .before .before .before .before .args in total-by (a .session) _ (a .store .now) (a .log .now) (c .before .before .before .before .before .counts .result) _ _ _ _ (c .before .before .before .before .before .before .before .before .span .ensures) (c .before .before .before .before .before .counts .ensures) (c .before .before .print .ensures)
+returns c =
+    let at-counts = c .before .before .before .before .before in
+    let a = c .before .before .before .before .before .before .before .before .before .before .before .before .args in total-by (a .session) _ (a .store .now) (a .log .now) (at-counts .counts .result) _ _ _ _ (c .before .before .before .before .before .before .before .before .span .ensures) (at-counts .counts .ensures) (c .before .before .print .ensures)
 
 pub total-spec : {M : Type 1} → statement M
 total-spec =

@@ -89,15 +89,17 @@ loop-less c = let l = c .before .before .before .before .before .before .before 
     omega (arith, c .before .before .before .before .before .word-end2 .ensures, read-fits line (l .at) (omega arith))
 
 loop-again : tie.Need-loop-again Inv-loop μ-loop
-loop-again c = let l = c .before .before .before .before .before .before .before .before .loop in let line = c .before .before .before .before .before .before .before .before .before .before .before .before .before .args .line .now in
+loop-again c =
+    let at-word-end2 = c .before .before .before .before .before in
+    let l = c .before .before .before .before .before .before .before .before .loop in let line = c .before .before .before .before .before .before .before .before .before .before .before .before .before .args .line .now in
     let h : l .n < length (l .v) = omega arith in
     let k : l .at < length line = omega arith in (
-      omega (arith, c .before .before .before .before .before .word-end2 .ensures, read-fits line (l .at) k),
+      omega (arith, at-word-end2 .word-end2 .ensures, read-fits line (l .at) k),
       omega arith,
       length-set (l .v) (l .n) (c .before .x .given .0 .0) ∙ l .inv .2,
-      rw (add-one, take-suc-set (l .v) (l .n) (c .before .x .given .0 .0) h, c .before .before .before .before .before .word-end2 .ensures)
+      rw (add-one, take-suc-set (l .v) (l .n) (c .before .x .given .0 .0) h, at-word-end2 .word-end2 .ensures)
           (read-on line (l .at) (take (l .n) (l .v)) _ k (l .inv .3)
-          (ap valueOf (sym (part-is line (l .at) _ (c .before .before .before .before .before .word-end2 .ensures))) ∙ sym (c .before .before .before .number .ensures) ∙ c .before .x .given .1)),
+          (ap valueOf (sym (part-is line (l .at) _ (at-word-end2 .word-end2 .ensures))) ∙ sym (c .before .before .before .number .ensures) ∙ c .before .x .given .1)),
     )
 
 form-requires : tie.Need-form-requires Inv-loop μ-loop

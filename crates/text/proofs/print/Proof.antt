@@ -34,8 +34,10 @@ slice-write-out-2 c = let a = c .before .before .before .before .args in let l =
     omega (arith, c .before .before .before .before .pre, room (a .letter) (a .values .now) (l .i) h, l .inv .1 .ends, simp length-set at (placed-length _ _ _ _ _ (l .inv .1)))
 
 add-decimal : tie.Need-add-decimal Inv-loop μ-loop
-add-decimal c = let a = c .before .before .before .before .before .args in let l = c .before .before .loop in let h : l .i < length (a .values .now) = omega arith in
-    omega (arith, c .before .before .before .before .before .pre, room (a .letter) (a .values .now) (l .i) h, l .inv .1 .ends)
+add-decimal c =
+    let start = c .before .before .before .before .before in
+    let a = start .args in let l = c .before .before .loop in let h : l .i < length (a .values .now) = omega arith in
+    omega (arith, start .pre, room (a .letter) (a .values .now) (l .i) h, l .inv .1 .ends)
 
 mul-decimal : tie.Need-mul-decimal Inv-loop μ-loop
 mul-decimal c = search needs
@@ -44,8 +46,10 @@ shared-slice-read-decimal : tie.Need-shared-slice-read-decimal Inv-loop μ-loop
 shared-slice-read-decimal c = omega arith
 
 decimal-requires : tie.Need-decimal-requires Inv-loop μ-loop
-decimal-requires c κs = let a = c .before .before .before .before .before .before .args in let l = c .before .before .before .loop in let h : l .i < length (a .values .now) = omega arith in
-    simp length-set (omega (arith, c .before .before .before .before .before .before .pre, room (a .letter) (a .values .now) (l .i) h, l .inv .1 .ends, simp length-set at (placed-length _ _ _ _ _ (l .inv .1))))
+decimal-requires c κs =
+    let start = c .before .before .before .before .before .before in
+    let a = start .args in let l = c .before .before .before .loop in let h : l .i < length (a .values .now) = omega arith in
+    simp length-set (omega (arith, start .pre, room (a .letter) (a .values .now) (l .i) h, l .inv .1 .ends, simp length-set at (placed-length _ _ _ _ _ (l .inv .1))))
 
 add-i : tie.Need-add-i Inv-loop μ-loop
 add-i c = omega arith

@@ -30,7 +30,8 @@ same-length-2 c = search needs
 returns : tie.Need-returns
 unfolding stepOf
 returns c =
-    ap (λ (r : Reply). left r (c .before .before .before .before .before .before .before .before .args .store .now) (c .before .before .before .before .before .before .before .before .args .log .now)) (c .refused .ensures)
+    let start = c .before .before .before .before .before .before .before .before in
+    ap (λ (r : Reply). left r (start .args .store .now) (start .args .log .now)) (c .refused .ensures)
     ∙ sym (if-false _ (refused (c .before .before .valid .ensures) (c .before .if1 .taken)))
 
 place-of-requires : tie.Need-place-of-requires
@@ -59,9 +60,10 @@ same-length-4 c = search needs
 
 returns-2 : tie.Need-returns-2
 returns-2 c =
-    let W : World = lent (c .before .before .before .before .before .before .before .before .before .before .before .before .before .before .before .before .args .self .state) (c .before .before .before .before .before .before .before .before .before .before .before .before .before .before .before .before .args .store .now) (c .before .before .before .before .before .before .before .before .before .before .before .before .before .before .before .before .args .log .now) in
-    ap (λ (r : Reply). left r (c .before .before .before .before .before .before .before .before .before .before .before .before .before .before .before .before .args .store .now) (c .before .before .before .before .before .before .before .before .before .before .before .before .before .before .before .before .args .log .now)) (c .refused2 .ensures)
-    ∙ sym (subst (DecisionOf W (c .before .before .before .before .before .before .before .before .before .before .before .before .before .before .before .before .args .worker)) (c .before .before .decision .given .1) (c .before .before .before .before .decide .ensures))
+    let a = c .before .before .before .before .before .before .before .before .before .before .before .before .before .before .before .before .args in
+    let W : World = lent (a .self .state) (a .store .now) (a .log .now) in
+    ap (λ (r : Reply). left r (a .store .now) (a .log .now)) (c .refused2 .ensures)
+    ∙ sym (subst (DecisionOf W (a .worker)) (c .before .before .decision .given .1) (c .before .before .before .before .decide .ensures))
 
 enum-known-decision-2 : tie.Need-enum-known-decision-2
 enum-known-decision-2 c = search needs
@@ -71,8 +73,9 @@ enum-known-act c = search needs
 
 apply-requires : tie.Need-apply-requires
 apply-requires c κs =
-    let W : World = lent (c .before .before .before .before .before .before .before .before .before .before .before .before .before .before .before .before .before .before .args .self .state) (c .before .before .before .before .before .before .before .before .before .before .before .before .before .before .before .before .before .before .args .store .now) (c .before .before .before .before .before .before .before .before .before .before .before .before .before .before .before .before .before .before .args .log .now) in
-    let t = subst (DecisionOf W (c .before .before .before .before .before .before .before .before .before .before .before .before .before .before .before .before .before .before .args .worker)) (c .before .before .before .before .decision2 .given .1) (c .before .before .before .before .before .before .decide .ensures) in
+    let a = c .before .before .before .before .before .before .before .before .before .before .before .before .before .before .before .before .before .before .args in
+    let W : World = lent (a .self .state) (a .store .now) (a .log .now) in
+    let t = subst (DecisionOf W (a .worker)) (c .before .before .before .before .decision2 .given .1) (c .before .before .before .before .before .before .decide .ensures) in
     (t .0, (t .1, t .2))
 
 faced-requires : tie.Need-faced-requires
@@ -86,8 +89,9 @@ same-length-6 c = search needs
 
 returns-3 : tie.Need-returns-3
 returns-3 c =
-    let W : World = lent (c .before .before .before .before .before .before .before .before .before .before .before .before .before .before .before .before .before .before .before .before .before .before .before .before .args .self .state) (c .before .before .before .before .before .before .before .before .before .before .before .before .before .before .before .before .before .before .before .before .before .before .before .before .args .store .now) (c .before .before .before .before .before .before .before .before .before .before .before .before .before .before .before .before .before .before .before .before .before .before .before .before .args .log .now) in
-    faced-left (c .faced .ensures) (c .before .before .before .before .before .apply .ensures ∙ sym (subst (DecisionOf W (c .before .before .before .before .before .before .before .before .before .before .before .before .before .before .before .before .before .before .before .before .before .before .before .before .args .worker)) (c .before .before .before .before .before .before .before .before .before .before .decision2 .given .1) (c .before .before .before .before .before .before .before .before .before .before .before .before .decide .ensures) .3))
+    let a = c .before .before .before .before .before .before .before .before .before .before .before .before .before .before .before .before .before .before .before .before .before .before .before .before .args in
+    let W : World = lent (a .self .state) (a .store .now) (a .log .now) in
+    faced-left (c .faced .ensures) (c .before .before .before .before .before .apply .ensures ∙ sym (subst (DecisionOf W (a .worker)) (c .before .before .before .before .before .before .before .before .before .before .decision2 .given .1) (c .before .before .before .before .before .before .before .before .before .before .before .before .decide .ensures) .3))
 
 count-restart-requires : tie.Need-count-restart-requires
 count-restart-requires c κs = search needs
@@ -107,10 +111,11 @@ same-length-8 c = search needs
 returns-4 : tie.Need-returns-4
 unfolding enact
 returns-4 c =
-    let W : World = lent (c .before .before .before .before .before .before .before .before .before .before .before .before .before .before .before .before .before .before .before .args .self .state) (c .before .before .before .before .before .before .before .before .before .before .before .before .before .before .before .before .before .before .before .args .store .now) (c .before .before .before .before .before .before .before .before .before .before .before .before .before .before .before .before .before .before .before .args .log .now) in
-    let t = subst (DecisionOf W (c .before .before .before .before .before .before .before .before .before .before .before .before .before .before .before .before .before .before .before .args .worker)) (c .before .before .before .before .before .decision2 .given .1) (c .before .before .before .before .before .before .before .decide .ensures) in
-    goes-by (c .before .before .before .before .before .before .before .before .before .before .before .before .before .before .before .before .before .before .before .args .self .state) (c .before .before .before .before .before .before .before .before .before .before .before .before .before .before .before .before .before .before .before .args .worker) _ _ _ (c .before .before .before .before .before .before .before .before .before .before .before .before .before .before .before .before .before .before .before .args .store .now) (c .before .before .before .before .before .before .before .before .before .before .before .before .before .before .before .before .before .before .before .args .log .now) (c .before .before .before .before .before .before .before .before .before .before .before .place-of .ensures .1 (t .0)) (c .count-restart .ensures)
-    (t .3 ∙ ap (λ (a : Act). commit W (c .before .before .before .before .before .before .before .before .before .before .before .before .before .before .before .before .before .before .before .args .worker) (enact (W .bench .queue) (W .store) a)) (c .before .before .act .given .1))
+    let a = c .before .before .before .before .before .before .before .before .before .before .before .before .before .before .before .before .before .before .before .args in
+    let W : World = lent (a .self .state) (a .store .now) (a .log .now) in
+    let t = subst (DecisionOf W (a .worker)) (c .before .before .before .before .before .decision2 .given .1) (c .before .before .before .before .before .before .before .decide .ensures) in
+    goes-by (a .self .state) (a .worker) _ _ _ (a .store .now) (a .log .now) (c .before .before .before .before .before .before .before .before .before .before .before .place-of .ensures .1 (t .0)) (c .count-restart .ensures)
+    (t .3 ∙ ap (λ (x : Act). commit W (a .worker) (enact (W .bench .queue) (W .store) x)) (c .before .before .act .given .1))
 
 pub step-spec : {M : Type 1} → statement M
 step-spec =
