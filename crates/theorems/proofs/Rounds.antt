@@ -6,7 +6,9 @@ use Prim.Native.Nat.{ℕ, suc, _+_, _%_, _^_}
 use native.Mathlib.Numerals.{add-one}
 use lib.Dec.{eqb, ltb}
 use lib.ListN.{length, replicate}
-use Rattle.model.specs.declared.Kind.the-variants.{Lifo}
+use Rattle.model.specs.declared.Kind.{Kind}
+use Rattle.model.specs.declared.Kind.the-variants.{Lifo, Deque}
+use Rattle.model.specs.declared.Anchor.{Anchor}
 use Rattle.model.specs.declared.Task.{Task}
 use Rattle.model.specs.declared.Line.{Line}
 use Rattle.model.specs.declared.Line.the-variants.{Idle, PutFinish, TakeFinish, StealRead, StealCompare}
@@ -15,7 +17,7 @@ use Rattle.model.specs.declared.Answer.{Answer}
 use Rattle.model.specs.declared.Answer.the-variants.{Accepted, Numbered, GoesOn, Finished, HandedOut}
 use Rattle.model.specs.declared.Refusal.the-variants.{NoSuchWorker, BusyWorker, IdleWorker, WrongHand, NumbersSpent, LogFull, ForeignState}
 use Rattle.model.specs.Tests.{if_then_else_, unless_then_else_, _and_, _or_}
-use Rattle.model.specs.Lines.{eff, anchored, lineStep}
+use Rattle.model.specs.Lines.{Effect, eff, anchored, lineStep}
 use Rattle.model.specs.World.{World, Outcome, refuse, resting, lineAt, isIdle}
 use Rattle.model.specs.Calls.{logFull, rightHand, numbersLeft, begun, beginOf, stepped, commit, nextEffect, stepOf, Call, begin, step, callOf}
 use Rattle.model.specs.Answers.{entry, writeEntry, task}
@@ -24,6 +26,7 @@ use Rattle.model.specs.Run.{Played, played, after}
 use Rattle.model.specs.Figures.{anchor}
 use Rattle.theorems.proofs.Valid.{Whole, valid}
 use Rattle.theorems.proofs.WholeRun.{call-whole}
+use Rattle.theorems.proofs.Events.{is-line-1}
 
 -- the calls without the test of refusal 12
 abbrev pub rawOf : World → Call → Outcome
@@ -78,16 +81,29 @@ unfolding played after
 answers-append [] ys U = refl
 answers-append (c ∷ xs) ys U = ap (λ (l : List Answer). callOf U c .answer ∷ l) (answers-append xs ys (callOf U c .world))
 
--- t tasks in the queue; the owner is at the line o, the thief, worker 1, at θ
-abbrev pub here : ℕ → ℕ → ℕ → ℕ → ℕ → Line → Line → List ℕ → List ℕ → World
-here w t n g wr o θ m lg =
+-- THE STATES of the two queues with a tag
+pub data Tagged : Type 0 where
+  lifo deque : Tagged
+
+abbrev pub theKind : Tagged → Kind
+theKind lifo = Lifo
+theKind deque = Deque
+
+-- what a steal keeps for its compare, from the head 0: figure 3's h2, else 0
+abbrev pub h2 : Tagged → ℕ
+h2 lifo = 0
+h2 deque = 1
+
+-- the anchor is a; the owner is at the line o, the thief, worker 1, at θ
+abbrev pub here : Tagged → ℕ → Anchor → ℕ → ℕ → Line → Line → List ℕ → List ℕ → World
+here κ w a n wr o θ m lg =
     record {
       bench =
           record {
-            kind = Lifo;
+            kind = theKind κ;
             width = w;
             crew = 2;
-            queue = record { anchor = anchor 0 t g; arrays = record { offset = 0; length = 2 } ∷ replicate 10 nowhere; published = 1; claimed = 1 };
+            queue = record { anchor = a; arrays = record { offset = 0; length = 2 } ∷ replicate 10 nowhere; published = 1; claimed = 1 };
             used = n;
             restarts = 0;
             written = wr;
@@ -106,14 +122,30 @@ putting = begin 0 (Put 7) ∷ fiveSteps 0
 abbrev pub taking : List Call
 taking = begin 0 Take ∷ fiveSteps 0
 
-abbrev pub stealing : List Call
-stealing = begin 1 Steal ∷ fiveSteps 1
+-- figure 3's steal has one line more before its compare, which works out h2
+abbrev pub h2Steps : Tagged → List Call
+h2Steps lifo = []
+h2Steps deque = step 1 ∷ []
+
+abbrev pub stealing : Tagged → List Call
+stealing κ = begin 1 Steal ∷ (fiveSteps 1 ++ h2Steps κ)
 
 abbrev pub putAnswers : ℕ → List Answer
 putAnswers n = Numbered n ∷ GoesOn ∷ GoesOn ∷ GoesOn ∷ GoesOn ∷ Finished 0 (task n 7) ∷ []
 
 abbrev pub takeAnswers : ℕ → List Answer
 takeAnswers n = Accepted ∷ GoesOn ∷ GoesOn ∷ GoesOn ∷ GoesOn ∷ HandedOut 0 (task n 7) ∷ []
+
+abbrev pub h2Answers : Tagged → List Answer
+h2Answers lifo = []
+h2Answers deque = GoesOn ∷ []
+
+abbrev pub stealAnswers : Tagged → List Answer
+stealAnswers κ = Accepted ∷ GoesOn ∷ GoesOn ∷ GoesOn ∷ GoesOn ∷ GoesOn ∷ h2Answers κ
+
+-- the thief isn't at its line 1
+abbrev pub Past : World → Type 0
+Past U = is-line-1 (lineAt (U .bench .workers) 1) ≡ false
 
 -- the last step of an operation, with room in the log or without
 abbrev ending : World → ℕ → Line → Bool → Outcome
@@ -123,65 +155,103 @@ abbrev begun-or : World → ℕ → Bool → Outcome
 begun-or U p b = if b then begun U 0 (Put p) else refuse U NumbersSpent
 
 module _ (w n g wr : ℕ) (θ : Line) (x y : ℕ) (rest lg : List ℕ) (roomy : logFull lg wr ≡ false) where
-  abbrev putEnd : World
-  putEnd = here w 0 (n + 1) g wr (PutFinish (task (n + 1) 7) (anchor 0 0 g)) θ ((n + 1) ∷ 7 ∷ rest) lg
+  abbrev empty : Tagged → World
+  empty κ = here κ w (anchor 0 0 g) n wr Idle θ (x ∷ y ∷ rest) lg
 
   -- a put that takes number k
-  abbrev PutRun : ℕ → Type 0
-  PutRun k =
-      rawAfter (here w 0 n g wr Idle θ (x ∷ y ∷ rest) lg) putting
-      ≡ here w 1 k ((g + 1) % 2 ^ w) (wr + 4) Idle θ (k ∷ 7 ∷ rest) (writeEntry lg wr (entry 1 0 (task k 7)))
+  abbrev PutRun : Tagged → ℕ → Type 0
+  PutRun κ k = rawAfter (empty κ) putting ≡ here κ w (anchor 0 1 ((g + 1) % 2 ^ w)) k (wr + 4) Idle θ (k ∷ 7 ∷ rest) (writeEntry lg wr (entry 1 0 (task k 7)))
 
-  abbrev PutSays : ℕ → Type 0
-  PutSays k = rawAnswers (here w 0 n g wr Idle θ (x ∷ y ∷ rest) lg) putting ≡ putAnswers k
+  abbrev PutSays : Tagged → ℕ → Type 0
+  PutSays κ k = rawAnswers (empty κ) putting ≡ putAnswers k
 
-  put-run′ : ltb n 65535 ≡ true → PutRun (n + 1)
+  abbrev putEnd : Tagged → Bool → Outcome
+  putEnd κ =
+      ending (here κ w (anchor 0 0 g) (n + 1) wr (PutFinish (task (n + 1) 7) (anchor 0 0 g)) θ ((n + 1) ∷ 7 ∷ rest) lg) 0
+      (PutFinish (task (n + 1) 7) (anchor 0 0 g))
+
+  put-run′ : (κ : Tagged) → ltb n 65535 ≡ true → PutRun κ (n + 1)
   unfolding lineStep wordAt setWord offsetAt sizeAt if_then_else_ _and_ _or_
-  put-run′ u =
-      ap (λ (b : Bool). rawAfter (begun-or (here w 0 n g wr Idle θ (x ∷ y ∷ rest) lg) 7 b .world) (fiveSteps 0)) u
-      ∙ ap (λ (b : Bool). ending putEnd 0 (PutFinish (task (n + 1) 7) (anchor 0 0 g)) b .world) roomy
+  put-run′ lifo u = ap (λ (b : Bool). rawAfter (begun-or (empty lifo) 7 b .world) (fiveSteps 0)) u ∙ ap (λ (b : Bool). putEnd lifo b .world) roomy
+  put-run′ deque u = ap (λ (b : Bool). rawAfter (begun-or (empty deque) 7 b .world) (fiveSteps 0)) u ∙ ap (λ (b : Bool). putEnd deque b .world) roomy
 
-  put-says′ : ltb n 65535 ≡ true → PutSays (n + 1)
+  abbrev putBegun : Tagged → Bool → List Answer
+  putBegun κ b = begun-or (empty κ) 7 b .answer ∷ rawAnswers (begun-or (empty κ) 7 b .world) (fiveSteps 0)
+
+  abbrev putEnded : Tagged → Bool → List Answer
+  putEnded κ b = Numbered (n + 1) ∷ GoesOn ∷ GoesOn ∷ GoesOn ∷ GoesOn ∷ putEnd κ b .answer ∷ []
+
+  put-says′ : (κ : Tagged) → ltb n 65535 ≡ true → PutSays κ (n + 1)
   unfolding lineStep wordAt setWord offsetAt sizeAt if_then_else_ _and_ _or_
-  put-says′ u =
-      ap (λ (b : Bool). begun-or (here w 0 n g wr Idle θ (x ∷ y ∷ rest) lg) 7 b .answer ∷ rawAnswers (begun-or (here w 0 n g wr Idle θ (x ∷ y ∷ rest) lg) 7 b .world) (fiveSteps 0)) u
-      ∙ ap (λ (b : Bool). Numbered (n + 1) ∷ GoesOn ∷ GoesOn ∷ GoesOn ∷ GoesOn ∷ ending putEnd 0 (PutFinish (task (n + 1) 7) (anchor 0 0 g)) b .answer ∷ []) roomy
+  put-says′ lifo u = ap (putBegun lifo) u ∙ ap (putEnded lifo) roomy
+  put-says′ deque u = ap (putBegun deque) u ∙ ap (putEnded deque) roomy
 
-  pub put-run : ltb n 65535 ≡ true → PutRun (suc n)
-  put-run u = subst PutRun (add-one n) (put-run′ u)
+  pub put-run : (κ : Tagged) → ltb n 65535 ≡ true → PutRun κ (suc n)
+  put-run κ u = subst (PutRun κ) (add-one n) (put-run′ κ u)
 
-  pub put-says : ltb n 65535 ≡ true → PutSays (suc n)
-  put-says u = subst PutSays (add-one n) (put-says′ u)
+  pub put-says : (κ : Tagged) → ltb n 65535 ≡ true → PutSays κ (suc n)
+  put-says κ u = subst (PutSays κ) (add-one n) (put-says′ κ u)
 
-  abbrev takeEnd : World
-  takeEnd = here w 1 n g wr (TakeFinish (anchor 0 1 g) (task x y)) θ (x ∷ y ∷ rest) lg
+  abbrev takeEnd : Tagged → Bool → Outcome
+  takeEnd κ = ending (here κ w (anchor 0 1 g) n wr (TakeFinish (anchor 0 1 g) (task x y)) θ (x ∷ y ∷ rest) lg) 0 (TakeFinish (anchor 0 1 g) (task x y))
 
-  pub take-run : rawAfter (here w 1 n g wr Idle θ (x ∷ y ∷ rest) lg) taking ≡ here w 0 n g (wr + 4) Idle θ (x ∷ y ∷ rest) (writeEntry lg wr (entry 2 0 (task x y)))
+  pub take-run : (κ : Tagged) → rawAfter (here κ w (anchor 0 1 g) n wr Idle θ (x ∷ y ∷ rest) lg) taking ≡ here κ w (anchor 0 0 g) n (wr + 4) Idle θ (x ∷ y ∷ rest) (writeEntry lg wr (entry 2 0 (task x y)))
   unfolding lineStep wordAt setWord offsetAt sizeAt if_then_else_ _and_ _or_
-  take-run = ap (λ (b : Bool). ending takeEnd 0 (TakeFinish (anchor 0 1 g) (task x y)) b .world) roomy
+  take-run lifo = ap (λ (b : Bool). takeEnd lifo b .world) roomy
+  take-run deque = ap (λ (b : Bool). takeEnd deque b .world) roomy
 
-  pub take-says : rawAnswers (here w 1 n g wr Idle θ (x ∷ y ∷ rest) lg) taking ≡ Accepted ∷ GoesOn ∷ GoesOn ∷ GoesOn ∷ GoesOn ∷ HandedOut 0 (task x y) ∷ []
+  abbrev takeEnded : Tagged → Bool → List Answer
+  takeEnded κ b = Accepted ∷ GoesOn ∷ GoesOn ∷ GoesOn ∷ GoesOn ∷ takeEnd κ b .answer ∷ []
+
+  pub take-says : (κ : Tagged) → rawAnswers (here κ w (anchor 0 1 g) n wr Idle θ (x ∷ y ∷ rest) lg) taking ≡ Accepted ∷ GoesOn ∷ GoesOn ∷ GoesOn ∷ GoesOn ∷ HandedOut 0 (task x y) ∷ []
   unfolding lineStep wordAt setWord offsetAt sizeAt if_then_else_ _and_ _or_
-  take-says = ap (λ (b : Bool). Accepted ∷ GoesOn ∷ GoesOn ∷ GoesOn ∷ GoesOn ∷ ending takeEnd 0 (TakeFinish (anchor 0 1 g) (task x y)) b .answer ∷ []) roomy
+  take-says lifo = ap (takeEnded lifo) roomy
+  take-says deque = ap (takeEnded deque) roomy
 
-  -- the thief's first five lines, and its compare
-  pub steal-run : rawAfter (here w 1 n g wr Idle Idle (x ∷ y ∷ rest) lg) stealing ≡ here w 1 n g wr Idle (StealCompare (anchor 0 1 g) 0 (task x y)) (x ∷ y ∷ rest) lg
+  -- the thief's lines before its compare
+  abbrev one : Tagged → World
+  one κ = here κ w (anchor 0 1 g) n wr Idle Idle (x ∷ y ∷ rest) lg
+
+  pub steal-run : (κ : Tagged) → rawAfter (one κ) (stealing κ) ≡ here κ w (anchor 0 1 g) n wr Idle (StealCompare (anchor 0 1 g) (h2 κ) (task x y)) (x ∷ y ∷ rest) lg
   unfolding lineStep wordAt setWord offsetAt sizeAt if_then_else_ _and_ _or_
-  steal-run = refl
+  steal-run lifo = refl
+  steal-run deque = refl
 
-  pub steal-says : rawAnswers (here w 1 n g wr Idle Idle (x ∷ y ∷ rest) lg) stealing ≡ Accepted ∷ GoesOn ∷ GoesOn ∷ GoesOn ∷ GoesOn ∷ GoesOn ∷ []
+  pub steal-says : (κ : Tagged) → rawAnswers (one κ) (stealing κ) ≡ stealAnswers κ
   unfolding lineStep wordAt setWord offsetAt sizeAt if_then_else_ _and_ _or_
-  steal-says = refl
+  steal-says lifo = refl
+  steal-says deque = refl
 
-  abbrev won : ℕ → Task → Bool → Outcome
-  won g′ t b =
-      commit (here w 1 n g wr Idle (StealCompare (anchor 0 1 g′) 0 t) (x ∷ y ∷ rest) lg) 1
-      (if b then eff (anchored (here w 1 n g wr Idle Idle [] [] .bench .queue) (anchor 0 0 g′)) (x ∷ y ∷ rest) Idle (HandedOut 1 t) else eff (here w 1 n g wr Idle Idle [] [] .bench .queue) (x ∷ y ∷ rest) StealRead GoesOn)
+  -- none of them but the first is a line 1
+  abbrev PastAfter : Tagged → List Call → Type 0
+  PastAfter κ ks = Past (rawAfter (one κ) (begin 1 Steal ∷ step 1 ∷ ks))
 
-  pub win-run : (g′ : ℕ) (t : Task) → eqb g g′ ≡ true
-      → rawOf (here w 1 n g wr Idle (StealCompare (anchor 0 1 g′) 0 t) (x ∷ y ∷ rest) lg) (step 1)
-      ≡ record { world = here w 0 n g′ (wr + 4) Idle Idle (x ∷ y ∷ rest) (writeEntry lg wr (entry 2 1 t)); answer = HandedOut 1 t }
+  abbrev pub StealPast : Tagged → Type 0
+  StealPast κ =
+      PastAfter κ [] × PastAfter κ (step 1 ∷ []) × PastAfter κ (step 1 ∷ step 1 ∷ []) × PastAfter κ (step 1 ∷ step 1 ∷ step 1 ∷ [])
+      × PastAfter κ (step 1 ∷ step 1 ∷ step 1 ∷ step 1 ∷ [])
+
+  pub steal-past : (κ : Tagged) → StealPast κ
   unfolding lineStep wordAt setWord offsetAt sizeAt if_then_else_ _and_ _or_
-  win-run g′ t e =
-      ap (won g′ t) e
-      ∙ ap (λ (b : Bool). if b then refuse (here w 1 n g wr Idle (StealCompare (anchor 0 1 g′) 0 t) (x ∷ y ∷ rest) lg) LogFull else stepped (here w 1 n g wr Idle (StealCompare (anchor 0 1 g′) 0 t) (x ∷ y ∷ rest) lg) 1 (eff (anchored (here w 1 n g wr Idle Idle [] [] .bench .queue) (anchor 0 0 g′)) (x ∷ y ∷ rest) Idle (HandedOut 1 t))) roomy
+  steal-past lifo = (refl, refl, refl, refl, refl)
+  steal-past deque = (refl, refl, refl, refl, refl)
+
+  -- the compare
+  abbrev comparing : Tagged → ℕ → Task → World
+  comparing κ g′ t = here κ w (anchor 0 1 g) n wr Idle (StealCompare (anchor 0 1 g′) (h2 κ) t) (x ∷ y ∷ rest) lg
+
+  abbrev found : Tagged → ℕ → Task → Effect
+  found κ g′ t = eff (anchored (one κ .bench .queue) (anchor (h2 κ) 0 g′)) (x ∷ y ∷ rest) Idle (HandedOut 1 t)
+
+  abbrev won : Tagged → ℕ → Task → Bool → Outcome
+  won κ g′ t b = commit (comparing κ g′ t) 1 (if b then found κ g′ t else eff (one κ .bench .queue) (x ∷ y ∷ rest) StealRead GoesOn)
+
+  abbrev wonEnd : Tagged → ℕ → Task → Bool → Outcome
+  wonEnd κ g′ t b = if b then refuse (comparing κ g′ t) LogFull else stepped (comparing κ g′ t) 1 (found κ g′ t)
+
+  pub win-run : (κ : Tagged) (g′ : ℕ) (t : Task) → eqb g g′ ≡ true
+      → rawOf (here κ w (anchor 0 1 g) n wr Idle (StealCompare (anchor 0 1 g′) (h2 κ) t) (x ∷ y ∷ rest) lg) (step 1)
+      ≡ record { world = here κ w (anchor (h2 κ) 0 g′) n (wr + 4) Idle Idle (x ∷ y ∷ rest) (writeEntry lg wr (entry 2 1 t)); answer = HandedOut 1 t }
+  unfolding lineStep wordAt setWord offsetAt sizeAt if_then_else_ _and_ _or_
+  win-run lifo g′ t e = ap (won lifo g′ t) e ∙ ap (wonEnd lifo g′ t) roomy
+  win-run deque g′ t e = ap (won deque g′ t) e ∙ ap (wonEnd deque g′ t) roomy

@@ -1,5 +1,6 @@
 -- The tightness list, its places and its answers.
 use mathlib.Core.Path.{_≡_, refl, _∙_, ap, subst}
+use mathlib.Core.Logic.{inl, inr}
 use mathlib.Core.List.{List, [], _∷_, _++_}
 use Prim.Native.Nat.{ℕ, zero, suc, _+_, _*_, _^_, _<_}
 use native.Mathlib.Omega.{arith}
@@ -10,8 +11,9 @@ use Rattle.model.specs.declared.Task.{Task}
 use Rattle.model.specs.World.{World}
 use Rattle.model.specs.Calls.{Call, begin, step, callOf}
 use Rattle.model.specs.Run.{Played, played, after}
-use Rattle.theorems.specs.Demand3.{At, HandsOut, finishes, puts}
-use Rattle.theorems.proofs.Rounds.{answers, putting, taking, stealing, putAnswers, takeAnswers}
+use Rattle.theorems.specs.Demand3.{At, HandsOut, Line1, finishes, puts}
+use Rattle.theorems.proofs.Translate.{at-map}
+use Rattle.theorems.proofs.Rounds.{answers, Tagged, lifo, deque, putting, taking, h2Steps, stealing, putAnswers, takeAnswers, h2Answers, stealAnswers, Past}
 
 -- places in a list of calls, and of answers
 abbrev pub played1 : World → Call → Played
@@ -107,18 +109,31 @@ abbrev pub rounds : ℕ → List Call
 rounds zero = []
 rounds (suc r) = rounds r ++ (taking ++ putting)
 
-abbrev pub first : List Call
-first = putting ++ stealing
+abbrev pub first : Tagged → List Call
+first κ = putting ++ stealing κ
 
-abbrev pub tightList : ℕ → List Call
-tightList w = (first ++ rounds (2 ^ w)) ++ (step 1 ∷ [])
+abbrev pub tightList : Tagged → ℕ → List Call
+tightList κ w = (first κ ++ rounds (2 ^ w)) ++ (step 1 ∷ [])
 
 abbrev pub script : ℕ → List Answer
 script zero = []
 script (suc r) = script r ++ (takeAnswers (suc r) ++ putAnswers (suc (suc r)))
 
-abbrev pub firstAnswers : List Answer
-firstAnswers = putAnswers 1 ++ (Accepted ∷ GoesOn ∷ GoesOn ∷ GoesOn ∷ GoesOn ∷ GoesOn ∷ [])
+abbrev pub firstAnswers : Tagged → List Answer
+firstAnswers κ = putAnswers 1 ++ stealAnswers κ
+
+-- the step for h2 finishes no put and hands out no task
+pub h2-length : (κ : Tagged) → length (h2Answers κ) ≡ length (h2Steps κ)
+h2-length lifo = refl
+h2-length deque = refl
+
+pub h2-total : (κ : Tagged) → total (h2Answers κ) ≡ 0
+h2-total lifo = refl
+h2-total deque = refl
+
+pub h2-under : (κ : Tagged) (N : ℕ) → AllUnder N (h2Answers κ)
+h2-under lifo N = tt
+h2-under deque N = (tt, tt)
 
 pub rounds-own : (r : ℕ) → OwnOnly (rounds r)
 rounds-own zero = tt
@@ -141,3 +156,24 @@ script-under zero N l = tt
 script-under (suc r) N l =
     under-append N (script r) (takeAnswers (suc r) ++ putAnswers (suc (suc r))) (script-under r N (omega arith))
     (tt, (tt, (tt, (tt, (tt, (l, (tt, (tt, (tt, (tt, (tt, (tt, tt))))))))))))
+
+-- the thief does no other line 1 before its compare
+pub past-not : (s : Played) → Past (s .before) → Line1 1 s → ⊥
+past-not s p (inl (c, l, n)) = let z : _≡_ {A = ℕ} 0 1 = cc in omega arith
+past-not s p (inr (c, l, n)) = let z : _≡_ {A = ℕ} 0 1 = cc in omega arith
+
+line1-call : (s : Played) → Line1 1 s → s .call ≡ step 1
+line1-call s (inl (c, l, n)) = c
+line1-call s (inr (c, l, n)) = c
+
+rounds-not : (r : ℕ) (U : World) (k : ℕ) → k < 12 * r → At (played U (rounds r ++ (step 1 ∷ []))) k (Line1 1) → ⊥
+rounds-not r U k h a =
+    no-thief (rounds r) (step 1 ∷ []) U k (rounds-own r) (omega (arith, rounds-length r))
+    (at-map (played U (rounds r ++ (step 1 ∷ []))) k (Line1 1) (λ s. s .call ≡ step 1) line1-call a)
+
+pub waits-not : (κ : Tagged) (r : ℕ) (U : World) → Past U → (k : ℕ) → k < length (h2Steps κ) + 12 * r
+    → At (played U ((h2Steps κ ++ rounds r) ++ (step 1 ∷ []))) k (Line1 1) → ⊥
+unfolding played
+waits-not lifo r U p k h a = rounds-not r U k (omega arith) a
+waits-not deque r U p zero h a = past-not (played1 U (step 1)) p a
+waits-not deque r U p (suc k) h a = rounds-not r (callOf U (step 1) .world) k (omega arith) a

@@ -1,6 +1,7 @@
 -- What else is claimed of lists from a fresh bench.
 use mathlib.Core.Path.{_≡_}
 use mathlib.Core.Bool.{true}
+use mathlib.Core.Logic.{_⊎_}
 use mathlib.Core.List.{List}
 use Prim.Native.Nat.{ℕ, _+_, _*_, _^_, _≤_, _<_}
 use lib.ListN.{length}
@@ -52,8 +53,9 @@ pub record Loses (W : World) (cs : List Call) (d : ℕ) : Type 0 where
   pub not-handed-out : (k : ℕ) → Out (played W cs) k task → ⊥
   pub not-standing : Stands (after W cs) task → ⊥
 
--- for each width there is such a list with exactly 2^w puts in one attempt, of a LIFO bench with one slot and one thief
+-- for LIFO and double-ended, kinds 1 and 3, and each width there is such a list with exactly 2^w puts in one attempt, of a
+-- bench with one slot and one thief
 abbrev pub Tight : Type 0
 Tight =
-    (w : ℕ) (store log : List ℕ) → 0 < w → w ≤ 15 → 2 ≤ length store → 8 * 2 ^ w + 8 ≤ length log
-    → (freshOf 1 w 1 2 store log .answer ≡ Accepted) × ((cs : List Call) × Loses (freshOf 1 w 1 2 store log .world) cs (2 ^ w))
+    (k w : ℕ) (store log : List ℕ) → (k ≡ 1) ⊎ (k ≡ 3) → 0 < w → w ≤ 15 → 2 ≤ length store → 8 * 2 ^ w + 8 ≤ length log
+    → (freshOf k w 1 2 store log .answer ≡ Accepted) × ((cs : List Call) × Loses (freshOf k w 1 2 store log .world) cs (2 ^ w))
