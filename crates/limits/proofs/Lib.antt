@@ -1,3 +1,4 @@
 pub mod Scan
 pub mod Directory
 pub mod Crew
+pub mod Bounds

@@ -20,10 +20,10 @@ use Rattle.model.specs.Calls.{lent, restarted, step, commit, stepOf}
 use Rattle.model.specs.Listing.{Program, playing, printed, respond, stepsOf, Reply}
 use Rattle.theorems.specs.Reached.{Reached}
 use Rattle.theorems.proofs.Reached.{reached-call, reached-valid}
-use Rattle.machine.specs.declared.Stop.the-variants.{Why}
+use Rattle.opening.specs.declared.Stop.the-variants.{Why}
 use Rattle.machine.specs.declared.Decision.{Decision}
 use Rattle.machine.specs.Decisions.{DecisionOf}
-use Rattle.machine.proofs.Bounds.{bounds-of}
+use Rattle.limits.proofs.Bounds.{bounds-of}
 use Rattle.text.specs.Numbers.{Placed}
 use Rattle.text.specs.Commands.{commandOf}
 use Rattle.replies.specs.declared.Session.{Session}

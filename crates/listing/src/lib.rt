@@ -1,5 +1,5 @@
 // Lines of input played one after the other, and what they print, however the input is cut into buffers.
-// Uses `model`, `theorems`, `stages`, `lines`, `machine`, `text` and `replies`. It is used by `bench`.
+// Uses `model`, `theorems`, `stages`, `lines`, `opening`, `machine`, `text` and `replies`. It is used by `bench`.
 ghost use mathlib.Core.Path.{_≡_};
 ghost use Prim.Native.Nat.{_+_, _-_, _≤_, min};
 ghost use lib.ListN.{length, drop};
@@ -8,9 +8,9 @@ ghost use Rattle.listing.specs.Listing.{front};
 ghost use Rattle.listing.specs.Feeding.{Reachable, FedBy, CarriedBy};
 use lines::Act;
 use machine::Decision;
-use machine::Stop;
 use model::Answer;
 use model::Worker;
+use opening::Stop;
 use replies::Asked;
 use replies::Judged;
 use replies::Session;

@@ -15,10 +15,10 @@ use Rattle.lines.specs.declared.Act.the-variants.{Changes}
 use Rattle.lines.specs.declared.Change.{Change}
 use Rattle.lines.specs.declared.Change.the-variants.{Word, Copies, Claims}
 use Rattle.lines.specs.Act.{Fits, enact, InStore}
-use Rattle.machine.specs.declared.Reply.{Reply}
-use Rattle.machine.specs.Left.{left}
+use Rattle.state.specs.declared.Reply.{Reply}
+use Rattle.state.specs.Left.{left}
 use Rattle.state.specs.Pieces.{moved}
-use Rattle.machine.proofs.Replies.{same-left}
+use Rattle.state.proofs.Replies.{same-left}
 use Rattle.machine.proofs.Commits.{goes-on}
 
 module _ (q : Queue) (n : ℕ) (change : Change) (h : Fits q n change) where

@@ -1,4 +1,2 @@
-pub mod Bounds
-pub mod Replies
 pub mod Commits
 pub mod Acts

@@ -1,14 +1,14 @@
--- What the machine leaves is what the face leaves.
+-- What a call leaves is what the face leaves.
 use mathlib.Core.List.{List}
 use mathlib.Core.Path.{_≡_, ap, _∙_}
 use Prim.Native.Nat.{ℕ}
 use Rattle.model.specs.World.{Outcome}
-use Rattle.machine.specs.declared.Reply.{Reply as Made}
-use Rattle.machine.specs.Left.{left as left-by-machine}
+use Rattle.state.specs.declared.Reply.{Reply as Made}
+use Rattle.state.specs.Left.{left as left-by-state}
 use Rattle.queues.specs.declared.Reply.{Reply}
 use Rattle.queues.specs.Left.{left}
 
 pub faced-left : {r : Reply} {d : Made} {m l : List ℕ} {o : Outcome}
     → r ≡ record { bench = record { state = d .bench }; answer = d .answer }
-    → left-by-machine d m l ≡ o → left r m l ≡ o
+    → left-by-state d m l ≡ o → left r m l ≡ o
 faced-left {m = m} {l = l} e f = ap (λ (r : Reply). left r m l) e ∙ f

@@ -2,7 +2,7 @@
 // a time in the order that the caller chooses. A bench is a value; each call takes it and hands the
 // next one back, beside the store and the log that the caller lends. A call may be handed any state,
 // any numbers and any memory: it is refused where document 01 says so, and then changes nothing.
-// Uses `model`, `stages`, `lines`, `limits`, `memory` and `machine`. It is used by `exercise` and `pace`.
+// Uses `model`, `stages`, `lines`, `limits`, `memory`, `state`, `opening` and `machine`. It is used by `exercise` and `pace`.
 ghost use mathlib.Core.Path.{_≡_};
 ghost use mathlib.Core.List.{List};
 ghost use Prim.Native.Nat.{ℕ, _≤_};
@@ -27,8 +27,8 @@ pub struct Reply {
     pub answer: Answer,
 }
 
-// What the machine hands back, with the bench's methods.
-fn faced(reply: machine::Reply) -> Reply
+// What a call hands back, with the bench's methods.
+fn faced(reply: state::Reply) -> Reply
     ensures { λ r. ⌜ r ≡ record { bench = record { state = reply .bench }; answer = reply .answer } ⌝ }
 {
     let state = reply.bench;
@@ -57,14 +57,14 @@ impl Bench {
     pub fn fresh(kind: u32, width: u32, size: u32, crew: u32, store: &mut [u32]) -> Reply
         ensures { λ r. ⌜ ((l : List ℕ) → left r (now (store .exit)) l ≡ freshOf kind width size crew (now (store .entry)) l) ⌝ }
     {
-        faced(machine::fresh(kind, width, size, crew, store))
+        faced(opening::fresh(kind, width, size, crew, store))
     }
 
     // Gives an idle worker an operation; it does no line.
     pub fn begin(self, worker: u32, operation: Operation, store: &[u32], log: &[u32]) -> Reply
         ensures { λ r. ⌜ left r (now (store .entry)) (now (log .entry)) ≡ beginOf (lent (self .state) (now (store .entry)) (now (log .entry))) worker operation ⌝ }
     {
-        faced(machine::begin(self.state, worker, operation, store, log))
+        faced(opening::begin(self.state, worker, operation, store, log))
     }
 
     // One line of a worker's operation.

@@ -18,9 +18,9 @@ use Rattle.model.specs.World.{World, Outcome}
 use Rattle.model.specs.Calls.{lent, freshOf, beginOf, commit}
 use Rattle.lines.specs.declared.Act.{Act}
 use Rattle.lines.specs.Act.{enact}
-use Rattle.machine.specs.declared.Stop.{Stop}
-use Rattle.machine.specs.declared.Stop.the-variants.{No, Why}
-use Rattle.machine.specs.Decisions.{BeginStops}
+use Rattle.opening.specs.declared.Stop.{Stop}
+use Rattle.opening.specs.declared.Stop.the-variants.{No, Why}
+use Rattle.opening.specs.Begins.{BeginStops}
 use Rattle.model.specs.Counts.{countsOf}
 use Rattle.model.specs.Listing.{Program, waiting, playing, ended, printed, isRefused, totals, reply, opened, told, bad, respond}
 use Rattle.text.specs.Numbers.{lineOf, Placed}

@@ -8,8 +8,8 @@ use Rattle.model.specs.declared.Answer.the-variants.{Accepted, Numbered, GoesOn
 use Rattle.model.specs.Tests.{if_then_else_}
 use Rattle.model.specs.World.{World}
 use Rattle.model.specs.Listing.{playing, reply, printed, respond}
-use Rattle.machine.specs.declared.Stop.{Stop}
-use Rattle.machine.specs.declared.Stop.the-variants.{No, Why}
+use Rattle.opening.specs.declared.Stop.{Stop}
+use Rattle.opening.specs.declared.Stop.the-variants.{No, Why}
 use Rattle.machine.specs.declared.Decision.{Decision}
 use Rattle.machine.specs.declared.Decision.the-variants as decision
 use Rattle.replies.specs.declared.Asked.{Asked}

@@ -1,6 +1,6 @@
 // One line of the program's input: what it does to the bench that is played, and what it prints. Of `step` only parts are here;
 // `listing` puts it together.
-// Uses `model`, `lines`, `machine`, `text` and `counts`. It is used by `listing` and `bench`.
+// Uses `model`, `lines`, `state`, `opening`, `machine`, `text` and `counts`. It is used by `listing` and `bench`.
 ghost use mathlib.Core.Path.{_≡_};
 ghost use mathlib.Core.Bool.{true, false};
 ghost use mathlib.Core.List.{List, [], _∷_};
@@ -23,7 +23,7 @@ ghost use Rattle.model.specs.Listing.{
   respond,
 };
 ghost use Rattle.lines.specs.Act.{enact, InStore};
-ghost use Rattle.machine.specs.Left.{left};
+ghost use Rattle.state.specs.Left.{left};
 ghost use Rattle.text.specs.Numbers.{Placed};
 ghost use Rattle.replies.specs.declared.Asked.the-variants.{Other};
 ghost use Rattle.replies.specs.Shown.{shownAll};
@@ -31,12 +31,12 @@ ghost use Rattle.replies.specs.Sessions.{worldOf, programOf, PlayedBy};
 ghost use Rattle.replies.specs.Choices.{judgedOf, refusalOf, askedOf, RefusedAtOnce};
 use lines::Act;
 use machine::Decision;
-use machine::Stop;
 use model::Answer;
 use model::Bench;
 use model::Command;
 use model::Operation;
 use model::Refusal;
+use opening::Stop;
 
 // The program between two lines: whether a `queue` was accepted, and then its bench, on the first `words` words of the store.
 pub struct Session {
@@ -69,7 +69,7 @@ pub fn start() -> Session
     ensures { λ r. ⌜ ((m l : List ℕ) → programOf r m l ≡ waiting m l) ⌝ }
 {
     let mut none = [0u32; 1];
-    let made = machine::fresh(0, 0, 0, 0, &mut none);
+    let made = opening::fresh(0, 0, 0, 0, &mut none);
     let bench = made.bench;
     Session {
         live: false,
@@ -203,7 +203,7 @@ fn open_queue(
         ⌝ }
 {
     let n = span(words, store);
-    let made = machine::fresh(kind, width, size, workers, &mut store[..n]);
+    let made = opening::fresh(kind, width, size, workers, &mut store[..n]);
     let answer = made.answer;
     let end = show(answer, out, at);
     let Judged::Made = judge(answer) else {
@@ -243,7 +243,7 @@ fn begin(
     let words = session.words;
     let n = span(words, store);
     let bench = session.bench;
-    let begun = machine::begin(bench, worker, operation, &store[..n], log);
+    let begun = opening::begin(bench, worker, operation, &store[..n], log);
     let answer = begun.answer;
     let end = show(answer, out, at);
     let next = begun.bench;
@@ -267,7 +267,7 @@ pub fn do_act(
     act: Act,
     store: &mut [u32],
     log: &mut [u32],
-) -> machine::Reply
+) -> state::Reply
     requires { ⌜ (worker < 8) × (bench .queue .published ≤ 11) ⌝ }
     requires { ⌜ InStore (bench .queue) (length (take words (now store))) act ⌝ }
     ensures { λ r.
@@ -458,15 +458,15 @@ pub fn refused_at_once(live: bool, bench: Bench, command: Command) -> Stop
         },
         Command::BeginPut { payload } => {
             let operation = Operation::Put { payload };
-            machine::begin_stop(bench, 0, operation)
+            opening::begin_stop(bench, 0, operation)
         }
         Command::BeginTake => {
             let operation = Operation::Take;
-            machine::begin_stop(bench, 0, operation)
+            opening::begin_stop(bench, 0, operation)
         }
         Command::BeginSteal { worker } => {
             let operation = Operation::Steal;
-            machine::begin_stop(bench, worker, operation)
+            opening::begin_stop(bench, worker, operation)
         }
         Command::Steps {
             worker: _,

@@ -1,18 +1,38 @@
-// The pieces of a bench that the calls put together: a state made anew or with one worker's record replaced, and the queue with
+// What a call hands back, and the pieces of a bench that the calls put together: a state made anew or with one worker's record replaced, and the queue with
 // another anchor or one array more. Each is a definition's short name, as code.
-// Uses `model` and `stages`. It is used by `machine`.
+// Uses `model` and `stages`. It is used by `opening`, `machine`, `queues` and `replies`.
 ghost use mathlib.Core.Path.{_≡_};
 ghost use Prim.Native.Nat.{_≤_, _<_};
+ghost use Rattle.model.specs.declared.Answer.the-variants.{Refused};
 ghost use Rattle.model.specs.Lines.{anchored, publishing};
 ghost use Rattle.model.specs.Calls.{blank, noBench};
 ghost use Rattle.state.specs.Pieces.{opened, moved};
 use model::Anchor;
+use model::Answer;
 use model::Bench;
 use model::Kind;
 use model::Line;
 use model::Queue;
+use model::Refusal;
 use model::Region;
 use model::Worker;
+
+// What a call hands back: the next state, and the answer.
+pub struct Reply {
+    pub bench: Bench,
+    pub answer: Answer,
+}
+
+// A refusal hands the state back as it came in.
+pub fn refused(bench: Bench, why: Refusal) -> Reply
+    ensures { λ r. ⌜ r ≡ record { bench = bench; answer = Refused why } ⌝ }
+{
+    let answer = Answer::Refused { why: why };
+    Reply {
+        bench: bench,
+        answer: answer,
+    }
+}
 
 // A state with no operation open, over one array of `size` tasks.
 pub fn made(kind: Kind, width: u32, size: u32, crew: u32) -> Bench

@@ -11,7 +11,7 @@ use Rattle.lines.specs.Act.{Ready}
 use Rattle.lines.proofs.FromLimits.{ground-of-valid, ready-of-valid}
 use Rattle.model.proofs.Tests.{if-true, if-false}
 use Rattle.model.proofs.Arrays.{mapped-length}
-use Rattle.machine.proofs.Bounds.{bounds-of}
+use Rattle.limits.proofs.Bounds.{bounds-of}
 use Rattle.machine.proofs.decide.Statement.{statement}
 use Rattle.machine.proofs.decide.Tie as tie
 

@@ -7,9 +7,9 @@ use borrow.Author.Tests.{lt-ltb, le-ltb, leb-true}
 use Rattle.model.specs.declared.Bench.{Bench}
 use Rattle.model.specs.Answers.{Entry, entryOf, writeEntry}
 use Rattle.model.proofs.Tests.{and-left, and-right, passed, refused}
-use Rattle.machine.specs.declared.Reply.{Reply}
-use Rattle.machine.specs.Left.{left}
-use Rattle.machine.proofs.Replies.{same-left}
+use Rattle.state.specs.declared.Reply.{Reply}
+use Rattle.state.specs.Left.{left}
+use Rattle.state.proofs.Replies.{same-left}
 use Rattle.machine.proofs.Commits.{full-is, no-entry, no-room, logs}
 use Rattle.machine.proofs.ends.Statement.{statement}
 use Rattle.machine.proofs.ends.Tie as tie

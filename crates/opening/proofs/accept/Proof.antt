@@ -1,6 +1,6 @@
 use borrow.Author.Needs.{needs}
-use Rattle.machine.proofs.accept.Statement.{statement}
-use Rattle.machine.proofs.accept.Tie as tie
+use Rattle.opening.proofs.accept.Statement.{statement}
+use Rattle.opening.proofs.accept.Tie as tie
 
 enum-known-operation : tie.Need-enum-known-operation
 enum-known-operation c = search needs

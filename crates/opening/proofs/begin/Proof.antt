@@ -3,12 +3,12 @@ use mathlib.Core.Path.{_≡_, refl, sym, _∙_, subst}
 use native.Mathlib.Omega.{arith}
 use Rattle.model.specs.Calls.{lent, beginOf}
 use Rattle.model.proofs.Tests.{if-false, passed, refused}
-use Rattle.machine.specs.declared.Stop.{Stop}
-use Rattle.machine.specs.Decisions.{BeginStops}
-use Rattle.machine.proofs.Bounds.{bounds-of}
-use Rattle.machine.proofs.Replies.{same-left}
-use Rattle.machine.proofs.begin.Statement.{statement}
-use Rattle.machine.proofs.begin.Tie as tie
+use Rattle.opening.specs.declared.Stop.{Stop}
+use Rattle.opening.specs.Begins.{BeginStops}
+use Rattle.limits.proofs.Bounds.{bounds-of}
+use Rattle.state.proofs.Replies.{same-left}
+use Rattle.opening.proofs.begin.Statement.{statement}
+use Rattle.opening.proofs.begin.Tie as tie
 
 valid-requires : tie.Need-valid-requires
 valid-requires c κs = search needs

@@ -4,8 +4,8 @@ use native.Mathlib.Omega.{arith}
 use borrow.Author.Tests.{lt-ltb, le-ltb}
 use Rattle.model.specs.Calls.{beginOf}
 use Rattle.model.proofs.Tests.{if-true, if-false, passed, refused}
-use Rattle.machine.proofs.begin_stop.Statement.{statement}
-use Rattle.machine.proofs.begin_stop.Tie as tie
+use Rattle.opening.proofs.begin_stop.Statement.{statement}
+use Rattle.opening.proofs.begin_stop.Tie as tie
 
 returns : tie.Need-returns
 unfolding beginOf

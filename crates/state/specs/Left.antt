@@ -3,7 +3,7 @@ use mathlib.Core.List.{List}
 use Prim.Native.Nat.{ℕ}
 use Rattle.model.specs.World.{Outcome}
 use Rattle.model.specs.Calls.{lent}
-use Rattle.machine.specs.declared.Reply.{Reply}
+use Rattle.state.specs.declared.Reply.{Reply}
 
 abbrev pub left : Reply → List ℕ → List ℕ → Outcome
 left r m l = record { world = lent (r .bench) m l; answer = r .answer }

@@ -7,11 +7,11 @@ use Rattle.model.specs.declared.Bench.{Bench}
 use Rattle.model.specs.declared.Answer.the-variants.{Accepted}
 use Rattle.model.proofs.Tests.{if-true, if-false, passed, refused}
 use Rattle.admission.proofs.Sizes.{size-in}
-use Rattle.machine.specs.declared.Reply.{Reply}
-use Rattle.machine.specs.Left.{left}
-use Rattle.machine.proofs.Replies.{same-left}
-use Rattle.machine.proofs.fresh.Statement.{statement}
-use Rattle.machine.proofs.fresh.Tie as tie
+use Rattle.state.specs.declared.Reply.{Reply}
+use Rattle.state.specs.Left.{left}
+use Rattle.state.proofs.Replies.{same-left}
+use Rattle.opening.proofs.fresh.Statement.{statement}
+use Rattle.opening.proofs.fresh.Tie as tie
 
 kind-ok-requires : tie.Need-kind-ok-requires
 kind-ok-requires c κs = search needs

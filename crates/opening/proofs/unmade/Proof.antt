@@ -1,6 +1,6 @@
 use borrow.Author.Needs.{needs}
-use Rattle.machine.proofs.unmade.Statement.{statement}
-use Rattle.machine.proofs.unmade.Tie as tie
+use Rattle.opening.proofs.unmade.Statement.{statement}
+use Rattle.opening.proofs.unmade.Tie as tie
 
 none-requires : tie.Need-none-requires
 none-requires c κs = search needs

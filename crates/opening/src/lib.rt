@@ -1,0 +1,133 @@
+// The calls that open something: fresh a bench, begin an operation. Fresh zeroes the store's first words once nothing is left to
+// refuse; a begin writes nothing.
+// Uses `model`, `stages`, `admission`, `limits`, `memory` and `state`. It is used by `queues`, `replies` and `listing`.
+ghost use mathlib.Core.Path.{_≡_};
+ghost use mathlib.Core.Bool.{true};
+ghost use mathlib.Core.List.{List};
+ghost use Prim.Native.Nat.{ℕ, _≤_, _<_};
+ghost use Rattle.model.specs.declared.Answer.the-variants.{Refused};
+ghost use Rattle.model.specs.Limits.{validOf};
+ghost use Rattle.model.specs.Calls.{noBench, lent, freshOf, begun, beginOf};
+ghost use Rattle.state.specs.Left.{left};
+ghost use Rattle.opening.specs.Begins.{BeginStops};
+use model::Answer;
+use model::Bench;
+use model::Line;
+use model::Operation;
+use model::Refusal;
+use model::Task;
+use state::Reply;
+
+// Whether a begin is refused, and why.
+pub enum Stop {
+    No,
+    Why { why: Refusal },
+}
+
+// A refused fresh makes no bench: its state is one that every call refuses.
+fn unmade(why: Refusal) -> Reply
+    ensures { λ r. ⌜ r ≡ record { bench = noBench; answer = Refused why } ⌝ }
+{
+    state::refused(state::none(), why)
+}
+
+pub fn fresh(kind: u32, width: u32, size: u32, crew: u32, store: &mut [u32]) -> Reply
+    ensures { λ r. ⌜ ((l : List ℕ) → left r (now (store .exit)) l ≡ freshOf kind width size crew (now (store .entry)) l) ⌝ }
+{
+    if !admission::kind_ok(kind) {
+        return unmade(Refusal::UnknownQueue);
+    }
+    if !admission::width_ok(width) {
+        return unmade(Refusal::TagWidth);
+    }
+    if !admission::is_size(size) {
+        return unmade(Refusal::ArraySize);
+    }
+    if !admission::crew_ok(crew) {
+        return unmade(Refusal::Crew);
+    }
+    let words = 2 * (size as usize);
+    if store.len() < words {
+        return unmade(Refusal::ShortStore);
+    }
+    memory::zero(store, 0, words);
+    Reply {
+        bench: state::made(admission::kind_of(kind), width, size, crew),
+        answer: Answer::Accepted,
+    }
+}
+
+// An accepted begin: a put uses the next number.
+fn accept(bench: Bench, worker: u32, operation: Operation) -> Reply
+    requires { ⌜ worker < 8 ⌝ }
+    requires { ⌜ bench .used ≤ 65535 ⌝ }
+    ensures { λ r. ⌜ ((m l : List ℕ) → left r m l ≡ begun (lent bench m l) worker operation) ⌝ }
+{
+    let i = worker as usize;
+    let used = bench.used;
+    match operation {
+        Operation::Put { payload } => {
+            let number = used + 1;
+            let task = Task {
+                number: number,
+                payload: payload,
+            };
+            Reply {
+                bench: state::opens(bench, i, number, Line::PutRead { task: task }),
+                answer: Answer::Numbered { number: number },
+            }
+        }
+        Operation::Take => Reply {
+            bench: state::opens(bench, i, used, Line::TakeRead),
+            answer: Answer::Accepted,
+        },
+        Operation::Steal => Reply {
+            bench: state::opens(bench, i, used, Line::StealRead),
+            answer: Answer::Accepted,
+        },
+    }
+}
+
+// begin's refusals past 12, in their order. A caller that knows the state to be within the limits may ask for them alone.
+pub fn begin_stop(bench: Bench, worker: u32, operation: Operation) -> Stop
+    requires { ⌜ bench .crew ≤ 8 ⌝ }
+    ensures { λ r. ⌜ ((m l : List ℕ) → validOf (lent bench m l) ≡ true → BeginStops (lent bench m l) worker operation r) ⌝ }
+{
+    if bench.crew <= worker {
+        return Stop::Why {
+            why: Refusal::NoSuchWorker,
+        };
+    }
+    if !admission::right_hand(worker, operation) {
+        return Stop::Why {
+            why: Refusal::WrongHand,
+        };
+    }
+    let i = worker as usize;
+    let own = bench.workers[i];
+    let line = own.line;
+    if !stages::is_idle(line) {
+        return Stop::Why {
+            why: Refusal::BusyWorker,
+        };
+    }
+    if !admission::numbers_left(operation, bench.used) {
+        return Stop::Why {
+            why: Refusal::NumbersSpent,
+        };
+    }
+    Stop::No
+}
+
+pub fn begin(bench: Bench, worker: u32, operation: Operation, store: &[u32], log: &[u32]) -> Reply
+    ensures { λ r. ⌜ left r (now (store .entry)) (now (log .entry)) ≡ beginOf (lent bench (now (store .entry)) (now (log .entry))) worker operation ⌝ }
+{
+    if !limits::valid(bench, store, log) {
+        return state::refused(bench, Refusal::ForeignState);
+    }
+    let stop = begin_stop(bench, worker, operation);
+    if let Stop::Why { why } = stop {
+        return state::refused(bench, why);
+    }
+    accept(bench, worker, operation)
+}
