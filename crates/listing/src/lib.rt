@@ -1,5 +1,5 @@
 // Lines of input played one after the other, and what they print, however the input is cut into buffers.
-// Uses `model`, `theorems`, `stages`, `lines`, `opening`, `machine`, `text` and `replies`. It is used by `bench`.
+// Uses `model`, `theorems`, `stages`, `lines`, `limits`, `state`, `opening`, `machine`, `text` and `replies`. It is used by `bench`.
 ghost use mathlib.Core.Path.{_≡_};
 ghost use Prim.Native.Nat.{_+_, _-_, _≤_, min};
 ghost use lib.ListN.{length, drop};
