@@ -1,5 +1,5 @@
 // What fresh and begin admit: the ranges of fresh's four numbers, who may begin what, and whether a put number is left.
-// Uses `model`. It is used by `limits` and `machine`.
+// Uses `model`. It is used by `limits` and `opening`.
 ghost use mathlib.Core.Path.{_≡_};
 ghost use lib.Dec.{ltb, leb};
 ghost use Rattle.model.specs.Tests.{_and_};

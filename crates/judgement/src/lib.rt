@@ -1,5 +1,5 @@
 // The judgement of a log that a running matcher wrote (specs/), the verdict's type, and the reading of words and of the entries' order.
-// Uses `model`. It is used by `puts`, `marks` and `judge`.
+// Uses `model`. It is used by `puts`, `marks`, `judge` and `accepted`.
 ghost use mathlib.Core.Path.{_≡_};
 ghost use Prim.Native.Nat.{_+_, _*_, _≤_, _<_};
 ghost use lib.ListN.{length, getD};

@@ -1,7 +1,7 @@
 // The state limits of refusal 12, as code of early returns: `valid` is true of exactly the states that
 // the definitions take for no foreign ones. A foreign state holds any 32-bit values, so each limit is
 // tested before a later test counts on it, and a sum of two free values is worked out in 64 bits.
-// Uses `model`, `stages`, `admission` and `ranges`. It is used by `machine` and `queues`.
+// Uses `model`, `stages`, `admission` and `ranges`. It is used by `opening` and `queues`, and by proofs of `machine` and `listing`.
 ghost use mathlib.Core.Path.{_≡_};
 ghost use mathlib.Core.Bool.{false};
 ghost use Prim.Native.Nat.{_+_, _≤_, _<_};

@@ -1,6 +1,6 @@
 // The caller's memory: a log entry and where it goes, the log's written front, a zeroed range of the store. Each is a definition's
 // short name, as code.
-// Uses `model`. It is used by `machine` and `queues`.
+// Uses `model`. It is used by `opening`, `machine` and `queues`.
 ghost use mathlib.Core.Path.{_≡_};
 ghost use Prim.Native.Nat.{_+_, _≤_};
 ghost use lib.Dec.{leb};

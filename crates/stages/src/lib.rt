@@ -1,5 +1,5 @@
 // Where a worker stands in its operation, and whether a line that it comes to counts as a restart.
-// Uses `model`. It is used by `limits`, `state`, `machine`, `queues` and `listing`.
+// Uses `model`. It is used by `limits`, `state`, `opening`, `machine`, `queues` and `listing`.
 ghost use mathlib.Core.Path.{_≡_};
 ghost use Rattle.model.specs.World.{stage, isIdle, isSteal1};
 ghost use Rattle.model.specs.Calls.{restarted};

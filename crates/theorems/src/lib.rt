@@ -1,2 +1,2 @@
 // No code: `specs/` says what is claimed of the model's definitions, `proofs/` proves it.
-// Uses `model`. It is used by `listing`.
+// Uses `model`. It is used by `listing` and `accepted`.
