@@ -15,7 +15,7 @@ use Rattle.model.specs.Counts.{someBelow}
 use Rattle.model.specs.Calls.{freshOf, beginOf, stepOf, frontOf, Call, begin, step}
 use Rattle.model.specs.Run.{after}
 use Rattle.model.specs.Window.{windowSize}
-use Rattle.theorems.proofs.Examples.{does, p1, bench}
+use Rattle.examples.proofs.Examples.{does, p1, bench}
 use Rattle.judgement.specs.Judgement.{allBelow, accepts}
 use Rattle.accepted.specs.Runs.{windowNumbers}
 

@@ -22,12 +22,12 @@ use Rattle.model.specs.Counts.{entryAt, taskAt, isKind, sameTask, someBelow, ou
 use Rattle.model.proofs.Tests.{and-both, or-cases, or-true}
 use Rattle.model.proofs.Below.{some-at}
 use Rattle.theorems.specs.Demand3.{At, Finishes, Belongs, HandsOut, Out, Stands, Demand3}
-use Rattle.theorems.specs.Order.{entries}
+use Rattle.order.specs.Order.{entries}
 use Rattle.theorems.proofs.Translate.{at-map}
-use Rattle.theorems.proofs.Entries.{kind-1, kind-2, place, place-rises, placed, entered, earlier, count, entries-long, entries-known, entries-inside}
-use Rattle.theorems.proofs.EndedPuts.{EndsPut, ended-puts-rise}
+use Rattle.order.proofs.Entries.{kind-1, kind-2, place, place-rises, placed, entered, earlier, count, entries-long, entries-known, entries-inside}
+use Rattle.order.proofs.EndedPuts.{EndsPut, ended-puts-rise}
 use Rattle.theorems.proofs.NothingLost.{demand3}
-use Rattle.theorems.proofs.LogFront.{log-is-answers, written-is}
+use Rattle.order.proofs.LogFront.{log-is-answers, written-is}
 use Rattle.judgement.specs.Judgement.{allBelow, known, numbered, rises, finishedAs, honest, listed, kept, accepts}
 use Rattle.judgement.proofs.All.{all-true}
 use Rattle.accepted.specs.Runs.{windowNumbers, RunsAccepted}

@@ -3,4 +3,3 @@ pub mod Corollaries
 pub mod Contracts
 pub mod Reached
 pub mod Restarts
-pub mod Order

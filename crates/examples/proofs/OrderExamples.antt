@@ -17,9 +17,9 @@ use Rattle.model.specs.Limits.{validOf}
 use Rattle.model.specs.Calls.{freshOf, beginOf, stepOf, frontOf, Call, begin, step}
 use Rattle.model.specs.Run.{played, after}
 use Rattle.model.specs.Counts.{entryAt, isKind, outFirst, someBelow}
-use Rattle.theorems.specs.Order.{InOrder, LogInOrder}
-use Rattle.theorems.proofs.LogFront.{log-is-answers}
-use Rattle.theorems.proofs.LogOrder.{log-in-order}
+use Rattle.order.specs.Order.{InOrder, LogInOrder}
+use Rattle.order.proofs.LogFront.{log-is-answers}
+use Rattle.order.proofs.LogOrder.{log-in-order}
 
 -- an operation of worker i, and n of its steps
 unfoldable pub does : ℕ → Operation → ℕ → List Call

@@ -15,9 +15,9 @@ use Rattle.model.specs.Tests.{if_then_else_}
 use Rattle.model.specs.Answers.{Entry, entryOf, ends}
 use Rattle.model.specs.Run.{Played}
 use Rattle.model.specs.Counts.{entryAt}
 use Rattle.theorems.specs.Demand3.{At}
-use Rattle.theorems.specs.Order.{wordsOf, entries}
+use Rattle.order.specs.Order.{wordsOf, entries}
 use Rattle.theorems.proofs.Remainders.{le-or-lt}
 
 -- AN ANSWER BY ITS ENTRY'S KIND. Kind 1 finishes a put, kind 2 hands out
 pub kind-1 : (a : Answer) → entryOf a .kind ≡ 1 → (i : ℕ) × (t : Task) × (a ≡ Finished i t)

@@ -14,17 +14,17 @@ use Rattle.model.specs.World.{World}
 use Rattle.model.specs.declared.Answer.the-variants.{Accepted}
 use Rattle.model.specs.Calls.{freshOf, kindOf, Call, callOf}
 use Rattle.model.specs.Run.{Played, played, after}
 use Rattle.theorems.specs.Demand3.{At, HandsOut}
-use Rattle.theorems.specs.Order.{Gives, First, InOrder, FifoInOrder, LogInOrder, FifoLogInOrder}
+use Rattle.order.specs.Order.{Gives, First, InOrder, FifoInOrder, LogInOrder, FifoLogInOrder}
 use Rattle.theorems.proofs.Events.{Event, quiet, line-1, finished-put, handed-out, failed-compare, found-empty, began-put, found-full, History, Premise, PremiseAt, GoodHistory}
 use Rattle.theorems.proofs.Window.{View}
 use Rattle.theorems.proofs.Order.{Given, InTurn, Rises, Order}
 use Rattle.theorems.proofs.Places.{EventAt, rev, said-rev, mem-rev, at-mem}
 use Rattle.theorems.proofs.SoundRun.{event-at, events, InvOf, run-kept, call-like}
 use Rattle.theorems.proofs.Fresh.{Started, fresh-started, fresh-is}
-use Rattle.theorems.proofs.LogFront.{log-is-answers}
-use Rattle.theorems.proofs.LogOrder.{log-in-order}
+use Rattle.order.proofs.LogFront.{log-is-answers}
+use Rattle.order.proofs.LogOrder.{log-in-order}
 use Rattle.theorems.proofs.Translate.{at-map, from-ev, out-ev, ev-out}
 
 -- FIFO has no premise
 no-premise-at : (w : ℕ) (h : History) (e : Event) → PremiseAt Fifo w e h

@@ -11,10 +11,10 @@ use Rattle.model.specs.Run.{Played}
 use Rattle.model.specs.Counts.{entryAt, outAs, outFirst, someBelow}
 use Rattle.model.proofs.Tests.{and-left, and-right, and-both}
 use Rattle.model.proofs.Below.{some-at}
 use Rattle.theorems.specs.Demand3.{At}
-use Rattle.theorems.specs.Order.{Gives, First, InOrder, entries, LogInOrder}
+use Rattle.order.specs.Order.{Gives, First, InOrder, entries, LogInOrder}
 use Rattle.theorems.proofs.Translate.{at-map}
-use Rattle.theorems.proofs.Entries.{kind-2, place, place-rises, placed, earlier}
+use Rattle.order.proofs.Entries.{kind-2, place, place-rises, placed, earlier}
 
 -- the first entry of a put number has the place of its first hand-out
 first : (T : List Played) (j : ℕ) → outFirst (entries T) j ≡ true → First T (place T j) (entryAt (entries T) j .number)

@@ -27,14 +27,14 @@ use Rattle.model.specs.Memory.{zeros}
 use Rattle.model.specs.Run.{Played, played, after}
 use Rattle.model.specs.Figures.{anchor}
 use Rattle.model.specs.Window.{tasks}
 use Rattle.theorems.specs.Demand3.{At, Begins, Finishes, Line1, Compares, Attempt, puts, between, Stands}
-use Rattle.theorems.specs.Corollaries.{Loses, Tight}
+use Rattle.premise.specs.Premise.{Loses, Tight}
 use Rattle.theorems.proofs.Valid.{Whole}
 use Rattle.theorems.proofs.WholeRun.{entry-length, whole-run}
 use Rattle.theorems.proofs.Fresh.{start, fresh-whole}
 use Rattle.theorems.proofs.Translate.{at-map}
-use Rattle.theorems.proofs.Rounds.{Tagged, lifo, deque, theKind, h2, h2Steps, h2Answers, Past, rawOf, raw-is, rawAfter, rawAnswers, answers, after-raw, answers-raw, after-append, answers-append, here, putting, taking, stealing, fiveSteps, putAnswers, takeAnswers, put-run, put-says, take-run, take-says, steal-run, steal-says, StealPast, steal-past, win-run}
-use Rattle.theorems.proofs.TightList.{played1, at-split, at-unsplit, at-answer, total, total-is, total-append, answers-drop, answers-take, AllUnder, under-append, under-not, script, firstAnswers, h2-length, h2-total, h2-under, past-not, waits-not, rounds-length, script-length, script-total, script-under, rounds, first, tightList}
+use Rattle.premise.proofs.Rounds.{Tagged, lifo, deque, theKind, h2, h2Steps, h2Answers, Past, rawOf, raw-is, rawAfter, rawAnswers, answers, after-raw, answers-raw, after-append, answers-append, here, putting, taking, stealing, fiveSteps, putAnswers, takeAnswers, put-run, put-says, take-run, take-says, steal-run, steal-says, StealPast, steal-past, win-run}
+use Rattle.premise.proofs.TightList.{played1, at-split, at-unsplit, at-answer, total, total-is, total-append, answers-drop, answers-take, AllUnder, under-append, under-not, script, firstAnswers, h2-length, h2-total, h2-under, past-not, waits-not, rounds-length, script-length, script-total, script-under, rounds, first, tightList}
 
 -- there is room for an entry
 has-room : (l : List ℕ) (n : ℕ) → n + 4 ≤ length l → n + 4 ≤ 4294967295 → logFull l n ≡ false

@@ -25,10 +25,10 @@ use Rattle.model.specs.Limits.{validOf}
 use Rattle.model.specs.Calls.{freshOf, beginOf, stepOf, Call, begin, step}
 use Rattle.model.specs.Run.{Played, played, after}
 use Rattle.model.specs.Window.{windowSize}
 use Rattle.theorems.specs.Demand3.{At, Begins, Line1, Attempt, Out, AllOut, Stands, between, FewPuts, Demand3}
-use Rattle.theorems.specs.Corollaries.{Loses}
+use Rattle.premise.specs.Premise.{Loses}
 use Rattle.theorems.proofs.Events.{is-line-1}
 use Rattle.theorems.proofs.Remainders.{le-or-lt}
 
 -- TESTS over places. A task is handed out nowhere
 isOut : Task → Answer → Bool

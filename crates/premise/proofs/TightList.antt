@@ -11,9 +11,9 @@ use Rattle.model.specs.declared.Task.{Task}
 use Rattle.model.specs.World.{World}
 use Rattle.model.specs.Calls.{Call, begin, step, callOf}
 use Rattle.model.specs.Run.{Played, played, after}
 use Rattle.theorems.specs.Demand3.{At, HandsOut, Line1, finishes, puts}
 use Rattle.theorems.proofs.Translate.{at-map}
-use Rattle.theorems.proofs.Rounds.{answers, Tagged, lifo, deque, putting, taking, h2Steps, stealing, putAnswers, takeAnswers, h2Answers, stealAnswers, Past}
+use Rattle.premise.proofs.Rounds.{answers, Tagged, lifo, deque, putting, taking, h2Steps, stealing, putAnswers, takeAnswers, h2Answers, stealAnswers, Past}
 
 -- places in a list of calls, and of answers
 abbrev pub played1 : World → Call → Played

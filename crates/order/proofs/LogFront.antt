@@ -18,11 +18,11 @@ use Rattle.model.specs.World.{World, Outcome}
 use Rattle.model.specs.Calls.{beginAnswer, logFull, frontOf, kindOf, Call, callOf, nextEffect}
 use Rattle.model.specs.Run.{played, after}
 use Rattle.model.proofs.Tests.{or-false}
 use Rattle.theorems.specs.Demand3.{FromFresh}
-use Rattle.theorems.specs.Order.{wordsOf, entries, LogIsAnswers}
+use Rattle.order.specs.Order.{wordsOf, entries, LogIsAnswers}
 use Rattle.theorems.proofs.Cases.{call-cases}
 use Rattle.theorems.proofs.WholeRun.{whole-run}
 use Rattle.theorems.proofs.Fresh.{start, fresh-is, fresh-started}
 
 -- a word written right behind a front makes the front one word longer; so the four words of an entry make it four longer
 take-next : (l : List ℕ) (n m x : ℕ) → m ≡ suc n → n < length l → take m (set l n x) ≡ take n l ++ (x ∷ [])

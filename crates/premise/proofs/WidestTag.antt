@@ -10,13 +10,13 @@ use Rattle.model.specs.declared.Line.{Line}
 use Rattle.model.specs.World.{World}
 use Rattle.model.specs.Calls.{freshOf, Call, callOf}
 use Rattle.model.specs.Run.{Played, played, after}
 use Rattle.theorems.specs.Demand3.{puts, Few, FewPuts}
-use Rattle.theorems.specs.Corollaries.{WidestTag}
+use Rattle.premise.specs.Premise.{WidestTag}
 use Rattle.theorems.proofs.Valid.{Whole}
 use Rattle.theorems.proofs.WholeRun.{call-whole, whole-run}
 use Rattle.theorems.proofs.Fresh.{Started, fresh-started}
-use Rattle.theorems.proofs.EndedPuts.{openPut, next, OpenUsed, call-moves, next-rises, started-open}
+use Rattle.order.proofs.EndedPuts.{openPut, next, OpenUsed, call-moves, next-rises, started-open}
 use Rattle.theorems.proofs.NothingLost.{demand3}
 
 -- a list finishes no more puts than it uses numbers
 run-count : (cs : List Call) (U : World) → Whole U → OpenUsed U → puts (played U cs) + next U ≤ suc (after U cs .bench .used)

@@ -1,0 +1,5 @@
+pub mod EndedPuts
+pub mod LogFront
+pub mod Entries
+pub mod LogOrder
+pub mod FifoOrder

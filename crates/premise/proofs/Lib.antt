@@ -1,0 +1,4 @@
+pub mod WidestTag
+pub mod Rounds
+pub mod TightList
+pub mod Tight
