@@ -69,7 +69,7 @@ use Rattle.model.specs.Limits.{
 }
 use Rattle.figures.specs.Bounds.{Ordered}
 use Rattle.slots.specs.Bounds.{Inside}
-use Rattle.lines.specs.Act.{Ground, Ready, Range, Lies, Free}
+use Rattle.lines.specs.Deeds.{Ground, Ready, Range, Lies, Free}
 use Rattle.model.proofs.Tests.{and-left, and-right, if-true}
 use Rattle.lines.proofs.Directory.{Laid, Arrays, arrays-of}
 
@@ -281,14 +281,16 @@ module _ (W : World) (v : validOf W ≡ true) where
   arrayed = arrays-of (W .bench .queue) (W .store) (lineAt (W .bench .workers) 0) (limits-of W v .directory)
 
   -- what every line needs
+  pub narrow-of-valid : W .bench .width ≤ 16
+  narrow-of-valid = leb-true _ _ (and-right _ _ (limits-of W v .width))
+
   pub ground-of-valid : length (W .bench .queue .arrays) ≡ 11
-      → Ground (W .bench .width) (W .bench .queue) (length (W .store))
+      → Ground (W .bench .queue) (length (W .store))
   ground-of-valid e =
       let b = W .bench in
       let h = here (b .kind) (b .width) (b .queue) (length (W .store)) (lineAt (b .workers) 0) arrayed in
       let r = in-range (b .kind) (size (b .queue)) (b .queue .anchor) (h .small) anchored in
       record {
-        narrow = leb-true _ _ (and-right _ _ (limits-of W v .width));
         some = arrayed .some;
         listed = omega (arith, arrayed .behind, arrayed .listed);
         eleven = e;

@@ -6,6 +6,7 @@ use mathlib.Core.Bool.{Bool, true, false}
 use mathlib.Core.List.{List}
 use lib.ListN.{length, take, drop, set}
 use Rattle.model.specs.declared.Line.{Line}
+use Rattle.model.specs.declared.Queue.{Queue}
 use Rattle.model.specs.declared.Bench.{Bench}
 use Rattle.model.specs.declared.Refusal.{Refusal}
 use Rattle.model.specs.declared.Command.{Command}
@@ -13,16 +14,17 @@ use Rattle.model.specs.declared.Command.the-variants.{Open, BeginPut, BeginTake
 use Rattle.model.specs.declared.Answer.{Answer}
 use Rattle.model.specs.declared.Answer.the-variants.{GoesOn, Refused}
 use Rattle.model.specs.Tests.{if_then_else_}
-use Rattle.model.specs.World.{World, Outcome}
+use Rattle.model.specs.World.{World, Outcome, lineAt}
+use Rattle.model.specs.Lines.{lineStep}
 use Rattle.model.specs.Limits.{validOf}
-use Rattle.model.specs.Lines.{eff}
-use Rattle.model.specs.Calls.{lent, restarted, step, commit, stepOf}
+use Rattle.model.specs.Calls.{lent, step, commit, nextEffect, stepOf}
 use Rattle.model.specs.Listing.{Program, playing, printed, respond, stepsOf, Reply}
 use Rattle.theorems.specs.Reached.{Reached}
 use Rattle.theorems.proofs.Reached.{reached-call, reached-valid}
-use Rattle.opening.specs.declared.Stop.the-variants.{Why}
-use Rattle.machine.specs.declared.Decision.{Decision}
-use Rattle.machine.specs.Decisions.{DecisionOf}
+use Rattle.state.specs.declared.Stop.the-variants.{Why}
+use Rattle.lines.specs.declared.Deed.{Deed}
+use Rattle.lines.specs.Deeds.{enact, InStore}
+use Rattle.machine.proofs.Commits as commits
 use Rattle.limits.proofs.Bounds.{bounds-of}
 use Rattle.text.specs.Numbers.{Placed}
 use Rattle.text.specs.Commands.{commandOf}
@@ -33,6 +35,7 @@ use Rattle.replies.specs.Shown.{shownAll}
 use Rattle.listing.specs.Listing.{front}
 use Rattle.replies.specs.Sessions.{worldOf, programOf, leftBy, PlayedBy}
 use Rattle.replies.specs.Choices.{askedOf, RefusedAtOnce}
+use Rattle.listing.specs.declared.Fed.{Fed}
 use Rattle.listing.specs.Feeding.{Reachable, FedBy}
 use Rattle.replies.proofs.Fronts.{lent-front}
 use Rattle.replies.proofs.Ways.{never}
@@ -132,9 +135,26 @@ crew-of s m l r v = bounds-of (worldOf s m l) (valid-of s m l r v) .crew
 pub valid-front : (b : Bench) (w n : ℕ) (m l : List ℕ) → n ≡ min w (length m) → Reached (lent b (take w m) l) → validOf (lent b (take n m) l) ≡ true
 valid-front b w n m l e r = subst (λ (x : List ℕ). validOf (lent b x l) ≡ true) (sym (lent-front w n m e)) (reached-valid r)
 
--- a decision on the words that were lent
-pub decision-front : (b : Bench) (w n : ℕ) (m l : List ℕ) (i : ℕ) (t : Decision) → n ≡ min w (length m) → DecisionOf (lent b (take n m) l) i t → DecisionOf (lent b (take w m) l) i t
-decision-front b w n m l i t e h = subst (λ (x : List ℕ). DecisionOf (lent b x l) i t) (lent-front w n m e) h
+-- a step on the words that were lent: worker i, at the line y, comes to the line x by the deed d
+pub made-front : (b : Bench) (w n : ℕ) (m l : List ℕ) (i : ℕ) (x y : Line) (d : Deed) → n ≡ min w (length m) → y ≡ lineAt (b .workers) i
+    → ((v j : ℕ) → x ≡ lineStep (b .kind) v (b .queue) (take n m) j y .line)
+    → enact (b .queue) (take n m) (lineStep (b .kind) (b .width) (b .queue) (take n m) i y .line) d ≡ lineStep (b .kind) (b .width) (b .queue) (take n m) i y
+    → stepOf (lent b (take w m) l) i ≡ commit (lent b (take w m) l) i (nextEffect (lent b (take w m) l) i)
+    → stepOf (lent b (take w m) l) i ≡ commit (lent b (take w m) l) i (enact (b .queue) (take w m) x d)
+made-front b w n m l i x y d e f g h o =
+    let s = lent-front w n m e in
+    commits.steps-by (lent b (take w m) l) i x y d f
+    (subst (λ (z : List ℕ). (v j : ℕ) → x ≡ lineStep (b .kind) v (b .queue) z j y .line) s g)
+    (subst (λ (z : List ℕ). enact (b .queue) z (lineStep (b .kind) (b .width) (b .queue) z i y .line) d ≡ lineStep (b .kind) (b .width) (b .queue) z i y) s h)
+    o
+
+-- and its deed can be done there
+pub in-front : (q : Queue) (w n : ℕ) (m : List ℕ) (d : Deed) → n ≡ min w (length m) → InStore q (length (take n m)) d → InStore q (length (take w m)) d
+in-front q w n m d e h = subst (λ (z : List ℕ). InStore q (length z) d) (lent-front w n m e) h
+
+-- what feeding leaves, under another name
+pub fed-is : (P : Program) (buf m l out : List ℕ) {f g : Fed} → f ≡ g → FedBy P buf g m l out → Reachable (leftBy (g .stops) (g .session) m l) → FedBy P buf f m l out × Reachable (leftBy (f .stops) (f .session) m l)
+fed-is P buf m l out e h r = (subst (λ (x : Fed). FedBy P buf x m l out) (sym e) h, subst (λ (x : Fed). Reachable (leftBy (x .stops) (x .session) m l)) (sym e) r)
 
 -- a step leads on to what is reached
 pub reached-step : (W X : World) (i : ℕ) (a : Answer) → record { world = X; answer = a } ≡ stepOf W i → Reached W → Reached X

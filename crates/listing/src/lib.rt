@@ -6,14 +6,14 @@ ghost use lib.ListN.{length, drop};
 ghost use Rattle.replies.specs.Sessions.{programOf, leftBy};
 ghost use Rattle.listing.specs.Listing.{front};
 ghost use Rattle.listing.specs.Feeding.{Reachable, FedBy, CarriedBy};
-use lines::Act;
-use machine::Decision;
+use lines::Deed;
 use model::Answer;
+use model::Bench;
 use model::Worker;
-use opening::Stop;
 use replies::Asked;
 use replies::Judged;
 use replies::Session;
+use state::Stop;
 
 // What feeding a buffer left: the session, how many bytes were played and how many written, whether an accepted `end` was among
 // them, and whether feeding stopped because the output has no room for another line's text.
@@ -23,6 +23,30 @@ pub struct Fed {
     pub wrote: usize,
     pub stops: bool,
     pub full: bool,
+}
+
+fn left_at(
+    live: bool,
+    words: u32,
+    bench: Bench,
+    used: usize,
+    wrote: usize,
+    stops: bool,
+    full: bool,
+) -> Fed
+    ensures { λ r.
+        ⌜
+        r ≡ record { session = record { live = live; words = words; bench = bench }; used = used; wrote = wrote; stops = stops; full = full }
+        ⌝ }
+{
+    let session = Session { live, words, bench };
+    Fed {
+        session,
+        used,
+        wrote,
+        stops,
+        full,
+    }
 }
 
 // Where the line that starts at `at` ends: at a newline byte or at the buffer's end.
@@ -60,23 +84,11 @@ pub fn feed(session: Session, buf: &[u8], store: &mut [u32], log: &mut [u32], ou
     let most = out.len();
     'lines: while used < buf.len() {
         if most - wrote < 72 {
-            return Fed {
-                session: Session { live, words, bench },
-                used,
-                wrote,
-                stops: false,
-                full: true,
-            };
+            return left_at(live, words, bench, used, wrote, false, true);
         }
         let end = line_end(buf, used);
         if end == buf.len() {
-            return Fed {
-                session: Session { live, words, bench },
-                used,
-                wrote,
-                stops: false,
-                full: false,
-            };
+            return left_at(live, words, bench, used, wrote, false, false);
         }
         let command = text::parse(&buf[used..end]);
         used = end + 1;
@@ -102,13 +114,7 @@ pub fn feed(session: Session, buf: &[u8], store: &mut [u32], log: &mut [u32], ou
             bench = after.bench;
             wrote = p.end;
             if p.stops {
-                return Fed {
-                    session: after,
-                    used,
-                    wrote,
-                    stops: true,
-                    full: false,
-                };
+                return left_at(live, words, bench, used, wrote, true, false);
             }
             continue;
         };
@@ -118,14 +124,18 @@ pub fn feed(session: Session, buf: &[u8], store: &mut [u32], log: &mut [u32], ou
         while 0 < left {
             let own = bench.workers[i];
             let line = own.line;
-            let decision = machine::decide(bench, worker, line, &store[..n], log);
-            let Decision::Acts { act } = decision else {
-                let answer = replies::refusal_of(decision);
+            let stop = machine::step_stop(bench, worker, line);
+            let Stop::No = stop else {
+                let answer = replies::refusal_of(stop);
                 wrote = replies::show(answer, out, wrote);
                 continue 'lines;
             };
-            let Act::Goes { line: next } = act else {
-                let done = replies::do_act(words, bench, worker, act, store, log);
+            let kind = bench.kind;
+            let queue = bench.queue;
+            let next = lines::next_line(kind, queue, &store[..n], line);
+            let deed = lines::decide(kind, bench.width, queue, &store[..n], worker, line);
+            let Deed::Nothing = deed else {
+                let done = replies::do_deed(words, bench, worker, next, deed, store, log);
                 let answer = done.answer;
                 bench = done.bench;
                 wrote = replies::show(answer, out, wrote);
@@ -140,13 +150,7 @@ pub fn feed(session: Session, buf: &[u8], store: &mut [u32], log: &mut [u32], ou
             left -= 1;
         }
     }
-    Fed {
-        session: Session { live, words, bench },
-        used,
-        wrote,
-        stops: false,
-        full: false,
-    }
+    left_at(live, words, bench, used, wrote, false, false)
 }
 
 fn least(a: usize, b: usize) -> usize

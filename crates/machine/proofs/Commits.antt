@@ -1,14 +1,13 @@
 -- What committing a line's effect comes to, by how the line goes.
 use mathlib.Core.Bool.{Bool, true, false, not}
 use mathlib.Core.List.{List}
-use mathlib.Core.Path.{_≡_, refl, sym, _∙_}
+use mathlib.Core.Path.{_≡_, refl, sym, ap, _∙_}
 use Prim.Native.Nat.{ℕ, _+_, _≤_}
 use native.Mathlib.Omega.{arith}
 use lib.Dec.{leb}
 use lib.ListN.{length, set}
 use borrow.Author.Tests.{leb-true, leb-false, lt-ltb, le-ltb}
 use Rattle.model.specs.declared.Line.{Line}
-use Rattle.model.specs.declared.Line.the-variants.{Idle}
 use Rattle.model.specs.declared.Queue.{Queue}
 use Rattle.model.specs.declared.Bench.{Bench}
 use Rattle.model.specs.declared.Refusal.the-variants.{LogFull}
@@ -16,9 +15,12 @@ use Rattle.model.specs.declared.Answer.{Answer}
 use Rattle.model.specs.declared.Answer.the-variants.{GoesOn}
 use Rattle.model.specs.Tests.{if_then_else_, _and_, _or_}
 use Rattle.model.specs.Answers.{ends, entryOf, writeEntry}
-use Rattle.model.specs.Lines.{eff}
-use Rattle.model.specs.World.{Outcome, refuse}
-use Rattle.model.specs.Calls.{lent, restarted, logFull, commit, stepOf}
+use Rattle.model.specs.Lines.{eff, lineStep}
+use Rattle.model.specs.World.{World, Outcome, refuse, lineAt}
+use Rattle.model.specs.Calls.{lent, restarted, logFull, commit, nextEffect, stepOf}
+use Rattle.lines.specs.declared.Deed.{Deed}
+use Rattle.lines.specs.declared.Deed.the-variants.{Nothing}
+use Rattle.lines.specs.Deeds.{queueBy, storeBy, answerBy, enact}
 use Rattle.state.specs.Pieces.{moved}
 
 -- the code asks whether an entry fits, the definition whether it does not
@@ -40,27 +42,40 @@ module _ (b : Bench) (i : ℕ) (q : Queue) (m l : List ℕ) where
   unfolding if_then_else_ _and_
   goes-on m2 x = refl
 
-  module _ (a : Answer) where
-    -- it stops with an answer that has no entry
-    pub no-entry : ends a ≡ false → commit (lent b m l) i (eff q m Idle a) ≡ after m l Idle (b .written) a
+  module _ (m2 : List ℕ) (x : Line) (a : Answer) where
+    -- it answers what has no entry
+    pub no-entry : ends a ≡ false → commit (lent b m l) i (eff q m2 x a) ≡ after m2 l x (b .written) a
     unfolding if_then_else_ _and_
     no-entry e = rw e
 
     -- the log has no room for the entry
     pub no-room : ends a ≡ true → logFull l (b .written) ≡ true
-        → commit (lent b m l) i (eff q m Idle a) ≡ refuse (lent b m l) LogFull
+        → commit (lent b m l) i (eff q m2 x a) ≡ refuse (lent b m l) LogFull
     unfolding if_then_else_ _and_
     no-room e f = rw (e, f)
 
     -- the entry is logged
     pub logs : ends a ≡ true → logFull l (b .written) ≡ false
-        → commit (lent b m l) i (eff q m Idle a)
-        ≡ after m (writeEntry l (b .written) (entryOf a)) Idle (b .written + 4) a
+        → commit (lent b m l) i (eff q m2 x a)
+        ≡ after m2 (writeEntry l (b .written) (entryOf a)) x (b .written + 4) a
     unfolding if_then_else_ _and_
     logs e f = rw (e, f)
 
--- a step that goes on, made in place: worker i's record, at place k, and the restarts
-pub goes-by : (b : Bench) (i k n : ℕ) (x : Line) (m l : List ℕ) → k ≡ i → n ≡ restarted (b .restarts) x → stepOf (lent b m l) i ≡ commit (lent b m l) i (eff (b .queue) m x GoesOn) →
+-- worker i, at the line y, comes to the line x by the deed d: that is its step
+pub steps-by : (W : World) (i : ℕ) (x y : Line) (d : Deed) → y ≡ lineAt (W .bench .workers) i
+    → ((w j : ℕ) → x ≡ lineStep (W .bench .kind) w (W .bench .queue) (W .store) j y .line)
+    → enact (W .bench .queue) (W .store) (lineStep (W .bench .kind) (W .bench .width) (W .bench .queue) (W .store) i y .line) d
+    ≡ lineStep (W .bench .kind) (W .bench .width) (W .bench .queue) (W .store) i y
+    → stepOf W i ≡ commit W i (nextEffect W i) → stepOf W i ≡ commit W i (enact (W .bench .queue) (W .store) x d)
+steps-by W i x y d e f g h =
+    h
+    ∙ ap (commit W i)
+    (ap (lineStep (W .bench .kind) (W .bench .width) (W .bench .queue) (W .store) i) (sym e)
+    ∙ sym (ap (λ (l : Line). enact (W .bench .queue) (W .store) l d) (f (W .bench .width) i) ∙ g))
+
+-- a step whose deed is nothing, made in place: worker i's record, at place k, and the restarts
+pub goes-by : (b : Bench) (i k n : ℕ) (x : Line) (d : Deed) (m l : List ℕ) → k ≡ i → n ≡ restarted (b .restarts) x → d ≡ Nothing
+    → stepOf (lent b m l) i ≡ commit (lent b m l) i (enact (b .queue) m x d) →
     record {
       world =
           lent
@@ -77,4 +92,6 @@ pub goes-by : (b : Bench) (i k n : ℕ) (x : Line) (m l : List ℕ) → k ≡ i 
           m l;
       answer = GoesOn;
     } ≡ stepOf (lent b m l) i
-goes-by b i k n x m l e f h = rw (e, f) (sym (h ∙ goes-on b i (b .queue) m l m x))
+unfolding queueBy storeBy answerBy
+goes-by b i k n x d m l e f z h =
+    rw (e, f) (sym (h ∙ ap (λ (y : Deed). commit (lent b m l) i (enact (b .queue) m x y)) z ∙ goes-on b i (b .queue) m l m x))

@@ -1,2 +1,2 @@
 pub mod Commits
-pub mod Acts
+pub mod Deeds

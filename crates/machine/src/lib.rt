@@ -1,23 +1,20 @@
-// A step's two halves: deciding what it does (decide), and doing it (apply). It writes only once the whole outcome of the step is
-// known.
+// A step, but for the line itself: whether it is refused before (step_stop), and doing the line's deed (apply), which writes only
+// once the whole outcome of the step is known.
 // Uses `model`, `stages`, `lines`, `limits`, `memory` and `state`. It is used by `queues`, `replies` and `listing`.
 ghost use mathlib.Core.Path.{_≡_};
 ghost use mathlib.Core.Bool.{true};
 ghost use mathlib.Core.List.{List};
 ghost use Prim.Native.Nat.{ℕ, _≤_, _<_};
 ghost use lib.ListN.{length};
-ghost use Rattle.model.specs.declared.Line.the-variants.{Idle};
-ghost use Rattle.model.specs.declared.Answer.the-variants.{GoesOn};
+ghost use Rattle.model.specs.Answers.{ends};
 ghost use Rattle.model.specs.Lines.{eff};
 ghost use Rattle.model.specs.World.{lineAt};
 ghost use Rattle.model.specs.Limits.{validOf};
 ghost use Rattle.model.specs.Calls.{lent, commit};
-ghost use Rattle.lines.specs.Act.{withArray, changedQueue, changedStore, Fits, enact, InStore};
+ghost use Rattle.lines.specs.Deeds.{withArray, queueBy, storeBy, answerBy, enact, InStore};
 ghost use Rattle.state.specs.Left.{left};
-ghost use Rattle.state.specs.Pieces.{moved};
-ghost use Rattle.machine.specs.Decisions.{DecisionOf};
-use lines::Act;
-use lines::Change;
+ghost use Rattle.machine.specs.Steps.{StepStops};
+use lines::Deed;
 use model::Answer;
 use model::Bench;
 use model::Line;
@@ -25,12 +22,7 @@ use model::Queue;
 use model::Refusal;
 use model::Region;
 use state::Reply;
-
-// What a step does: it is refused, or its line is done, which may still find the log full.
-pub enum Decision {
-    Refused { why: Refusal },
-    Acts { act: Act },
-}
+use state::Stop;
 
 // X1: a pair behind the published ones.
 fn with_array(queue: Queue, offset: u32, length: u32) -> Queue
@@ -48,29 +40,29 @@ fn with_array(queue: Queue, offset: u32, length: u32) -> Queue
     next
 }
 
-// The operation goes on at `line`.
-fn goes_on(bench: Bench, worker: u32, queue: Queue, line: Line) -> Reply
+// The step that left the worker at `line` and answers `answer`: an answer that ends the operation logs its entry, and is refused
+// where the log has no room for it.
+fn committed(
+    bench: Bench,
+    worker: u32,
+    queue: Queue,
+    line: Line,
+    answer: Answer,
+    log: &mut [u32],
+) -> Reply
     requires { ⌜ worker < 8 ⌝ }
-    ensures { λ r. ⌜ r ≡ record { bench = moved bench worker queue line (bench .written); answer = GoesOn } ⌝ }
-{
-    let i = worker as usize;
-    Reply {
-        bench: state::moves(bench, i, queue, line, bench.written),
-        answer: Answer::GoesOn,
-    }
-}
-
-// The operation ends: an answer that has an entry logs it.
-fn ends(bench: Bench, worker: u32, queue: Queue, answer: Answer, log: &mut [u32]) -> Reply
-    requires { ⌜ worker < 8 ⌝ }
-    ensures { λ r. ⌜ ((m : List ℕ) → left r m (now (log .exit)) ≡ commit (lent bench m (now (log .entry))) worker (eff queue m Idle answer)) ⌝ }
+    ensures { λ r.
+        ⌜
+        ((m n : List ℕ) → (ends answer ≡ true → n ≡ m)
+        → left r n (now (log .exit)) ≡ commit (lent bench m (now (log .entry))) worker (eff queue n line answer))
+        ⌝ }
 {
     let i = worker as usize;
     let written = bench.written;
     let entry = memory::entry_of(answer);
     if entry.kind == 0 {
         return Reply {
-            bench: state::moves(bench, i, queue, Line::Idle, written),
+            bench: state::moves(bench, i, queue, line, written),
             answer: answer,
         };
     }
@@ -80,60 +72,76 @@ fn ends(bench: Bench, worker: u32, queue: Queue, answer: Answer, log: &mut [u32]
     let at = written as usize;
     memory::write_entry(log, at, entry);
     Reply {
-        bench: state::moves(bench, i, queue, Line::Idle, written + 4),
+        bench: state::moves(bench, i, queue, line, written + 4),
         answer: answer,
     }
 }
 
-// Makes a line's change to the store, and answers the queue that it leaves.
-fn changed(queue: Queue, change: Change, store: &mut [u32]) -> Queue
+// What a deed writes to the store; and the queue that it leaves.
+fn changed(queue: Queue, deed: Deed, store: &mut [u32]) -> Queue
     requires { ⌜ queue .published ≤ 11 ⌝ }
-    requires { ⌜ Fits queue (length (now store)) change ⌝ }
-    ensures { λ r. ⌜ r ≡ changedQueue queue change ⌝ }
-    ensures { λ r. ⌜ now (store .exit) ≡ changedStore (now (store .entry)) change ⌝ }
+    requires { ⌜ InStore queue (length (now store)) deed ⌝ }
+    ensures { λ r. ⌜ r ≡ queueBy queue deed ⌝ }
+    ensures { λ r. ⌜ now (store .exit) ≡ storeBy (now (store .entry)) deed ⌝ }
 {
-    match change {
-        Change::Word { place, value } => {
+    match deed {
+        Deed::Nothing => queue,
+        Deed::Word { place, value } => {
             store[place] = value;
             queue
         }
-        Change::Copies { place, task } => {
+        Deed::Copies { place, task } => {
             let next = place + 1;
             store[place] = task.number;
             store[next] = task.payload;
             queue
         }
-        Change::Claims { offset, length } => {
+        Deed::Claims { offset, length } => {
             memory::zero(store, offset as usize, length as usize);
             with_array(queue, offset, length)
         }
-        Change::Publishes => state::publish(queue),
+        Deed::Publishes => state::publish(queue),
+        Deed::Stops { answer: _ } => queue,
+        Deed::Ends { anchor, answer: _ } => state::with_anchor(queue, anchor),
     }
 }
 
-// Does what a line decided.
-pub fn apply(bench: Bench, worker: u32, act: Act, store: &mut [u32], log: &mut [u32]) -> Reply
+// What the step of a deed answers.
+fn answer_of(deed: Deed) -> Answer
+    ensures { λ r. ⌜ r ≡ answerBy deed ⌝ }
+{
+    match deed {
+        Deed::Nothing => Answer::GoesOn,
+        Deed::Word { place: _, value: _ } => Answer::GoesOn,
+        Deed::Copies { place: _, task: _ } => Answer::GoesOn,
+        Deed::Claims {
+            offset: _,
+            length: _,
+        } => Answer::GoesOn,
+        Deed::Publishes => Answer::GoesOn,
+        Deed::Stops { answer } => answer,
+        Deed::Ends { anchor: _, answer } => answer,
+    }
+}
+
+// Does a deed; its worker comes to `line`.
+pub fn apply(
+    bench: Bench,
+    worker: u32,
+    line: Line,
+    deed: Deed,
+    store: &mut [u32],
+    log: &mut [u32],
+) -> Reply
     requires { ⌜ worker < 8 ⌝ }
     requires { ⌜ bench .queue .published ≤ 11 ⌝ }
-    requires { ⌜ InStore (bench .queue) (length (now store)) act ⌝ }
-    ensures { λ r. ⌜ left r (now (store .exit)) (now (log .exit)) ≡ commit (lent bench (now (store .entry)) (now (log .entry))) worker (enact (bench .queue) (now (store .entry)) act) ⌝ }
+    requires { ⌜ InStore (bench .queue) (length (now store)) deed ⌝ }
+    ensures { λ r. ⌜ left r (now (store .exit)) (now (log .exit)) ≡ commit (lent bench (now (store .entry)) (now (log .entry))) worker (enact (bench .queue) (now (store .entry)) line deed) ⌝ }
 {
     let queue = bench.queue;
-    match act {
-        Act::Goes { line } => goes_on(bench, worker, queue, line),
-        Act::Changes { change, line } => {
-            let next = changed(queue, change, store);
-            goes_on(bench, worker, next, line)
-        }
-        Act::Stops { answer } => ends(bench, worker, queue, answer, log),
-        Act::Ends { anchor, answer } => ends(
-            bench,
-            worker,
-            state::with_anchor(queue, anchor),
-            answer,
-            log,
-        ),
-    }
+    let next = changed(queue, deed, store);
+    let answer = answer_of(deed);
+    committed(bench, worker, next, line, answer, log)
 }
 
 // A worker's place among the eight records; of a number that no worker has, the last.
@@ -146,25 +154,25 @@ pub fn place_of(worker: u32) -> usize
     7
 }
 
-// The step of a worker that is at `line`, in a state within the limits, decided and not made. A caller that keeps its bench
-// in place can so make a step that leaves all but the worker's record as it was by replacing that record.
-pub fn decide(bench: Bench, worker: u32, line: Line, store: &[u32], log: &[u32]) -> Decision
-    requires { ⌜ validOf (lent bench (now store) (now log)) ≡ true ⌝ }
-    requires { ⌜ (worker < 8 → line ≡ lineAt (bench .workers) worker) ⌝ }
-    ensures { λ r. ⌜ DecisionOf (lent bench (now (store .entry)) (now (log .entry))) worker r ⌝ }
+// step's refusals 6 and 8, of a worker that is at `line`, in a state within the limits. If there is none, `lines` has what the
+// line does. A caller that keeps its bench in place can so make a step that leaves all but the worker's record as it was by
+// replacing that record.
+pub fn step_stop(bench: Bench, worker: u32, line: Line) -> Stop
+    ensures { λ r.
+        ⌜
+        ((m l : List ℕ) → validOf (lent bench m l) ≡ true → (worker < 8 → line ≡ lineAt (bench .workers) worker)
+        → StepStops (lent bench m l) worker r)
+        ⌝ }
 {
     if bench.crew <= worker {
-        return Decision::Refused {
+        return Stop::Why {
             why: Refusal::NoSuchWorker,
         };
     }
     if stages::is_idle(line) {
-        return Decision::Refused {
+        return Stop::Why {
             why: Refusal::IdleWorker,
         };
     }
-    let kind = bench.kind;
-    let queue = bench.queue;
-    let act = lines::decide(kind, bench.width, queue, store, worker, line);
-    Decision::Acts { act }
+    Stop::No
 }

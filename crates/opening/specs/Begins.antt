@@ -4,8 +4,8 @@ use Prim.Native.Nat.{ℕ, _<_}
 use Rattle.model.specs.declared.Operation.{Operation}
 use Rattle.model.specs.World.{World, refuse}
 use Rattle.model.specs.Calls.{begun, beginOf}
-use Rattle.opening.specs.declared.Stop.{Stop}
-use Rattle.opening.specs.declared.Stop.the-variants.{No, Why}
+use Rattle.state.specs.declared.Stop.{Stop}
+use Rattle.state.specs.declared.Stop.the-variants.{No, Why}
 
 -- the begin is accepted; or it is refused, and changes nothing
 abbrev pub BeginStops : World → ℕ → Operation → Stop → Type 0

@@ -17,12 +17,7 @@ use model::Operation;
 use model::Refusal;
 use model::Task;
 use state::Reply;
-
-// Whether a begin is refused, and why.
-pub enum Stop {
-    No,
-    Why { why: Refusal },
-}
+use state::Stop;
 
 // A refused fresh makes no bench: its state is one that every call refuses.
 fn unmade(why: Refusal) -> Reply

@@ -10,12 +10,12 @@ ghost use lib.ListN.{length};
 ghost use Rattle.model.specs.declared.Answer.the-variants.{Refused};
 ghost use Rattle.model.specs.Calls.{lent, freshOf, beginOf, stepOf, frontOf};
 ghost use Rattle.queues.specs.Left.{left};
-use lines::Act;
-use machine::Decision;
+use lines::Deed;
 use model::Answer;
 use model::Operation;
 use model::Refusal;
 use model::Worker;
+use state::Stop;
 
 pub struct Bench {
     pub state: model::Bench,
@@ -78,21 +78,23 @@ impl Bench {
         let i = machine::place_of(worker);
         let own = next.workers[i];
         let line = own.line;
-        let decision = machine::decide(next, worker, line, store, log);
-        match decision {
-            Decision::Refused { why } => return refused(self, why),
-            Decision::Acts { act } => {
-                let Act::Goes { line: to } = act else {
-                    return faced(machine::apply(next, worker, act, store, log));
-                };
-                // The commonest step changes the worker's record alone: it is replaced in place.
-                next.restarts = stages::count_restart(next.restarts, to);
-                next.workers[i] = Worker { line: to };
-                return Reply {
-                    bench: Bench { state: next },
-                    answer: Answer::GoesOn,
-                };
-            }
+        let stop = machine::step_stop(next, worker, line);
+        if let Stop::Why { why } = stop {
+            return refused(self, why);
+        }
+        let kind = next.kind;
+        let queue = next.queue;
+        let to = lines::next_line(kind, queue, store, line);
+        let deed = lines::decide(kind, next.width, queue, store, worker, line);
+        let Deed::Nothing = deed else {
+            return faced(machine::apply(next, worker, to, deed, store, log));
+        };
+        // The commonest step changes the worker's record alone: it is replaced in place.
+        next.restarts = stages::count_restart(next.restarts, to);
+        next.workers[i] = Worker { line: to };
+        Reply {
+            bench: Bench { state: next },
+            answer: Answer::GoesOn,
         }
     }
 

@@ -16,10 +16,11 @@ use Rattle.model.specs.declared.Counts.{Counts}
 use Rattle.model.specs.Tests.{if_then_else_}
 use Rattle.model.specs.World.{World, Outcome}
 use Rattle.model.specs.Calls.{lent, freshOf, beginOf, commit}
-use Rattle.lines.specs.declared.Act.{Act}
-use Rattle.lines.specs.Act.{enact}
-use Rattle.opening.specs.declared.Stop.{Stop}
-use Rattle.opening.specs.declared.Stop.the-variants.{No, Why}
+use Rattle.model.specs.declared.Line.{Line}
+use Rattle.lines.specs.declared.Deed.{Deed}
+use Rattle.lines.specs.Deeds.{enact}
+use Rattle.state.specs.declared.Stop.{Stop}
+use Rattle.state.specs.declared.Stop.the-variants.{No, Why}
 use Rattle.opening.specs.Begins.{BeginStops}
 use Rattle.model.specs.Counts.{countsOf}
 use Rattle.model.specs.Listing.{Program, waiting, playing, ended, printed, isRefused, totals, reply, opened, told, bad, respond}
@@ -67,11 +68,11 @@ pub begun-by : (s b : Bench) (a : Answer) (i : ℕ) (op : Operation) (w n : ℕ)
     record { world = lent b (take w m) l; answer = a } ≡ beginOf (lent s (take w m) l) i op
 begun-by s b a i op w n m l e o = subst (λ (x : List ℕ). record { world = lent b x l; answer = a } ≡ beginOf (lent s x l) i op) (lent-front w n m e) o
 
--- an act on the words that were lent, p as it leaves them
-pub acted-by : (s b : Bench) (a : Answer) (x : Act) (i w n : ℕ) (m l p l′ : List ℕ) → n ≡ min w (length m) → length p ≡ length (take n m) → record { world = lent b p l′; answer = a } ≡ commit (lent s (take n m) l) i (enact (s .queue) (take n m) x) →
-    record { world = lent b (take w (p ++ drop n m)) l′; answer = a } ≡ commit (lent s (take w m) l) i (enact (s .queue) (take w m) x)
-acted-by s b a x i w n m l p l′ e f o =
-    ap (λ (y : List ℕ). record { world = lent b y l′; answer = a }) (given-back w n m e p f) ∙ o ∙ ap (λ (y : List ℕ). commit (lent s y l) i (enact (s .queue) y x)) (lent-front w n m e)
+-- a deed on the words that were lent, p as it leaves them
+pub acted-by : (s b : Bench) (a : Answer) (x : Line) (d : Deed) (i w n : ℕ) (m l p l′ : List ℕ) → n ≡ min w (length m) → length p ≡ length (take n m) → record { world = lent b p l′; answer = a } ≡ commit (lent s (take n m) l) i (enact (s .queue) (take n m) x d) →
+    record { world = lent b (take w (p ++ drop n m)) l′; answer = a } ≡ commit (lent s (take w m) l) i (enact (s .queue) (take w m) x d)
+acted-by s b a x d i w n m l p l′ e f o =
+    ap (λ (y : List ℕ). record { world = lent b y l′; answer = a }) (given-back w n m e p f) ∙ o ∙ ap (λ (y : List ℕ). commit (lent s y l) i (enact (s .queue) y x d)) (lent-front w n m e)
 
 -- a begin that is refused at once
 pub begin-at-once : (v : Bool) (W : World) (i : ℕ) (op : Operation) (c : Command) (r : Stop) → v ≡ true → BeginStops W i op r → respond (playing W) c ≡ told (beginOf W i op) → RefusedAtOnce v W c r

@@ -8,10 +8,8 @@ use Rattle.model.specs.declared.Answer.the-variants.{Accepted, Numbered, GoesOn
 use Rattle.model.specs.Tests.{if_then_else_}
 use Rattle.model.specs.World.{World}
 use Rattle.model.specs.Listing.{playing, reply, printed, respond}
-use Rattle.opening.specs.declared.Stop.{Stop}
-use Rattle.opening.specs.declared.Stop.the-variants.{No, Why}
-use Rattle.machine.specs.declared.Decision.{Decision}
-use Rattle.machine.specs.declared.Decision.the-variants as decision
+use Rattle.state.specs.declared.Stop.{Stop}
+use Rattle.state.specs.declared.Stop.the-variants.{No, Why}
 use Rattle.replies.specs.declared.Asked.{Asked}
 use Rattle.replies.specs.declared.Asked.the-variants.{Other, Step}
 use Rattle.replies.specs.declared.Judged.{Judged}
@@ -29,9 +27,9 @@ judgedOf (Full i t) = Made
 judgedOf (Refused r) = Stopped
 
 -- what a step answers that is refused before its line is done
-abbrev pub refusalOf : Decision → Answer
-refusalOf (decision.Refused r) = Refused r
-refusalOf (decision.Acts a) = GoesOn
+abbrev pub refusalOf : Stop → Answer
+refusalOf No = GoesOn
+refusalOf (Why r) = Refused r
 
 -- a line asks a bench that is played for steps, or for something else
 abbrev pub askedOf : Bool → Command → Asked

@@ -22,21 +22,21 @@ ghost use Rattle.model.specs.Listing.{
   bad,
   respond,
 };
-ghost use Rattle.lines.specs.Act.{enact, InStore};
+ghost use Rattle.lines.specs.Deeds.{enact, InStore};
 ghost use Rattle.state.specs.Left.{left};
 ghost use Rattle.text.specs.Numbers.{Placed};
 ghost use Rattle.replies.specs.declared.Asked.the-variants.{Other};
 ghost use Rattle.replies.specs.Shown.{shownAll};
 ghost use Rattle.replies.specs.Sessions.{worldOf, programOf, PlayedBy};
 ghost use Rattle.replies.specs.Choices.{judgedOf, refusalOf, askedOf, RefusedAtOnce};
-use lines::Act;
-use machine::Decision;
+use lines::Deed;
 use model::Answer;
 use model::Bench;
 use model::Command;
+use model::Line;
 use model::Operation;
 use model::Refusal;
-use opening::Stop;
+use state::Stop;
 
 // The program between two lines: whether a `queue` was accepted, and then its bench, on the first `words` words of the store.
 pub struct Session {
@@ -158,12 +158,12 @@ pub fn judge(answer: Answer) -> Judged
 }
 
 // What a step that is refused answers.
-pub fn refusal_of(decision: Decision) -> Answer
-    ensures { λ r. ⌜ r ≡ refusalOf decision ⌝ }
+pub fn refusal_of(stop: Stop) -> Answer
+    ensures { λ r. ⌜ r ≡ refusalOf stop ⌝ }
 {
-    match decision {
-        Decision::Refused { why } => Answer::Refused { why },
-        Decision::Acts { act: _ } => Answer::GoesOn,
+    match stop {
+        Stop::No => Answer::GoesOn,
+        Stop::Why { why } => Answer::Refused { why },
     }
 }
 
@@ -259,26 +259,27 @@ fn begin(
     }
 }
 
-// Does what a worker's line decided, on the first `words` words of the store.
-pub fn do_act(
+// Does a deed on the first `words` words of the store; its worker comes to `line`.
+pub fn do_deed(
     words: u32,
     bench: Bench,
     worker: u32,
-    act: Act,
+    line: Line,
+    deed: Deed,
     store: &mut [u32],
     log: &mut [u32],
 ) -> state::Reply
     requires { ⌜ (worker < 8) × (bench .queue .published ≤ 11) ⌝ }
-    requires { ⌜ InStore (bench .queue) (length (take words (now store))) act ⌝ }
+    requires { ⌜ InStore (bench .queue) (length (take words (now store))) deed ⌝ }
     ensures { λ r.
         ⌜
         left r (take words (now (store .exit))) (now (log .exit))
         ≡ commit (lent bench (take words (now (store .entry))) (now (log .entry))) worker
-        (enact (bench .queue) (take words (now (store .entry))) act)
+        (enact (bench .queue) (take words (now (store .entry))) line deed)
         ⌝ }
 {
     let n = span(words, store);
-    machine::apply(bench, worker, act, &mut store[..n], log)
+    machine::apply(bench, worker, line, deed, &mut store[..n], log)
 }
 
 // `end`: the six counts.

@@ -23,6 +23,12 @@ pub struct Reply {
     pub answer: Answer,
 }
 
+// Whether a call is refused before anything is done, and why.
+pub enum Stop {
+    No,
+    Why { why: Refusal },
+}
+
 // A refusal hands the state back as it came in.
 pub fn refused(bench: Bench, why: Refusal) -> Reply
     ensures { λ r. ⌜ r ≡ record { bench = bench; answer = Refused why } ⌝ }

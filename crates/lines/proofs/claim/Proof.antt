@@ -1,8 +1,8 @@
 use mathlib.Core.Path.{sym, _∙_}
-use borrow.Author.Needs.{needs}
 use Rattle.model.specs.Tests.{if_then_else_}
-use Rattle.lines.specs.Act.{Fits, InStore, changedQueue, changedStore, enact}
+use Rattle.lines.specs.Deeds.{queueBy, storeBy, answerBy, InStore}
 use Rattle.lines.proofs.Room.{in-room}
+use borrow.Author.Needs.{needs}
 use Rattle.lines.proofs.claim.Statement.{statement}
 use Rattle.lines.proofs.claim.Tie as tie
 
@@ -25,7 +25,7 @@ mul-words-2 : tie.Need-mul-words-2
 mul-words-2 c = search needs
 
 returns : tie.Need-returns
-unfolding enact InStore changedQueue changedStore Fits if_then_else_
+unfolding queueBy storeBy answerBy InStore if_then_else_
 returns c =
     let start = c .before .before .before .before .before in
     let room = sym (c .before .before .before .has-room .ensures) ∙ c .before .before .if1 .taken in
@@ -35,7 +35,7 @@ returns c =
     )
 
 returns-2 : tie.Need-returns-2
-unfolding enact InStore if_then_else_
+unfolding queueBy storeBy answerBy InStore if_then_else_
 returns-2 c = (simp (sym (c .before .has-room .ensures) ∙ c .if1 .left), tt)
 
 pub claim-spec : {M : Type 1} → statement M

@@ -1,7 +1,7 @@
 use mathlib.Core.Path.{sym, _∙_}
-use borrow.Author.Needs.{needs}
 use Rattle.model.specs.Tests.{if_then_else_}
-use Rattle.lines.specs.Act.{enact, InStore}
+use Rattle.lines.specs.Deeds.{queueBy, storeBy, answerBy, InStore}
+use borrow.Author.Needs.{needs}
 use Rattle.lines.proofs.compare.Statement.{statement}
 use Rattle.lines.proofs.compare.Tie as tie
 
@@ -12,13 +12,13 @@ after-steal-requires : tie.Need-after-steal-requires
 after-steal-requires c κs = search needs
 
 returns : tie.Need-returns
-unfolding enact InStore if_then_else_
+unfolding queueBy storeBy answerBy InStore if_then_else_
 returns c =
     let same = sym (c .before .before .is-same .ensures) ∙ c .before .if1 .taken in
     (λ m. simp (same, c .after-steal .ensures), λ n. tt)
 
 returns-2 : tie.Need-returns-2
-unfolding enact InStore if_then_else_
+unfolding queueBy storeBy answerBy InStore if_then_else_
 returns-2 c = (λ m. simp (sym (c .before .is-same .ensures) ∙ c .if1 .left), λ n. tt)
 
 pub compare-spec : {M : Type 1} → statement M

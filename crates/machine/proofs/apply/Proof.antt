@@ -1,114 +1,43 @@
+use mathlib.Core.Path.{sym, ap, _∙_}
+use Rattle.model.specs.Answers.{ends}
+use Rattle.model.specs.Calls.{lent, commit}
+use Rattle.machine.proofs.Deeds.{still, same-effect}
 use borrow.Author.Needs.{needs}
-use mathlib.Core.Path.{refl, sym, ap, _∙_}
-use lib.ListN.{length}
-use Rattle.lines.specs.Act.{enact}
-use Rattle.machine.proofs.Acts.{change-in, same-effect, went-on, ended}
 use Rattle.machine.proofs.apply.Statement.{statement}
 use Rattle.machine.proofs.apply.Tie as tie
 
-enum-known-act : tie.Need-enum-known-act
-enum-known-act c = search needs
-
-goes-on-requires : tie.Need-goes-on-requires
-goes-on-requires c κs = search needs
-
-enum-known-act-2 : tie.Need-enum-known-act-2
-enum-known-act-2 c = search needs
-
 changed-requires : tie.Need-changed-requires
-changed-requires c κs =
-    let start = c .before .before .before .before .before .before .before in
-    (start .pre .1 .0, change-in (start .args .bench .queue) (length (start .args .store .now)) (start .args .act) (start .pre .1 .1) (c .before .before .act2 .given .1))
+changed-requires c κs = search needs
 
-goes-on-requires-2 : tie.Need-goes-on-requires-2
-goes-on-requires-2 c κs = search needs
+answer-of-requires : tie.Need-answer-of-requires
+answer-of-requires c κs = search needs
 
-enum-known-act-3 : tie.Need-enum-known-act-3
-enum-known-act-3 c = search needs
-
-ends-requires : tie.Need-ends-requires
-ends-requires c κs = search needs
-
-enum-known-act-4 : tie.Need-enum-known-act-4
-enum-known-act-4 c = search needs
-
-with-anchor-requires : tie.Need-with-anchor-requires
-with-anchor-requires c κs = search needs
-
-ends-requires-2 : tie.Need-ends-requires-2
-ends-requires-2 c κs = search needs
-
-returns : tie.Need-returns
-unfolding enact
-returns c =
-    let start = c .before .before .before .before .before .before .before in
-    let b = start .args .bench in
-    let m = start .args .store .now in
-    let l = start .args .log .now in
-    let i = start .args .worker in
-    let act = start .args .act in
-    went-on b i m l act (ap (enact (b .queue) m) (c .before .before .act .given .1)) (c .goes-on .ensures)
+committed-requires : tie.Need-committed-requires
+committed-requires c κs = search needs
 
 same-length : tie.Need-same-length
 same-length c = search needs
 
-returns-2 : tie.Need-returns-2
-unfolding enact
-returns-2 c =
-    let start = c .before .before .before .before .before .before .before .before .before .before .before in
-    let b = start .args .bench in
-    let m = start .args .store .now in
-    let l = start .args .log .now in
-    let i = start .args .worker in
-    let act = start .args .act in
-    went-on b i m l act (ap (enact (b .queue) m) (c .before .before .before .before .before .before .act2 .given .1) ∙ same-effect (sym (c .before .before .before .changed .ensures .0)) (sym (c .before .before .before .changed .ensures .1))) (c .goes-on2 .ensures)
-
 same-length-2 : tie.Need-same-length-2
 same-length-2 c = search needs
 
-returns-3 : tie.Need-returns-3
-unfolding enact
-returns-3 c =
-    let start = c .before .before .before .before .before .before .before .before .before .before in
-    let b = start .args .bench in
+returns : tie.Need-returns
+returns c =
+    let start = c .before .before .before .before .before .before .before .before .before .before .before .before in
     let m = start .args .store .now in
-    let l = start .args .log .now in
-    let i = start .args .worker in
-    let act = start .args .act in
-    ended b i m l act (ap (enact (b .queue) m) (c .before .before .before .before .before .act3 .given .1)) (c .before .before .ends .ensures m)
-
-same-length-3 : tie.Need-same-length-3
-same-length-3 c = search needs
-
-returns-4 : tie.Need-returns-4
-unfolding enact
-returns-4 c =
-    let start = c .before .before .before .before .before .before .before .before .before .before .before in
-    let b = start .args .bench in
-    let m = start .args .store .now in
-    let l = start .args .log .now in
-    let i = start .args .worker in
-    let act = start .args .act in
-    ended b i m l act (ap (enact (b .queue) m) (c .before .before .before .before .before .before .act4 .given .1) ∙ same-effect (sym (c .before .before .before .before .with-anchor .ensures)) refl) (c .before .before .ends2 .ensures m)
+    let deed = start .args .deed in
+    let changed = c .before .before .before .before .before .before .before .changed .ensures in
+    let answer = c .before .before .before .before .answer-of .ensures in
+    c .before .before .committed .ensures m _ (λ e. changed .1 ∙ still m deed (ap ends (sym answer) ∙ e))
+    ∙ ap (commit (lent (start .args .bench) m (start .args .log .now)) (start .args .worker)) (same-effect (start .args .line) (changed .0) (changed .1) answer)
 
 pub apply-spec : {M : Type 1} → statement M
 apply-spec =
     tie.close
     (tie.spec
-    enum-known-act
-    goes-on-requires
-    enum-known-act-2
     changed-requires
-    goes-on-requires-2
-    enum-known-act-3
-    ends-requires
-    enum-known-act-4
-    with-anchor-requires
-    ends-requires-2
-    returns
+    answer-of-requires
+    committed-requires
     same-length
-    returns-2
     same-length-2
-    returns-3
-    same-length-3
-    returns-4)
+    returns)

@@ -1,4 +1,4 @@
--- What an act does to queue and store, and what a line needs to be done.
+-- What a deed does to queue and store, and what a line needs to be done.
 use mathlib.Core.Path.{_≡_}
 use mathlib.Core.Bool.{true}
 use mathlib.Core.List.{List}
@@ -35,6 +35,7 @@ use Rattle.model.specs.declared.Line.the-variants.{
   StealCompare,
 }
 use Rattle.model.specs.declared.Queue.{Queue}
+use Rattle.model.specs.declared.Answer.{Answer}
 use Rattle.model.specs.declared.Answer.the-variants.{GoesOn}
 use Rattle.model.specs.Memory.{zeros}
 use Rattle.model.specs.Figures.{putIndex, takeIndex, stealIndex}
@@ -42,10 +43,8 @@ use Rattle.model.specs.Lines.{Effect, eff, off, size, anchored, publishing}
 use Rattle.model.specs.Limits.{someOk}
 use Rattle.figures.specs.Bounds.{Ordered}
 use Rattle.slots.specs.Bounds.{Slotted, Inside}
-use Rattle.lines.specs.declared.Change.{Change}
-use Rattle.lines.specs.declared.Change.the-variants.{Word, Copies, Claims, Publishes}
-use Rattle.lines.specs.declared.Act.{Act}
-use Rattle.lines.specs.declared.Act.the-variants.{Goes, Changes, Stops, Ends}
+use Rattle.lines.specs.declared.Deed.{Deed}
+use Rattle.lines.specs.declared.Deed.the-variants.{Nothing, Word, Copies, Claims, Publishes, Stops, Ends}
 
 -- the queue with a pair claimed behind the published ones
 abbrev pub withArray : Queue → ℕ → ℕ → Queue
@@ -57,44 +56,52 @@ withArray q a z =
       claimed = q .published + 1;
     }
 
--- what a change leaves of the queue
-unfoldable pub changedQueue : Queue → Change → Queue
-changedQueue q (Word a x) = q
-changedQueue q (Copies a t) = q
-changedQueue q (Claims a z) = withArray q a z
-changedQueue q Publishes = publishing q
+-- what a deed leaves of the queue
+unfoldable pub queueBy : Queue → Deed → Queue
+queueBy q Nothing = q
+queueBy q (Word a x) = q
+queueBy q (Copies a t) = q
+queueBy q (Claims a z) = withArray q a z
+queueBy q Publishes = publishing q
+queueBy q (Stops x) = q
+queueBy q (Ends a x) = anchored q a
 
 -- and of the store
-unfoldable pub changedStore : List ℕ → Change → List ℕ
-changedStore m (Word a x) = set m a x
-changedStore m (Copies a t) = set (set m a (t .number)) (a + 1) (t .payload)
-changedStore m (Claims a z) = zeros m a z
-changedStore m Publishes = m
+unfoldable pub storeBy : List ℕ → Deed → List ℕ
+storeBy m Nothing = m
+storeBy m (Word a x) = set m a x
+storeBy m (Copies a t) = set (set m a (t .number)) (a + 1) (t .payload)
+storeBy m (Claims a z) = zeros m a z
+storeBy m Publishes = m
+storeBy m (Stops x) = m
+storeBy m (Ends a x) = m
 
--- what it writes lies in a store of n words, and a claimed pair in the directory
-unfoldable pub Fits : Queue → ℕ → Change → Type 0
-Fits q n (Word a x) = a < n
-Fits q n (Copies a t) = a + 1 < n
-Fits q n (Claims a z) = (a + z ≤ n) × (q .published < 11)
-Fits q n Publishes = Unit {0}
+-- and what its step answers
+unfoldable pub answerBy : Deed → Answer
+answerBy Nothing = GoesOn
+answerBy (Word a x) = GoesOn
+answerBy (Copies a t) = GoesOn
+answerBy (Claims a z) = GoesOn
+answerBy Publishes = GoesOn
+answerBy (Stops x) = x
+answerBy (Ends a x) = x
 
--- the act on the queue q and the store m
-unfoldable pub enact : Queue → List ℕ → Act → Effect
-enact q m (Goes l) = eff q m l GoesOn
-enact q m (Changes c l) = eff (changedQueue q c) (changedStore m c) l GoesOn
-enact q m (Stops x) = eff q m Idle x
-enact q m (Ends a x) = eff (anchored q a) m Idle x
+-- the deed on the queue q and the store m, by a worker that comes to the line l
+abbrev pub enact : Queue → List ℕ → Line → Deed → Effect
+enact q m l d = eff (queueBy q d) (storeBy m d) l (answerBy d)
 
--- it can be done on the queue q and a store of n words
-unfoldable pub InStore : Queue → ℕ → Act → Type 0
-InStore q n (Goes l) = Unit {0}
-InStore q n (Changes c l) = Fits q n c
+-- it can be done on the queue q and a store of n words: what it writes lies in the store, a claimed pair in the directory
+unfoldable pub InStore : Queue → ℕ → Deed → Type 0
+InStore q n Nothing = Unit {0}
+InStore q n (Word a x) = a < n
+InStore q n (Copies a t) = a + 1 < n
+InStore q n (Claims a z) = (a + z ≤ n) × (q .published < 11)
+InStore q n Publishes = Unit {0}
 InStore q n (Stops x) = Unit {0}
 InStore q n (Ends a x) = Unit {0}
 
--- what every line needs: a tag width, a directory of eleven pairs, and a current array inside a store of n words
-pub record Ground (w : ℕ) (q : Queue) (n : ℕ) : Type 0 where
-  pub narrow : w ≤ 16
+-- what every line needs: a directory of eleven pairs, and a current array inside a store of n words
+pub record Ground (q : Queue) (n : ℕ) : Type 0 where
   pub some : 0 < q .published
   pub listed : q .published ≤ 11
   pub eleven : length (q .arrays) ≡ 11
