@@ -1,10 +1,10 @@
 -- Where feeding stands between two lines, and what each way to play a line makes of it.
-use Prim.Native.Nat.{ℕ, _+_, _-_, _≤_, _<_, min}
+use Prim.Native.Nat.{ℕ, _+_, _-_, _≤_, min}
 use native.Mathlib.Omega.{arith}
 use mathlib.Core.Path.{_≡_, refl, ap, sym, subst, _∙_}
 use mathlib.Core.Bool.{Bool, true, false}
 use mathlib.Core.List.{List}
-use lib.ListN.{length, take, drop, set}
+use lib.ListN.{length, take, drop}
 use Rattle.model.specs.declared.Line.{Line}
 use Rattle.model.specs.declared.Queue.{Queue}
 use Rattle.model.specs.declared.Bench.{Bench}
@@ -12,7 +12,7 @@ use Rattle.model.specs.declared.Refusal.{Refusal}
 use Rattle.model.specs.declared.Command.{Command}
 use Rattle.model.specs.declared.Command.the-variants.{Open, BeginPut, BeginTake, BeginSteal, Steps, End, Bad}
 use Rattle.model.specs.declared.Answer.{Answer}
-use Rattle.model.specs.declared.Answer.the-variants.{GoesOn, Refused}
+use Rattle.model.specs.declared.Answer.the-variants.{Refused}
 use Rattle.model.specs.Tests.{if_then_else_}
 use Rattle.model.specs.World.{World, Outcome, lineAt}
 use Rattle.model.specs.Lines.{lineStep}
@@ -29,7 +29,7 @@ use Rattle.limits.proofs.Bounds.{bounds-of}
 use Rattle.text.specs.Numbers.{Placed}
 use Rattle.text.specs.Commands.{commandOf}
 use Rattle.replies.specs.declared.Session.{Session}
-use Rattle.replies.specs.declared.Asked.the-variants.{Other, Step}
+use Rattle.replies.specs.declared.Asked.the-variants.{Step}
 use Rattle.replies.specs.declared.Played.{Played}
 use Rattle.replies.specs.Shown.{shownAll}
 use Rattle.listing.specs.Listing.{front}
@@ -38,7 +38,6 @@ use Rattle.replies.specs.Choices.{askedOf, RefusedAtOnce}
 use Rattle.listing.specs.declared.Fed.{Fed}
 use Rattle.listing.specs.Feeding.{Reachable, FedBy}
 use Rattle.replies.proofs.Fronts.{lent-front}
-use Rattle.replies.proofs.Ways.{never}
 use Rattle.replies.proofs.Shows.{answer-most}
 use Rattle.replies.proofs.Replies.{played, program-live, left-on}
 use Rattle.listing.proofs.Feeding.{Heard, Onward, line-on, heard-next, fed-over}

@@ -15,7 +15,7 @@ use Rattle.model.specs.declared.Answer.the-variants.{Accepted}
 use Rattle.model.specs.Calls.{freshOf, kindOf, Call, callOf}
 use Rattle.model.specs.Run.{Played, played, after}
 use Rattle.theorems.specs.Demand3.{At, HandsOut}
-use Rattle.order.specs.Order.{Gives, First, InOrder, FifoInOrder, LogInOrder, FifoLogInOrder}
+use Rattle.order.specs.Order.{Gives, InOrder, FifoInOrder, LogInOrder, FifoLogInOrder}
 use Rattle.theorems.proofs.Events.{Event, quiet, line-1, finished-put, handed-out, failed-compare, found-empty, began-put, found-full, History, Premise, PremiseAt, GoodHistory}
 use Rattle.theorems.proofs.Window.{View}
 use Rattle.theorems.proofs.Order.{Given, InTurn, Rises, Order}

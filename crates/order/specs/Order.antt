@@ -5,7 +5,6 @@ use mathlib.Core.Bool.{true}
 use mathlib.Core.List.{List, [], _∷_, _++_}
 use Prim.Native.Nat.{ℕ, _<_}
 use Rattle.model.specs.declared.Task.{Task}
-use Rattle.model.specs.declared.Answer.{Answer}
 use Rattle.model.specs.declared.Answer.the-variants.{Accepted, HandedOut}
 use Rattle.model.specs.Tests.{if_then_else_}
 use Rattle.model.specs.Answers.{Entry, entryOf, ends}

@@ -5,8 +5,7 @@
 // Uses `model`, `stages`, `lines`, `limits`, `memory`, `state`, `opening` and `machine`. It is used by `exercise` and `pace`.
 ghost use mathlib.Core.Path.{_≡_};
 ghost use mathlib.Core.List.{List};
-ghost use Prim.Native.Nat.{ℕ, _≤_};
-ghost use lib.ListN.{length};
+ghost use Prim.Native.Nat.{ℕ};
 ghost use Rattle.model.specs.declared.Answer.the-variants.{Refused};
 ghost use Rattle.model.specs.Calls.{lent, freshOf, beginOf, stepOf, frontOf};
 ghost use Rattle.queues.specs.Left.{left};

@@ -1,13 +1,11 @@
 use mathlib.Core.Path.{refl, sym, ap, _∙_}
 use Prim.Native.Nat.{_<_, _≤_, _+_}
 use native.Mathlib.Omega.{arith}
-use lib.ListN.{length}
 use borrow.Author.Needs.{needs}
 use borrow.Author.Tests.{lt-ltb, le-ltb, leb-true}
 use Rattle.model.specs.declared.Bench.{Bench}
 use Rattle.model.specs.Answers.{Entry, entryOf, writeEntry}
 use Rattle.model.proofs.Tests.{and-left, and-right, passed, refused}
-use Rattle.state.specs.declared.Reply.{Reply}
 use Rattle.state.specs.Left.{left}
 use Rattle.state.proofs.Replies.{same-left}
 use Rattle.machine.proofs.Commits.{full-is, no-entry, no-room, logs}

@@ -1,9 +1,8 @@
 use borrow.Author.Needs.{needs}
-use mathlib.Core.Path.{_≡_, refl, sym, _∙_, subst}
+use mathlib.Core.Path.{refl, sym, _∙_, subst}
 use native.Mathlib.Omega.{arith}
 use Rattle.model.specs.Calls.{lent, beginOf}
 use Rattle.model.proofs.Tests.{if-false, passed, refused}
-use Rattle.state.specs.declared.Stop.{Stop}
 use Rattle.opening.specs.Begins.{BeginStops}
 use Rattle.limits.proofs.Bounds.{bounds-of}
 use Rattle.state.proofs.Replies.{same-left}

@@ -1,6 +1,6 @@
 -- A step that is not refused before its line is done, knows `Steps` of its worker.
 use borrow.Author.Needs.{needs}
-use mathlib.Core.Path.{_≡_, sym, ap, _∙_, subst}
+use mathlib.Core.Path.{sym, ap, _∙_, subst}
 use lib.ListN.{length}
 use Rattle.model.specs.World.{World, lineAt}
 use Rattle.model.specs.Calls.{lent, stepOf}
