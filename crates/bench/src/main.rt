@@ -7,16 +7,15 @@ ghost use Prim.Native.Nat.{_≤_, _<_};
 ghost use lib.ListN.{length};
 ghost use Rattle.replies.specs.Sessions.{programOf};
 ghost use Rattle.listing.specs.Feeding.{Reachable};
-ghost use Rattle.bench.specs.Input.{Within};
 use libc::STDIN_FILENO;
 use libc::STDOUT_FILENO;
+use replies::LONGEST;
 use replies::Session;
 
-enum Input {
-    Broken,
-    End,
-    // how many bytes the buffer holds now
-    More(usize),
+// What the buffer holds: so many bytes to play, none if there is nothing left to do, and whether nothing comes after them.
+struct Input {
+    bytes: usize,
+    last: bool,
 }
 
 struct Turn {
@@ -25,21 +24,50 @@ struct Turn {
     goes: bool,
 }
 
-// Reads once, behind the first `have` bytes of the buffer. Waits only if there is nothing to read.
+// Reads once, behind the first `have` bytes of the buffer. Waits only if there is nothing to read. At the input's end a line that
+// no newline ends is played as if one did.
 fn read_more(buf: &mut [u8], have: usize) -> Input
-    requires { ⌜ have ≤ length (now buf) ⌝ }
-    ensures { λ r. ⌜ Within r (length (now (buf .exit))) ⌝ }
+    requires { ⌜ have < length (now buf) ⌝ }
+    ensures { λ r. ⌜ r .bytes ≤ length (now (buf .exit)) ⌝ }
 {
     let part = &mut buf[have..];
     let got = libc::read(STDIN_FILENO, part);
     if got < 0 {
-        return Input::Broken;
+        os::fail(b"read");
+        return Input {
+            bytes: 0,
+            last: true,
+        };
     }
-    if got == 0 {
-        return Input::End;
+    if 0 < got {
+        let k = io::count(got, part);
+        return Input {
+            bytes: have + k,
+            last: false,
+        };
     }
-    let k = io::count(got, part);
-    Input::More(have + k)
+    if have == 0 {
+        return Input {
+            bytes: 0,
+            last: true,
+        };
+    }
+    buf[have] = b'\n';
+    Input {
+        bytes: have + 1,
+        last: true,
+    }
+}
+
+// Writes the first n bytes of the output, and answers whether it could; if not, that is told on standard error.
+fn write_out(out: &[u8], n: usize) -> bool
+    requires { ⌜ n ≤ length (now out) ⌝ }
+{
+    let written = io::write_all(STDOUT_FILENO, &out[..n]);
+    if !written {
+        os::fail(b"write");
+    }
+    written
 }
 
 // Plays the lines among the first n bytes of the buffer, writes their text whenever the output is full and at the end, and keeps
@@ -67,22 +95,13 @@ fn play_some(
         let used = f.used;
         current = f.session;
         from += used;
-        if !io::write_all(STDOUT_FILENO, &out[..wrote]) {
-            os::fail(b"write");
-            return Turn {
-                session: current,
-                have: 0,
-                goes: false,
-            };
+        if !write_out(out, wrote) {
+            break;
         }
         if f.stops {
-            return Turn {
-                session: current,
-                have: 0,
-                goes: false,
-            };
+            break;
         }
-        if !f.full {
+        if LONGEST <= out.len() - wrote {
             let have = listing::carry(buf, from, n);
             return Turn {
                 session: current,
@@ -106,30 +125,19 @@ fn run(buf: &mut [u8], store: &mut [u32], log: &mut [u32], out: &mut [u8])
     let mut turns = u64::MAX;
     while turns > 0 {
         turns -= 1;
-        match read_more(buf, have) {
-            Input::Broken => {
-                os::fail(b"read");
-                return;
-            }
-            Input::End => {
-                // a last line that no newline ends is played as if one did
-                if have == 0 {
-                    return;
-                }
-                buf[have] = b'\n';
-                let n = have + 1;
-                let _t = play_some(session, buf, n, store, log, out);
-                return;
-            }
-            Input::More(n) => {
-                let t = play_some(session, buf, n, store, log, out);
-                if !t.goes {
-                    return;
-                }
-                session = t.session;
-                have = t.have;
-            }
+        let input = read_more(buf, have);
+        if input.bytes == 0 {
+            break;
         }
+        let t = play_some(session, buf, input.bytes, store, log, out);
+        if input.last {
+            break;
+        }
+        if !t.goes {
+            break;
+        }
+        session = t.session;
+        have = t.have;
     }
 }
 

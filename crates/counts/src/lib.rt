@@ -4,7 +4,7 @@ ghost use mathlib.Core.Path.{_≡_};
 ghost use mathlib.Core.List.{[]};
 ghost use Prim.Native.Nat.{_+_, _-_, _/_, _%_, _≤_, _<_};
 ghost use lib.ListN.{length, getD};
-ghost use Rattle.model.specs.Tests.{if_then_else_, _and_};
+ghost use Rattle.model.specs.Tests.{_and_};
 ghost use Rattle.model.specs.Memory.{nowhere};
 ghost use Rattle.model.specs.Figures.{slot};
 ghost use Rattle.model.specs.Window.{tasks, windowIndex, windowSize};

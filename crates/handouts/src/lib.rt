@@ -2,7 +2,7 @@
 // both words of it. For any words.
 // Uses `model`. It is used by `counts`.
 ghost use mathlib.Core.Path.{_≡_};
-ghost use Prim.Native.Nat.{_+_, _%_, _≤_, _<_};
+ghost use Prim.Native.Nat.{_+_, _%_, _<_};
 ghost use lib.ListN.{length, getD};
 ghost use Rattle.model.specs.Tests.{if_then_else_, _and_};
 ghost use Rattle.model.specs.Counts.{taskAt, isKind, sameTask, someBelow, countBelow, outAs, outWhole, outFirst};

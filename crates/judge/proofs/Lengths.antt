@@ -1,12 +1,12 @@
 -- The refusals by length, 15 before 14; and the tables as they are at first.
 use mathlib.Core.Path.{_≡_, refl, sym, ap, _∙_}
-use mathlib.Core.Bool.{Bool, true, false}
+use mathlib.Core.Bool.{Bool, true}
 use mathlib.Core.List.{List}
 use Prim.Native.Nat.{ℕ, zero, suc, _/_, _%_, _≤_, _<_}
 use lib.Dec.{eqb, leb}
 use lib.ListN.{length, getD, replicate}
 use borrow.Author.Tests.{le-leb, lt-leb, eq-eqb, ne-eqb}
-use Rattle.model.specs.Tests.{if_then_else_, _and_}
+use Rattle.model.specs.Tests.{_and_}
 use Rattle.model.proofs.Tests.{if-true, if-false, fails, and-both, and-false}
 use Rattle.judgement.specs.declared.Verdict.the-variants.{TooLong, BadLength}
 use Rattle.judgement.specs.Judgement.{wordsOf, judged, judgedWords}

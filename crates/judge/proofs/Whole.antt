@@ -1,11 +1,11 @@
 -- From the four parts of the judgement to the verdict.
-use mathlib.Core.Path.{_≡_, refl, sym, ap, _∙_}
+use mathlib.Core.Path.{_≡_, sym, ap, _∙_}
 use mathlib.Core.Bool.{Bool, true, false}
 use mathlib.Core.List.{List}
 use Prim.Native.Nat.{ℕ, _-_}
-use Rattle.model.specs.Tests.{if_then_else_, _and_}
+use Rattle.model.specs.Tests.{_and_}
 use Rattle.model.specs.Counts.{isKind, countBelow, outFirst}
-use Rattle.model.proofs.Tests.{if-true, if-false, and-left, and-right, and-both, and-assoc, fails, and-false}
+use Rattle.model.proofs.Tests.{if-true, if-false, and-both, and-assoc, fails, and-false}
 use Rattle.judgement.specs.declared.Verdict.{Verdict}
 use Rattle.judgement.specs.declared.Verdict.the-variants.{No, Accepted}
 use Rattle.judgement.specs.Judgement.{allBelow, known, rises, honest, kept, accepts, judgedWords}

@@ -7,7 +7,7 @@ use native.Mathlib.Omega.{arith}
 use native.Mathlib.Nat.{eq-or-lt-of-le}
 use Rattle.model.specs.Tests.{_and_, _or_}
 use Rattle.model.specs.Counts.{someBelow}
-use Rattle.model.proofs.Tests.{holds, fails, and-left, and-right, and-both, and-false}
+use Rattle.model.proofs.Tests.{fails, and-left, and-right, and-both, and-false}
 use Rattle.judgement.specs.Judgement.{allBelow}
 
 module _ (p : ℕ → Bool) where

@@ -2,14 +2,14 @@
 use mathlib.Core.Path.{_≡_, refl, sym, ap, _∙_, subst}
 use mathlib.Core.Bool.{Bool, true, false, not}
 use mathlib.Core.List.{List}
-use mathlib.Core.Logic.{_⊎_, inl, inr, ⊎-elim}
+use mathlib.Core.Logic.{_⊎_, inl, inr}
 use Prim.Native.Nat.{ℕ, _+_, _≤_, _<_}
 use native.Mathlib.Omega.{arith}
 use lib.Dec.{eqb, ltb, leb}
 use borrow.Author.Tests.{le-leb, lt-leb, lt-ltb, le-ltb, eq-eqb, ne-eqb, eqb-false, ltb-true, ltb-false}
 use Rattle.model.specs.Tests.{_and_, _or_}
-use Rattle.model.specs.Counts.{entryAt, isKind}
-use Rattle.model.proofs.Tests.{holds, fails, and-both, and-false}
+use Rattle.model.specs.Counts.{entryAt}
+use Rattle.model.proofs.Tests.{fails, and-both, and-false}
 use Rattle.judgement.specs.Judgement.{allBelow, known, numbered, rises}
 use Rattle.judgement.proofs.All.{all-fails, all-true, all-next}
 

@@ -1,6 +1,6 @@
 -- The judgement of a matcher's log, from its bytes: document 02, Wish 1. The entries are those of the bench's own log
 -- (model/specs/Counts): four words each, kind, worker, put number, payload.
-use mathlib.Core.Bool.{Bool, true, false, not}
+use mathlib.Core.Bool.{Bool, true, not}
 use mathlib.Core.List.{List, [], _∷_}
 use Prim.Native.Nat.{ℕ, zero, suc, _+_, _-_, _*_, _/_, _%_}
 use lib.Dec.{eqb, ltb, leb}

@@ -284,16 +284,14 @@ module _ (W : World) (v : validOf W ≡ true) where
   pub narrow-of-valid : W .bench .width ≤ 16
   narrow-of-valid = leb-true _ _ (and-right _ _ (limits-of W v .width))
 
-  pub ground-of-valid : length (W .bench .queue .arrays) ≡ 11
-      → Ground (W .bench .queue) (length (W .store))
-  ground-of-valid e =
+  pub ground-of-valid : Ground (W .bench .queue) (length (W .store))
+  ground-of-valid =
       let b = W .bench in
       let h = here (b .kind) (b .width) (b .queue) (length (W .store)) (lineAt (b .workers) 0) arrayed in
       let r = in-range (b .kind) (size (b .queue)) (b .queue .anchor) (h .small) anchored in
       record {
         some = arrayed .some;
         listed = omega (arith, arrayed .behind, arrayed .listed);
-        eleven = e;
         head = r .0;
         count = r .1;
         small = h .small;

@@ -100,11 +100,10 @@ InStore q n Publishes = Unit {0}
 InStore q n (Stops x) = Unit {0}
 InStore q n (Ends a x) = Unit {0}
 
--- what every line needs: a directory of eleven pairs, and a current array inside a store of n words
+-- what every line needs: a current array inside a store of n words
 pub record Ground (q : Queue) (n : ℕ) : Type 0 where
   pub some : 0 < q .published
   pub listed : q .published ≤ 11
-  pub eleven : length (q .arrays) ≡ 11
   pub head : q .anchor .head ≤ 65535
   pub count : q .anchor .count ≤ 65535
   pub small : size q ≤ 1024

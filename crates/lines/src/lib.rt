@@ -86,7 +86,7 @@ fn compare(kind: Kind, queue: Queue, worker: u32, read: Anchor, next: u32, task:
 
 // X1: to X2, or idle.
 fn past_claim(queue: Queue, store: &[u32], task: Task) -> Line
-    requires { ⌜ (0 < queue .published) × (queue .published ≤ 11) × (length (queue .arrays) ≡ 11) ⌝ }
+    requires { ⌜ (0 < queue .published) × (queue .published ≤ 11) ⌝ }
     requires { ⌜ Small queue (queue .published - 1) ⌝ }
     ensures { λ r. ⌜ ((i : ℕ) → r ≡ claims queue (now (store .entry)) i task .line) ⌝ }
 {
@@ -100,7 +100,7 @@ fn past_claim(queue: Queue, store: &[u32], task: Task) -> Line
 
 // X1, where `size` is the current array's: an array of twice the size behind it; where that does not fit, FULL.
 fn claim(queue: Queue, size: u32, store: &[u32], worker: u32, task: Task) -> Deed
-    requires { ⌜ (0 < queue .published) × (queue .published ≤ 11) × (length (queue .arrays) ≡ 11) ⌝ }
+    requires { ⌜ (0 < queue .published) × (queue .published ≤ 11) ⌝ }
     requires { ⌜ Small queue (queue .published - 1) ⌝ }
     requires { ⌜ Free queue ⌝ }
     requires { ⌜ size ≡ sizeAt (queue .arrays) (queue .published - 1) ⌝ }

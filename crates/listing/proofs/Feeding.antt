@@ -5,14 +5,12 @@ use mathlib.Core.Path.{_≡_, refl, ap, sym, subst, _∙_}
 use mathlib.Core.Bool.{Bool, true, false}
 use mathlib.Core.List.{List, _∷_, _++_, append-assoc, map}
 use lib.ListN.{length, take, drop, length-append, length-drop}
-use lib.Dec.{T}
 use lib.Seq.{sets-eq, take-at, length-take-le, drop-drop}
 use Rattle.model.specs.declared.Command.{Command}
 use Rattle.model.specs.declared.Command.the-variants.{Open, BeginPut, BeginTake, BeginSteal, Steps, End, Bad}
 use Rattle.model.specs.declared.Refusal.the-variants.{BadLine}
 use Rattle.model.specs.declared.Operation.the-variants.{Put, Take, Steal}
 use Rattle.model.specs.declared.Answer.the-variants.{Refused}
-use Rattle.model.specs.Tests.{if_then_else_}
 use Rattle.model.specs.Calls.{freshOf, beginOf}
 use Rattle.model.specs.Counts.{countsOf}
 use Rattle.model.specs.Listing.{Program, waiting, playing, ended, respond, listingFrom}
@@ -127,23 +125,21 @@ left-over b s m l e = ap (λ (x : Bool). leftBy x s m l) e
 
 -- the ways to stop
 module _ (P : Program) (buf : List ℕ) (s : Session) (m l out : List ℕ) (used wrote : ℕ) (h : used ≤ length buf) (k : wrote ≤ length out) where
-  pub fed-on : (full : Bool) → Heard P buf (take wrote out) (programOf s m l) (drop used buf) → (full ≡ false → spec.Open (drop used buf)) → (full ≡ true → length out < wrote + 72) →
-      FedBy P buf (record { session = s; used = used; wrote = wrote; stops = false; full = full }) m l out
-  fed-on full heard rest goes = record {
+  pub fed-on : Heard P buf (take wrote out) (programOf s m l) (drop used buf) → (wrote + 72 ≤ length out → spec.Open (drop used buf)) →
+      FedBy P buf (record { session = s; used = used; wrote = wrote; stops = false }) m l out
+  fed-on heard rest = record {
     within = h;
     room = k;
     heard = λ z. heard z ∙ ap (λ (Q : Program). take wrote out ++ listingOf Q (drop used buf ++ z)) (sym (left-on false s m l refl));
     rest = λ e. rest;
-    goes = goes;
   }
 
-  pub fed-over : (b : Bool) → b ≡ true → Heard P buf (take wrote out) (leftBy b s m l) (drop used buf) → FedBy P buf (record { session = s; used = used; wrote = wrote; stops = true; full = false }) m l out
+  pub fed-over : (b : Bool) → b ≡ true → Heard P buf (take wrote out) (leftBy b s m l) (drop used buf) → FedBy P buf (record { session = s; used = used; wrote = wrote; stops = true }) m l out
   fed-over b e heard = record {
     within = h;
     room = k;
     heard = λ z. heard z ∙ ap (λ (Q : Program). take wrote out ++ listingOf Q (drop used buf ++ z)) (left-over b s m l e);
     rest = λ x. never x;
-    goes = λ x. never (sym x);
   }
 
 pub nothing-open : (buf : List ℕ) (used : ℕ) → length buf ≤ used → spec.Open (drop used buf)

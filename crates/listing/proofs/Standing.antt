@@ -33,14 +33,14 @@ use Rattle.replies.specs.declared.Asked.the-variants.{Step}
 use Rattle.replies.specs.declared.Played.{Played}
 use Rattle.replies.specs.Shown.{shownAll}
 use Rattle.listing.specs.Listing.{front}
+use Rattle.listing.specs.Listing as spec
 use Rattle.replies.specs.Sessions.{worldOf, programOf, leftBy, PlayedBy}
 use Rattle.replies.specs.Choices.{askedOf, RefusedAtOnce}
-use Rattle.listing.specs.declared.Fed.{Fed}
 use Rattle.listing.specs.Feeding.{Reachable, FedBy}
 use Rattle.replies.proofs.Fronts.{lent-front}
 use Rattle.replies.proofs.Shows.{answer-most}
 use Rattle.replies.proofs.Replies.{played, program-live, left-on}
-use Rattle.listing.proofs.Feeding.{Heard, Onward, line-on, heard-next, fed-over}
+use Rattle.listing.proofs.Feeding.{Heard, Onward, line-on, heard-next, fed-on, fed-over}
 use Rattle.listing.proofs.Reaching.{respond-reach}
 
 -- what `feed` keeps of a session in place
@@ -56,9 +56,6 @@ pub record Standing (P : Program) (buf : List ℕ) (s : Session) (m l out : List
 
 pub standing-start : (s : Session) (buf m l out : List ℕ) → Reachable (programOf s m l) → Standing (programOf s m l) buf s m l out 0 0
 standing-start s buf m l out r = record { within = omega arith; fits = omega arith; heard = λ z. refl; reach = r }
-
-pub reach-left : (s : Session) (m l : List ℕ) → Reachable (programOf s m l) → Reachable (leftBy false s m l)
-reach-left s m l r = subst Reachable (sym (left-on false s m l refl)) r
 
 pub reach-over : (s : Session) (m l : List ℕ) → Reachable (leftBy true s m l)
 unfolding if_then_else_
@@ -82,7 +79,7 @@ module _ (P : Program) (buf : List ℕ) (s : Session) (m l out : List ℕ) (used
     reach = subst Reachable (left-on (p .stops) (p .session) m′ l′ q) reaches;
   }
 
-  pub standing-over : p .stops ≡ true → FedBy P buf (record { session = p .session; used = end + 1; wrote = p .end; stops = true; full = false }) m′ l′ out′
+  pub standing-over : p .stops ≡ true → FedBy P buf (record { session = p .session; used = end + 1; wrote = p .end; stops = true }) m′ l′ out′
   standing-over q = fed-over P buf (p .session) m′ l′ out′ (end + 1) (p .end) (on .within) (on .fits) (p .stops) q (on .heard)
 
 -- a line refused at once
@@ -151,9 +148,13 @@ made-front b w n m l i x y d e f g h o =
 pub in-front : (q : Queue) (w n : ℕ) (m : List ℕ) (d : Deed) → n ≡ min w (length m) → InStore q (length (take n m)) d → InStore q (length (take w m)) d
 in-front q w n m d e h = subst (λ (z : List ℕ). InStore q (length z) d) (lent-front w n m e) h
 
--- what feeding leaves, under another name
-pub fed-is : (P : Program) (buf m l out : List ℕ) {f g : Fed} → f ≡ g → FedBy P buf g m l out → Reachable (leftBy (g .stops) (g .session) m l) → FedBy P buf f m l out × Reachable (leftBy (f .stops) (f .session) m l)
-fed-is P buf m l out e h r = (subst (λ (x : Fed). FedBy P buf x m l out) (sym e) h, subst (λ (x : Fed). Reachable (leftBy (x .stops) (x .session) m l)) (sym e) r)
+-- feeding stops between two lines, the program not being over
+pub fed-so-far : {P : Program} {buf m l out : List ℕ} {s : Session} {used wrote : ℕ} {b : Bool} → Standing P buf s m l out used wrote → b ≡ false → (wrote + 72 ≤ length out → spec.Open (drop used buf)) →
+    FedBy P buf (record { session = s; used = used; wrote = wrote; stops = b }) m l out × Reachable (leftBy b s m l)
+fed-so-far {P} {buf} {m} {l} {out} {s} {used} {wrote} h e rest = (
+  subst (λ (x : Bool). FedBy P buf (record { session = s; used = used; wrote = wrote; stops = x }) m l out) (sym e) (fed-on P buf s m l out used wrote (h .within) (h .fits) (h .heard) rest),
+  subst Reachable (sym (left-on _ s m l e)) (h .reach),
+)
 
 -- a step leads on to what is reached
 pub reached-step : (W X : World) (i : ℕ) (a : Answer) → record { world = X; answer = a } ≡ stepOf W i → Reached W → Reached X

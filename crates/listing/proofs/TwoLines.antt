@@ -1,11 +1,11 @@
 -- A `step` line prints at most two lines: an operation ends once, and then its worker is idle, so that the next step is refused.
 use Prim.Native.Nat.{ℕ, zero, suc, _+_, _≤_}
 use native.Mathlib.Omega.{arith}
-use mathlib.Core.Path.{_≡_, refl, ap, sym, subst, _∙_}
+use mathlib.Core.Path.{_≡_, refl, ap, sym, _∙_}
 use mathlib.Core.Bool.{Bool, true, false}
 use mathlib.Core.List.{List, [], _++_}
 use mathlib.Core.Logic.{_⊎_, inl, inr, ⊎-elim}
-use lib.Dec.{T, ltb}
+use lib.Dec.{ltb}
 use lib.ListN.{length, set, length-append, List·getD-eq-default}
 use lib.Seq.{getD-set-same, set-out}
 use borrow.Author.Tests.{ltb-true, ltb-false}

@@ -1,8 +1,8 @@
 -- What feeding a buffer leaves, and what moving its rest to the front. m and l are the store and the log as feeding left them.
 use mathlib.Core.Path.{_≡_}
-use mathlib.Core.Bool.{true, false}
+use mathlib.Core.Bool.{false}
 use mathlib.Core.List.{List, _++_}
-use Prim.Native.Nat.{ℕ, _+_, _≤_, _<_}
+use Prim.Native.Nat.{ℕ, _+_, _≤_}
 use lib.ListN.{length, take, drop}
 use Rattle.model.specs.Listing.{Program, waiting, playing, ended}
 use Rattle.theorems.specs.Reached.{Reached}
@@ -24,8 +24,7 @@ pub record FedBy (P : Program) (buf : List ℕ) (f : Fed) (m l out : List ℕ) :
   pub within : f .used ≤ length buf
   pub room : f .wrote ≤ length out
   pub heard : (z : List ℕ) → listingOf P (buf ++ z) ≡ take (f .wrote) out ++ listingOf (leftBy (f .stops) (f .session) m l) (drop (f .used) buf ++ z)
-  pub rest : f .stops ≡ false → f .full ≡ false → lines.Open (drop (f .used) buf)
-  pub goes : f .full ≡ true → length out < f .wrote + 72
+  pub rest : f .stops ≡ false → f .wrote + 72 ≤ length out → lines.Open (drop (f .used) buf)
 
 -- the bytes from `from` to n stand in front now, of more than 61 the first 61
 pub record CarriedBy (buf : List ℕ) (from n r : ℕ) (after : List ℕ) : Type 0 where

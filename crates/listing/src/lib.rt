@@ -12,41 +12,17 @@ use model::Bench;
 use model::Worker;
 use replies::Asked;
 use replies::Judged;
+use replies::LONGEST;
 use replies::Session;
 use state::Stop;
 
-// What feeding a buffer left: the session, how many bytes were played and how many written, whether an accepted `end` was among
-// them, and whether feeding stopped because the output has no room for another line's text.
+// What feeding a buffer left: the session, how many bytes were played and how many written, and whether an accepted `end` was
+// among them.
 pub struct Fed {
     pub session: Session,
     pub used: usize,
     pub wrote: usize,
     pub stops: bool,
-    pub full: bool,
-}
-
-fn left_at(
-    live: bool,
-    words: u32,
-    bench: Bench,
-    used: usize,
-    wrote: usize,
-    stops: bool,
-    full: bool,
-) -> Fed
-    ensures { λ r.
-        ⌜
-        r ≡ record { session = record { live = live; words = words; bench = bench }; used = used; wrote = wrote; stops = stops; full = full }
-        ⌝ }
-{
-    let session = Session { live, words, bench };
-    Fed {
-        session,
-        used,
-        wrote,
-        stops,
-        full,
-    }
 }
 
 // Where the line that starts at `at` ends: at a newline byte or at the buffer's end.
@@ -81,14 +57,15 @@ pub fn feed(session: Session, buf: &[u8], store: &mut [u32], log: &mut [u32], ou
     let mut bench = session.bench;
     let mut used: usize = 0;
     let mut wrote: usize = 0;
+    let mut stops = false;
     let most = out.len();
     'lines: while used < buf.len() {
-        if most - wrote < 72 {
-            return left_at(live, words, bench, used, wrote, false, true);
+        if most - wrote < LONGEST {
+            break;
         }
         let end = line_end(buf, used);
         if end == buf.len() {
-            return left_at(live, words, bench, used, wrote, false, false);
+            break;
         }
         let command = text::parse(&buf[used..end]);
         used = end + 1;
@@ -108,13 +85,13 @@ pub fn feed(session: Session, buf: &[u8], store: &mut [u32], log: &mut [u32], ou
                 out,
                 wrote,
             );
-            let after = p.session;
-            live = after.live;
-            words = after.words;
-            bench = after.bench;
+            live = p.session.live;
+            words = p.session.words;
+            bench = p.session.bench;
             wrote = p.end;
             if p.stops {
-                return left_at(live, words, bench, used, wrote, true, false);
+                stops = true;
+                break;
             }
             continue;
         };
@@ -124,7 +101,7 @@ pub fn feed(session: Session, buf: &[u8], store: &mut [u32], log: &mut [u32], ou
         while 0 < left {
             let own = bench.workers[i];
             let line = own.line;
-            let stop = machine::step_stop(bench, worker, line);
+            let stop = machine::step_stop(bench.crew, worker, line);
             let Stop::No = stop else {
                 let answer = replies::refusal_of(stop);
                 wrote = replies::show(answer, out, wrote);
@@ -150,7 +127,12 @@ pub fn feed(session: Session, buf: &[u8], store: &mut [u32], log: &mut [u32], ou
             left -= 1;
         }
     }
-    left_at(live, words, bench, used, wrote, false, false)
+    Fed {
+        session: Session { live, words, bench },
+        used,
+        wrote,
+        stops,
+    }
 }
 
 fn least(a: usize, b: usize) -> usize

@@ -8,12 +8,10 @@ ghost use Prim.Native.Nat.{ℕ, _≤_, _<_};
 ghost use lib.ListN.{length};
 ghost use Rattle.model.specs.Answers.{ends};
 ghost use Rattle.model.specs.Lines.{eff};
-ghost use Rattle.model.specs.World.{lineAt};
-ghost use Rattle.model.specs.Limits.{validOf};
 ghost use Rattle.model.specs.Calls.{lent, commit};
 ghost use Rattle.lines.specs.Deeds.{withArray, queueBy, storeBy, answerBy, enact, InStore};
 ghost use Rattle.state.specs.Left.{left};
-ghost use Rattle.machine.specs.Steps.{StepStops};
+ghost use Rattle.machine.specs.Steps.{stopOf};
 use lines::Deed;
 use model::Answer;
 use model::Bench;
@@ -157,14 +155,10 @@ pub fn place_of(worker: u32) -> usize
 // step's refusals 6 and 8, of a worker that is at `line`, in a state within the limits. If there is none, `lines` has what the
 // line does. A caller that keeps its bench in place can so make a step that leaves all but the worker's record as it was by
 // replacing that record.
-pub fn step_stop(bench: Bench, worker: u32, line: Line) -> Stop
-    ensures { λ r.
-        ⌜
-        ((m l : List ℕ) → validOf (lent bench m l) ≡ true → (worker < 8 → line ≡ lineAt (bench .workers) worker)
-        → StepStops (lent bench m l) worker r)
-        ⌝ }
+pub fn step_stop(crew: u32, worker: u32, line: Line) -> Stop
+    ensures { λ r. ⌜ r ≡ stopOf crew worker line ⌝ }
 {
-    if bench.crew <= worker {
+    if crew <= worker {
         return Stop::Why {
             why: Refusal::NoSuchWorker,
         };

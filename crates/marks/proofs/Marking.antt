@@ -10,7 +10,7 @@ use lib.ListN.{length, getD, set}
 use lib.Seq.{getD-set-same, getD-set-other}
 use borrow.Author.Tests.{eq-eqb, ne-eqb, eqb-true, eqb-false}
 use Rattle.model.specs.Tests.{if_then_else_, _and_, _or_}
-use Rattle.model.specs.Counts.{entryAt, taskAt, isKind, sameTask, someBelow, countBelow, outAs, outWhole, outFirst}
+use Rattle.model.specs.Counts.{entryAt, taskAt, isKind, someBelow, countBelow, outAs, outWhole, outFirst}
 use Rattle.model.proofs.Tests.{holds, fails, and-left, and-right, and-both, and-false}
 use Rattle.model.proofs.Below.{some-at, up-miss}
 use Rattle.judgement.specs.Judgement.{allBelow, finishedAs, honest, listed}

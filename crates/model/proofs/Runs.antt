@@ -1,12 +1,12 @@
 -- Runs as rows of a table: what is played, and what it shows.
-use mathlib.Core.List.{List, [], _∷_, map}
+use mathlib.Core.List.{List, _∷_, map}
 use Prim.Native.Nat.{ℕ}
 use lib.ListN.{replicate}
 use Rattle.model.specs.declared.Answer.{Answer}
 use Rattle.model.specs.declared.Command.{Command}
-use Rattle.model.specs.World.{World, Outcome}
+use Rattle.model.specs.World.{Outcome}
 use Rattle.model.specs.Calls.{freshOf, Call}
-use Rattle.model.specs.Run.{Played, played}
+use Rattle.model.specs.Run.{played}
 use Rattle.model.specs.Listing.{Print, listing}
 
 -- commands of the program; or calls of the library after a fresh with a kind, width, size, workers, and so many words of

@@ -35,7 +35,6 @@ use Rattle.model.specs.declared.Line.the-variants.{
   StealNext,
   StealCompare,
 }
-use Rattle.model.specs.declared.Region.{Region}
 use Rattle.model.specs.declared.Queue.{Queue}
 use Rattle.model.specs.declared.Answer.{Answer}
 use Rattle.model.specs.declared.Answer.the-variants.{GoesOn, Finished, HandedOut, Empty, Full}

@@ -2,16 +2,16 @@
 use mathlib.Core.Path.{_≡_, refl, sym, ap, _∙_, subst}
 use mathlib.Core.Bool.{Bool, true, false, not}
 use mathlib.Core.List.{List}
-use Prim.Native.Nat.{ℕ, _+_, _≤_, _<_}
+use Prim.Native.Nat.{ℕ, _+_, _<_}
 use native.Mathlib.Omega.{arith}
-use lib.Dec.{eqb, ltb}
+use lib.Dec.{ltb}
 use lib.ListN.{length, getD, set}
 use lib.Seq.{getD-set-same, getD-set-other}
 use borrow.Author.Tests.{ltb-true, ltb-false}
 use Rattle.model.specs.Tests.{_or_}
 use Rattle.model.specs.Counts.{entryAt, isKind}
 use Rattle.judgement.specs.Judgement.{allBelow, numbered, rises}
-use Rattle.puts.specs.Puts.{numberOfPut, Rising, Gathered}
+use Rattle.puts.specs.Puts.{Rising, Gathered}
 use Rattle.judgement.proofs.All.{all-at}
 
 pub clash : true ≡ false → ⊥

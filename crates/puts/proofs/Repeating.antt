@@ -1,15 +1,15 @@
 -- Which finished put a hand-out repeats. A put number has one finished put, for the numbers rise.
-use mathlib.Core.Path.{_≡_, refl, sym, ap, _∙_, subst}
+use mathlib.Core.Path.{_≡_, refl, sym, ap, _∙_}
 use mathlib.Core.Bool.{Bool, true, false}
 use mathlib.Core.List.{List}
-use Prim.Native.Nat.{ℕ, zero, suc, _+_, _≤_, _<_}
+use Prim.Native.Nat.{ℕ, zero, suc, _≤_, _<_}
 use native.Mathlib.Omega.{arith}
-use lib.Dec.{eqb, ltb}
+use lib.Dec.{ltb}
 use lib.ListN.{getD}
-use borrow.Author.Tests.{ltb-true, ltb-false, eq-eqb, ne-eqb, eqb-true, eqb-false}
+use borrow.Author.Tests.{ltb-true, ltb-false, eq-eqb, eqb-true, eqb-false}
 use Rattle.model.specs.Tests.{_and_, _or_}
-use Rattle.model.specs.Counts.{entryAt, taskAt, isKind, sameTask, someBelow}
-use Rattle.model.proofs.Tests.{fails, and-left, and-right, and-both, and-false}
+use Rattle.model.specs.Counts.{entryAt, isKind, someBelow}
+use Rattle.model.proofs.Tests.{fails, and-left, and-right, and-both}
 use Rattle.judgement.specs.Judgement.{finishedAs}
 use Rattle.puts.specs.Puts.{numberOfPut, Rising, FoundBy, Gathered, RepeatsPut}
 

@@ -77,7 +77,7 @@ impl Bench {
         let i = machine::place_of(worker);
         let own = next.workers[i];
         let line = own.line;
-        let stop = machine::step_stop(next, worker, line);
+        let stop = machine::step_stop(next.crew, worker, line);
         if let Stop::Why { why } = stop {
             return refused(self, why);
         }

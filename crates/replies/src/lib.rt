@@ -38,6 +38,9 @@ use model::Operation;
 use model::Refusal;
 use state::Stop;
 
+// The longest text of a line, in bytes: `T` and six counts. A line is played only where the output has room for it.
+pub const LONGEST: usize = 72;
+
 // The program between two lines: whether a `queue` was accepted, and then its bench, on the first `words` words of the store.
 pub struct Session {
     pub live: bool,

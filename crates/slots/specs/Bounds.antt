@@ -1,15 +1,10 @@
 -- What the code of a place in the store needs to stay in range.
 use mathlib.Core.Path.{_≡_}
 use Prim.Native.Nat.{ℕ, _+_, _*_, _^_, _≤_, _<_}
-use lib.ListN.{length}
 use Rattle.model.specs.declared.Kind.{Kind}
 use Rattle.model.specs.declared.Queue.{Queue}
 use Rattle.model.specs.Memory.{offsetAt, sizeAt}
 use Rattle.model.specs.Figures.{slot}
-
--- place k of the directory is one of its eleven
-abbrev pub Listed : Queue → ℕ → Type 0
-Listed q k = (k < 11) × (length (q .arrays) ≡ 11)
 
 -- a power of two
 abbrev pub Power : ℕ → Type 0

@@ -9,7 +9,7 @@ ghost use Rattle.model.specs.Memory.{offsetAt, sizeAt};
 ghost use Rattle.model.specs.Figures.{slot, putIndex, takeIndex, stealIndex};
 ghost use Rattle.model.specs.Lines.{wordOf, fits};
 ghost use Rattle.model.specs.Limits.{someOk};
-ghost use Rattle.slots.specs.Bounds.{Listed, Power, Slotted, Inside, Small};
+ghost use Rattle.slots.specs.Bounds.{Power, Slotted, Inside, Small};
 use model::Anchor;
 use model::Kind;
 use model::Queue;
@@ -67,7 +67,7 @@ fn steal_index(kind: Kind, read: Anchor) -> u32
 
 // The array at place `at` of the directory: its size in tasks, half of its words.
 pub fn size_at(queue: Queue, at: usize) -> u32
-    requires { ⌜ Listed queue at ⌝ }
+    requires { ⌜ at < 11 ⌝ }
     ensures { λ r. ⌜ r ≡ sizeAt (queue .arrays) at ⌝ }
 {
     let region = queue.arrays[at];
@@ -76,7 +76,7 @@ pub fn size_at(queue: Queue, at: usize) -> u32
 
 // The first word behind it.
 pub fn end_of(queue: Queue, at: usize) -> u32
-    requires { ⌜ Listed queue at ⌝ }
+    requires { ⌜ at < 11 ⌝ }
     requires { ⌜ Small queue at ⌝ }
     ensures { λ r. ⌜ r ≡ offsetAt (queue .arrays) at + 2 * sizeAt (queue .arrays) at ⌝ }
 {
@@ -87,7 +87,7 @@ pub fn end_of(queue: Queue, at: usize) -> u32
 
 // Where word `word` of index `index` lies in that array: word 0 is the put number, word 1 the payload.
 pub fn place(kind: Kind, queue: Queue, at: usize, index: u32, word: usize) -> usize
-    requires { ⌜ Listed queue at ⌝ }
+    requires { ⌜ at < 11 ⌝ }
     requires { ⌜ Slotted kind queue at index ⌝ }
     requires { ⌜ word ≤ 1 ⌝ }
     ensures { λ r. ⌜ r ≡ offsetAt (queue .arrays) at + 2 * slot kind (sizeAt (queue .arrays) at) index + word ⌝ }
@@ -101,7 +101,7 @@ pub fn place(kind: Kind, queue: Queue, at: usize, index: u32, word: usize) -> us
 
 // That word, read.
 pub fn read_word(kind: Kind, queue: Queue, at: usize, index: u32, word: usize, store: &[u32]) -> u32
-    requires { ⌜ Listed queue at ⌝ }
+    requires { ⌜ at < 11 ⌝ }
     requires { ⌜ Slotted kind queue at index ⌝ }
     requires { ⌜ Inside queue (length (now store)) at ⌝ }
     requires { ⌜ word ≤ 1 ⌝ }
@@ -113,7 +113,7 @@ pub fn read_word(kind: Kind, queue: Queue, at: usize, index: u32, word: usize, s
 
 // Put 3a, 3b (FIFO 4a, 4b): where the task's word is written.
 pub fn put_place(kind: Kind, queue: Queue, at: usize, read: Anchor, word: usize) -> usize
-    requires { ⌜ Listed queue at ⌝ }
+    requires { ⌜ at < 11 ⌝ }
     requires { ⌜ (read .head ≤ 65535) × (read .count ≤ 65535) ⌝ }
     requires { ⌜ Slotted kind queue at (putIndex kind read) ⌝ }
     requires { ⌜ word ≤ 1 ⌝ }
@@ -132,7 +132,7 @@ pub fn taken_word(
     word: usize,
     store: &[u32],
 ) -> u32
-    requires { ⌜ Listed queue at ⌝ }
+    requires { ⌜ at < 11 ⌝ }
     requires { ⌜ (read .head ≤ 65535) × (read .count ≤ 65535) ⌝ }
     requires { ⌜ someOk kind read ≡ true ⌝ }
     requires { ⌜ Slotted kind queue at (takeIndex kind read) ⌝ }
@@ -153,7 +153,7 @@ pub fn stolen_word(
     word: usize,
     store: &[u32],
 ) -> u32
-    requires { ⌜ Listed queue at ⌝ }
+    requires { ⌜ at < 11 ⌝ }
     requires { ⌜ someOk kind read ≡ true ⌝ }
     requires { ⌜ Slotted kind queue at (stealIndex kind read) ⌝ }
     requires { ⌜ Inside queue (length (now store)) at ⌝ }
@@ -166,7 +166,7 @@ pub fn stolen_word(
 
 // X1's condition: twice the size is at most 1,024, and the store's words left are enough.
 pub fn has_room(queue: Queue, store: &[u32]) -> bool
-    requires { ⌜ (0 < queue .published) × (queue .published ≤ 11) × (length (queue .arrays) ≡ 11) ⌝ }
+    requires { ⌜ (0 < queue .published) × (queue .published ≤ 11) ⌝ }
     requires { ⌜ Small queue (queue .published - 1) ⌝ }
     ensures { λ r. ⌜ r ≡ fits queue (now (store .entry)) ⌝ }
 {

@@ -1,13 +1,13 @@
 -- A line of more than 60 bytes is no command: a keyword has at most five bytes, and each of at most five numbers a space and at most ten digits.
-use Prim.Native.Nat.{ℕ, zero, suc, _+_, _-_, _*_, _^_, _≤_, _<_}
+use Prim.Native.Nat.{ℕ, suc, _+_, _-_, _*_, _^_, _≤_, _<_}
 use native.Mathlib.Omega.{arith}
-use native.Mathlib.Nat.{pow-suc, pow-zero, pow-le-pow-right, mul-le-mul-left, mul-le-mul-right, le-trans, mul-assoc, mul-comm, mul-one, le-of-eq}
+use native.Mathlib.Nat.{pow-suc, pow-le-pow-right, mul-le-mul-right, le-trans, mul-assoc, mul-comm, le-of-eq}
 use mathlib.Core.Path.{_≡_, refl, ap, sym, subst, _∙_}
-use mathlib.Core.Bool.{Bool, true, false, not}
-use mathlib.Core.List.{List, [], _∷_, _++_}
-use lib.ListN.{length, getD}
+use mathlib.Core.Bool.{Bool, true, false}
+use mathlib.Core.List.{List, [], _∷_}
+use lib.ListN.{length}
 use lib.Dec.{T, leb, ltb, eqb}
-use borrow.Author.Tests.{ltb-true, ltb-false, leb-true, eqb-true, eqb-false, not-true}
+use borrow.Author.Tests.{ltb-true, ltb-false, leb-true, eqb-false, not-true}
 use Rattle.model.specs.Tests.{_and_, if_then_else_}
 use Rattle.text.specs.Same.{same}
 use Rattle.text.specs.Numbers.{allDigits, plain, onward, valueOf}

@@ -1,23 +1,19 @@
 -- A line that says a command is read as that command.
-use Prim.Native.Nat.{ℕ, zero, suc, _+_, _-_, _*_, _^_, _≤_, _<_}
+use Prim.Native.Nat.{ℕ, _+_, _-_, _≤_}
 use native.Mathlib.Omega.{arith}
-use mathlib.Core.Path.{_≡_, refl, ap, sym, subst, _∙_}
-use mathlib.Core.Bool.{Bool, true, false, not}
+use mathlib.Core.Path.{_≡_, refl, ap, _∙_}
+use mathlib.Core.Bool.{true}
 use mathlib.Core.List.{List, [], _∷_, _++_, append-nil}
-use lib.ListN.{length, getD}
-use lib.Dec.{T, leb, ltb, eqb}
+use lib.Dec.{eqb}
 use borrow.Author.Tests.{le-leb, leb-true, ne-eqb}
 use Rattle.model.specs.Tests.{_and_, if_then_else_}
 use Rattle.text.specs.Same.{same}
-use Rattle.text.specs.Numbers.{allDigits, plain, onward, valueOf, decimalOf, spacedOf}
+use Rattle.text.specs.Numbers.{allDigits, decimalOf, spacedOf}
 use Rattle.text.specs.Words.{onto, words, head, tail}
-use Rattle.text.specs.Commands.{Values, wrong, these, joined, values, formed, formedOf, keyOf, commandOf, textOf, InRange}
-use Rattle.text.specs.declared.Value.{Value}
-use Rattle.text.specs.declared.Value.the-variants.{No, Of}
-use Rattle.text.specs.declared.Key as key
+use Rattle.text.specs.Commands.{these, joined, values, formed, formedOf, keyOf, commandOf, textOf, InRange}
 use Rattle.model.specs.declared.Command.the-variants.{Bad, BeginPut, BeginSteal, BeginTake, End, Open, Steps}
 use Rattle.model.specs.declared.Command.{Command}
-use Rattle.text.proofs.Lists.{if-true, if-false, and-left, and-right}
+use Rattle.text.proofs.Lists.{if-false, and-left, and-right}
 use Rattle.text.proofs.Split.{split}
 use Rattle.text.proofs.Spell.{read-back, decimal-digits}
 

@@ -3,18 +3,18 @@ use Prim.Native.Nat.{ℕ, zero, suc, _+_, _-_, _*_, _/_, _%_, _^_, _≤_, _<_}
 use native.Mathlib.Nat.{pow-suc, div-lt-iff-lt-mul}
 use native.Mathlib.Omega.{arith}
 use mathlib.Core.Path.{_≡_, refl, ap, sym, _∙_}
-use mathlib.Core.Bool.{Bool, true, false, not}
+use mathlib.Core.Bool.{Bool, true, false}
 use mathlib.Core.List.{List, [], _∷_, _++_, append-assoc}
 use lib.ListN.{length, getD, set, take, drop, length-append, take-append-drop, List·getD-append}
 use lib.Seq.{sets}
-use lib.Dec.{ltb, leb, eqb}
+use lib.Dec.{ltb, leb}
 use borrow.Author.Tests.{lt-ltb, le-ltb, le-leb, ltb-true, ltb-false, ne-eqb}
 use Rattle.model.specs.Tests.{_and_, if_then_else_}
 use Rattle.text.specs.Numbers.{allDigits, plain, onward, valueOf, spelled, decimalOf, Placed, spacedOf, lineOf}
 use Rattle.text.specs.declared.Value.{Value}
-use Rattle.text.specs.declared.Value.the-variants.{No, Of}
+use Rattle.text.specs.declared.Value.the-variants.{Of}
 use Rattle.text.proofs.Lists.{if-true, if-false, sets-append, next}
-use Rattle.text.proofs.Digits.{plain-one, plain-more}
+use Rattle.text.proofs.Digits.{plain-more}
 
 below : (n : ℕ) {C : Type 0} → (n < 10 → C) → (10 ≤ n → C) → C
 below n {C} f g = go (ltb n 10) refl

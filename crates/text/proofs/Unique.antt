@@ -1,13 +1,13 @@
 -- A line is read as a command only if it is the line that says it.
-use Prim.Native.Nat.{ℕ, zero, suc, _+_, _-_, _*_, _^_, _≤_, _<_}
+use Prim.Native.Nat.{ℕ, suc, _+_, _-_, _*_, _^_, _≤_, _<_}
 use native.Mathlib.Omega.{arith}
-use native.Mathlib.Nat.{pow-suc, pow-le-pow-right, mul-le-mul-right, le-trans, mul-assoc, mul-comm, le-of-eq, lt-of-lt-of-le, one-mul}
+use native.Mathlib.Nat.{pow-suc, pow-le-pow-right, mul-le-mul-right, le-trans, mul-assoc, mul-comm, le-of-eq, lt-of-lt-of-le}
 use mathlib.Core.Path.{_≡_, refl, ap, sym, subst, _∙_}
 use mathlib.Core.Bool.{Bool, true, false, not}
-use mathlib.Core.List.{List, [], _∷_, _++_, append-nil}
-use lib.ListN.{length, getD, drop}
+use mathlib.Core.List.{List, [], _∷_, _++_}
+use lib.ListN.{length, getD}
 use lib.Dec.{T, leb, ltb, eqb}
-use borrow.Author.Tests.{leb-true, eqb-true, eqb-false, ltb-true, ltb-false, not-true, eq-eqb, ne-eqb}
+use borrow.Author.Tests.{leb-true, eqb-true, eqb-false, ltb-true, ltb-false, not-true}
 use Rattle.model.specs.Tests.{_and_, if_then_else_}
 use Rattle.text.specs.Same.{same}
 use Rattle.text.specs.Numbers.{allDigits, plain, onward, valueOf, decimalOf, spacedOf}

@@ -5,12 +5,11 @@ use mathlib.Core.Logic.{_≢_, _⊎_, inl, inr}
 use mathlib.Core.List.{List, _++_}
 use Prim.Native.Nat.{ℕ, zero, suc, _+_, _-_, _*_, _/_, _^_, _≤_, _<_}
 use native.Mathlib.Omega.{arith}
-use native.Mathlib.Nat.{mul-div-cancel-left}
 use lib.Dec.{eqb, leb}
 use lib.Pow.{pow-mono}
 use lib.ListN.{length, getD, set, take, drop, replicate, List·getD-append, length-set, length-replicate, getD-replicate}
 use lib.Seq.{getD-set-other, getD-set-same, getD-append-add, length-take-le, set-out}
-use borrow.Author.Tests.{eqb-true, leb-true, eq-eqb, le-leb}
+use borrow.Author.Tests.{eq-eqb, le-leb}
 use Rattle.model.specs.declared.Region.{Region}
 use Rattle.model.specs.declared.Queue.{Queue}
 use Rattle.model.specs.Tests.{_and_, _or_}

@@ -42,7 +42,7 @@ use Rattle.model.specs.declared.Answer.the-variants.{Refused}
 use Rattle.model.specs.Tests.{if_then_else_}
 use Rattle.model.specs.Figures.{isFull, isEmpty, isSame, putRead, takeRead, stealRead, note, stealLast}
 use Rattle.model.specs.Lines.{Effect, size, fits, lineStep}
-use Rattle.model.specs.World.{World, Outcome, lineAt, isSteal1}
+use Rattle.model.specs.World.{Outcome, lineAt, isSteal1}
 use Rattle.model.specs.Calls.{oneMore}
 use Rattle.theorems.specs.Restarts.{failsCompare, RestartsAreFailedCompares}
 use Rattle.theorems.proofs.Cases.{step-cases}

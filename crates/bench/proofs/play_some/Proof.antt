@@ -3,7 +3,6 @@ use borrow.Author.Needs.{needs}
 use Prim.Native.Nat.{_≤_}
 use mathlib.Core.Path.{_≡_, refl, sym, subst, _∙_}
 use lib.ListN.{length, length-take, length-drop}
-use lib.Seq.{length-take-le}
 use Rattle.replies.specs.Sessions.{programOf}
 use Rattle.listing.specs.Feeding.{Reachable}
 use Rattle.replies.proofs.Ways.{never}
@@ -12,13 +11,14 @@ use Rattle.bench.proofs.play_some.Statement.{statement}
 use Rattle.bench.proofs.play_some.Tie as tie
 
 abbrev Inv-loop : tie.InvT-loop
-Inv-loop buf₀ n store₀ log₀ out₀ current₀ from₀ turns₀ t14 buf store log out current from turns = (from ≤ n) × (n ≤ length buf) × (length buf ≡ length buf₀) × (length store ≡ length store₀) × (length log ≡ length log₀) × (length out ≡ length out₀) × (length t14 ≡ 5) × Reachable (programOf current store log)
+Inv-loop buf₀ n store₀ log₀ out₀ current₀ from₀ turns₀ buf store log out current from turns =
+    (from ≤ n) × (n ≤ length buf) × (length buf ≡ length buf₀) × (length store ≡ length store₀) × (length log ≡ length log₀) × (length out ≡ length out₀) × Reachable (programOf current store log)
 
 abbrev μ-loop : tie.MeasureT-loop
-μ-loop buf₀ n store₀ log₀ out₀ current₀ from₀ turns₀ t14 buf store log out current from turns = turns
+μ-loop buf₀ n store₀ log₀ out₀ current₀ from₀ turns₀ buf store log out current from turns = turns
 
 loop-holds : tie.Need-loop-holds Inv-loop μ-loop
-loop-holds c = (omega arith, omega arith, refl, refl, refl, refl, refl, c .before .before .before .before .pre .1)
+loop-holds c = (omega arith, omega arith, refl, refl, refl, refl, c .before .before .before .before .pre .1)
 
 sub-turns : tie.Need-sub-turns Inv-loop μ-loop
 sub-turns c = omega arith
@@ -33,104 +33,134 @@ part-feed-end : tie.Need-part-feed-end Inv-loop μ-loop
 part-feed-end c = omega arith
 
 feed-requires : tie.Need-feed-requires Inv-loop μ-loop
-feed-requires c κs = c .before .before .before .before .before .before .loop .inv .7
+feed-requires c κs = c .before .before .before .before .before .before .loop .inv .6
 
 add-from : tie.Need-add-from Inv-loop μ-loop
-add-from c = omega (arith, c .before .before .before .before .before .before .before .before .before .before .before .before .before .before .loop .inv .0, simp (length-take, length-drop) at ((c .before .before .before .before .before .before .before .feed .ensures .0) .within))
+add-from c =
+    let at-loop = c .before .before .before .before .before .before .before .before .before .before .before .before .before .before in
+    omega (arith, at-loop .loop .inv .0, simp (length-take, length-drop) at ((c .before .before .before .before .before .before .before .feed .ensures .0) .within))
 
-slice-reshare-prefix-write-all : tie.Need-slice-reshare-prefix-write-all Inv-loop μ-loop
-slice-reshare-prefix-write-all c = omega (arith, (c .before .before .before .before .before .before .before .feed .ensures .0) .room)
+write-out-requires : tie.Need-write-out-requires Inv-loop μ-loop
+write-out-requires c κs =
+    let at-feed = c .before .before .before .before .before .before .before .before in
+    (at-feed .feed .ensures .0) .room
 
-slice-aggregate-write-all : tie.Need-slice-aggregate-write-all Inv-loop μ-loop
-slice-aggregate-write-all c = sym (length-take-le _ _ ((c .before .before .before .before .before .before .before .before .feed .ensures .0) .room))
-
-write-all-requires : tie.Need-write-all-requires Inv-loop μ-loop
-write-all-requires c κs = search needs
-
-slice-aggregate-fail : tie.Need-slice-aggregate-fail Inv-loop μ-loop
-slice-aggregate-fail c = search needs
-
-fail-requires : tie.Need-fail-requires Inv-loop μ-loop
-fail-requires c κs = search needs
-
-same-length : tie.Need-same-length Inv-loop μ-loop
-same-length c = c .before .before .before .before .before .before .before .before .before .before .before .before .before .before .before .before .before .before .before .loop .inv .2
-
-same-length-2 : tie.Need-same-length-2 Inv-loop μ-loop
-same-length-2 c = c .before .before .before .before .before .before .before .before .before .before .before .before .feed .kept .1 .1 .0 ∙ c .before .before .before .before .before .before .before .before .before .before .before .before .before .before .before .before .before .before .before .loop .inv .3
-
-same-length-3 : tie.Need-same-length-3 Inv-loop μ-loop
-same-length-3 c = c .before .before .before .before .before .before .before .before .before .before .before .before .feed .kept .1 .1 .1 .0 ∙ c .before .before .before .before .before .before .before .before .before .before .before .before .before .before .before .before .before .before .before .loop .inv .4
-
-same-length-4 : tie.Need-same-length-4 Inv-loop μ-loop
-same-length-4 c = c .before .before .before .before .before .before .before .before .before .before .before .before .feed .kept .1 .1 .1 .1 .0 ∙ c .before .before .before .before .before .before .before .before .before .before .before .before .before .before .before .before .before .before .before .loop .inv .5
-
-returns : tie.Need-returns Inv-loop μ-loop
-returns c = ((omega arith, omega arith), λ e. never (sym e))
-
-same-length-5 : tie.Need-same-length-5 Inv-loop μ-loop
-same-length-5 c = c .before .before .before .before .before .before .before .before .before .before .before .before .before .before .before .before .before .before .loop .inv .2
-
-same-length-6 : tie.Need-same-length-6 Inv-loop μ-loop
-same-length-6 c = c .before .before .before .before .before .before .before .before .before .before .before .feed .kept .1 .1 .0 ∙ c .before .before .before .before .before .before .before .before .before .before .before .before .before .before .before .before .before .before .loop .inv .3
-
-same-length-7 : tie.Need-same-length-7 Inv-loop μ-loop
-same-length-7 c = c .before .before .before .before .before .before .before .before .before .before .before .feed .kept .1 .1 .1 .0 ∙ c .before .before .before .before .before .before .before .before .before .before .before .before .before .before .before .before .before .before .loop .inv .4
-
-same-length-8 : tie.Need-same-length-8 Inv-loop μ-loop
-same-length-8 c = c .before .before .before .before .before .before .before .before .before .before .before .feed .kept .1 .1 .1 .1 .0 ∙ c .before .before .before .before .before .before .before .before .before .before .before .before .before .before .before .before .before .before .loop .inv .5
-
-returns-2 : tie.Need-returns-2 Inv-loop μ-loop
-returns-2 c = ((omega arith, omega arith), λ e. never (sym e))
+sub-if3 : tie.Need-sub-if3 Inv-loop μ-loop
+sub-if3 c =
+    let at-feed = c .before .before .before .before .before .before .before .before .before .before .before in
+    (at-feed .feed .ensures .0) .room
 
 carry-requires : tie.Need-carry-requires Inv-loop μ-loop
 carry-requires c κs = search needs
 
-same-length-9 : tie.Need-same-length-9 Inv-loop μ-loop
-same-length-9 c = c .before .before .carry .kept .0 ∙ c .before .before .before .before .before .before .before .before .before .before .before .before .before .before .before .before .before .before .before .before .before .before .before .before .loop .inv .2
+same-length : tie.Need-same-length Inv-loop μ-loop
+same-length c =
+    let at-loop = c .before .before .before .before .before .before .before .before .before .before .before .before .before .before .before .before .before .before .before .before .before .before .before in
+    c .before .before .carry .kept .0 ∙ at-loop .loop .inv .2
 
-same-length-10 : tie.Need-same-length-10 Inv-loop μ-loop
-same-length-10 c = c .before .before .before .before .before .before .before .before .before .before .before .before .before .before .before .before .before .feed .kept .1 .1 .0 ∙ c .before .before .before .before .before .before .before .before .before .before .before .before .before .before .before .before .before .before .before .before .before .before .before .before .loop .inv .3
+same-length-2 : tie.Need-same-length-2 Inv-loop μ-loop
+same-length-2 c =
+    let at-feed = c .before .before .before .before .before .before .before .before .before .before .before .before .before .before .before .before in
+    let at-loop = c .before .before .before .before .before .before .before .before .before .before .before .before .before .before .before .before .before .before .before .before .before .before .before in
+    at-feed .feed .kept .1 .1 .0 ∙ at-loop .loop .inv .3
 
-same-length-11 : tie.Need-same-length-11 Inv-loop μ-loop
-same-length-11 c = c .before .before .before .before .before .before .before .before .before .before .before .before .before .before .before .before .before .feed .kept .1 .1 .1 .0 ∙ c .before .before .before .before .before .before .before .before .before .before .before .before .before .before .before .before .before .before .before .before .before .before .before .before .loop .inv .4
+same-length-3 : tie.Need-same-length-3 Inv-loop μ-loop
+same-length-3 c =
+    let at-feed = c .before .before .before .before .before .before .before .before .before .before .before .before .before .before .before .before in
+    let at-loop = c .before .before .before .before .before .before .before .before .before .before .before .before .before .before .before .before .before .before .before .before .before .before .before in
+    at-feed .feed .kept .1 .1 .1 .0 ∙ at-loop .loop .inv .4
 
-same-length-12 : tie.Need-same-length-12 Inv-loop μ-loop
-same-length-12 c = c .before .before .before .before .before .before .before .before .before .before .before .before .before .before .before .before .before .feed .kept .1 .1 .1 .1 .0 ∙ c .before .before .before .before .before .before .before .before .before .before .before .before .before .before .before .before .before .before .before .before .before .before .before .before .loop .inv .5
+same-length-4 : tie.Need-same-length-4 Inv-loop μ-loop
+same-length-4 c =
+    let at-feed = c .before .before .before .before .before .before .before .before .before .before .before .before .before .before .before .before in
+    let at-loop = c .before .before .before .before .before .before .before .before .before .before .before .before .before .before .before .before .before .before .before .before .before .before .before in
+    at-feed .feed .kept .1 .1 .1 .1 .0 ∙ at-loop .loop .inv .5
 
-returns-3 : tie.Need-returns-3 Inv-loop μ-loop
-returns-3 c =
-    let at-feed = c .before .before .before .before .before .before .before .before .before .before .before .before .before .before .before .before .before in
-    let k = simp (length-take, length-drop) at (c .before .before .carry .ensures .count) in ((omega (arith, k), omega (arith, k, c .before .before .carry .kept .0)), λ e. subst Reachable (left-on _ (at-feed .feed .result .session) (at-feed .feed .last .1 .1 .0) (at-feed .feed .last .1 .1 .1 .0) (c .before .before .before .before .before .before .if2 .left)) (at-feed .feed .ensures .1))
+returns : tie.Need-returns Inv-loop μ-loop
+returns c =
+    let at-feed = c .before .before .before .before .before .before .before .before .before .before .before .before .before .before .before .before in
+    let k = simp (length-take, length-drop) at (c .before .before .carry .ensures .count) in ((omega (arith, k), omega (arith, k, c .before .before .carry .kept .0)), λ e. subst Reachable (left-on _ (at-feed .feed .result .session) (at-feed .feed .last .1 .1 .0) (at-feed .feed .last .1 .1 .1 .0) (c .before .before .before .before .before .if2 .left)) (at-feed .feed .ensures .1))
 
 loop-less : tie.Need-loop-less Inv-loop μ-loop
 loop-less c = omega arith
 
 loop-again : tie.Need-loop-again Inv-loop μ-loop
 loop-again c =
-    let at-feed = c .before .before .before .before .before .before .before .before .before .before .before .before .before in
-    let l = c .before .before .before .before .before .before .before .before .before .before .before .before .before .before .before .before .before .before .before .before .loop in (
+    let at-loop = c .before .before .before .before .before .before .before .before .before .before .before .before .before .before .before .before .before .before .before in
+    let at-feed = c .before .before .before .before .before .before .before .before .before .before .before .before in
+    let l = at-loop .loop in (
       omega (arith, l .inv .0, simp (length-take, length-drop) at ((at-feed .feed .ensures .0) .within)),
       l .inv .1,
       l .inv .2,
       at-feed .feed .kept .1 .1 .0 ∙ l .inv .3,
       at-feed .feed .kept .1 .1 .1 .0 ∙ l .inv .4,
       at-feed .feed .kept .1 .1 .1 .1 .0 ∙ l .inv .5,
-      l .inv .6,
-      subst Reachable (left-on _ (at-feed .feed .result .session) (at-feed .feed .last .1 .1 .0) (at-feed .feed .last .1 .1 .1 .0) (c .before .before .if2 .left)) (at-feed .feed .ensures .1),
+      subst Reachable (left-on _ (at-feed .feed .result .session) (at-feed .feed .last .1 .1 .0) (at-feed .feed .last .1 .1 .1 .0) (c .before .if2 .left)) (at-feed .feed .ensures .1),
     )
 
+same-length-5 : tie.Need-same-length-5 Inv-loop μ-loop
+same-length-5 c = c .before .loop .inv .2
+
+same-length-6 : tie.Need-same-length-6 Inv-loop μ-loop
+same-length-6 c = c .before .loop .inv .3
+
+same-length-7 : tie.Need-same-length-7 Inv-loop μ-loop
+same-length-7 c = c .before .loop .inv .4
+
+same-length-8 : tie.Need-same-length-8 Inv-loop μ-loop
+same-length-8 c = c .before .loop .inv .5
+
+returns-2 : tie.Need-returns-2 Inv-loop μ-loop
+returns-2 c = ((omega arith, omega arith), λ e. never (sym e))
+
+same-length-9 : tie.Need-same-length-9 Inv-loop μ-loop
+same-length-9 c =
+    let at-loop = c .before .before .before .before .before .before .before .before .before .before .before .before .before .before .before .before .before in
+    at-loop .loop .inv .2
+
+same-length-10 : tie.Need-same-length-10 Inv-loop μ-loop
+same-length-10 c =
+    let at-feed = c .before .before .before .before .before .before .before .before .before .before in
+    let at-loop = c .before .before .before .before .before .before .before .before .before .before .before .before .before .before .before .before .before in
+    at-feed .feed .kept .1 .1 .0 ∙ at-loop .loop .inv .3
+
+same-length-11 : tie.Need-same-length-11 Inv-loop μ-loop
+same-length-11 c =
+    let at-feed = c .before .before .before .before .before .before .before .before .before .before in
+    let at-loop = c .before .before .before .before .before .before .before .before .before .before .before .before .before .before .before .before .before in
+    at-feed .feed .kept .1 .1 .1 .0 ∙ at-loop .loop .inv .4
+
+same-length-12 : tie.Need-same-length-12 Inv-loop μ-loop
+same-length-12 c =
+    let at-feed = c .before .before .before .before .before .before .before .before .before .before in
+    let at-loop = c .before .before .before .before .before .before .before .before .before .before .before .before .before .before .before .before .before in
+    at-feed .feed .kept .1 .1 .1 .1 .0 ∙ at-loop .loop .inv .5
+
+returns-3 : tie.Need-returns-3 Inv-loop μ-loop
+returns-3 c = ((omega arith, omega arith), λ e. never (sym e))
+
 same-length-13 : tie.Need-same-length-13 Inv-loop μ-loop
-same-length-13 c = c .before .loop .inv .2
+same-length-13 c =
+    let at-loop = c .before .before .before .before .before .before .before .before .before .before .before .before .before .before .before .before .before .before in
+    at-loop .loop .inv .2
 
 same-length-14 : tie.Need-same-length-14 Inv-loop μ-loop
-same-length-14 c = c .before .loop .inv .3
+same-length-14 c =
+    let at-feed = c .before .before .before .before .before .before .before .before .before .before .before in
+    let at-loop = c .before .before .before .before .before .before .before .before .before .before .before .before .before .before .before .before .before .before in
+    at-feed .feed .kept .1 .1 .0 ∙ at-loop .loop .inv .3
 
 same-length-15 : tie.Need-same-length-15 Inv-loop μ-loop
-same-length-15 c = c .before .loop .inv .4
+same-length-15 c =
+    let at-feed = c .before .before .before .before .before .before .before .before .before .before .before in
+    let at-loop = c .before .before .before .before .before .before .before .before .before .before .before .before .before .before .before .before .before .before in
+    at-feed .feed .kept .1 .1 .1 .0 ∙ at-loop .loop .inv .4
 
 same-length-16 : tie.Need-same-length-16 Inv-loop μ-loop
-same-length-16 c = c .before .loop .inv .5
+same-length-16 c =
+    let at-feed = c .before .before .before .before .before .before .before .before .before .before .before in
+    let at-loop = c .before .before .before .before .before .before .before .before .before .before .before .before .before .before .before .before .before .before in
+    at-feed .feed .kept .1 .1 .1 .1 .0 ∙ at-loop .loop .inv .5
 
 returns-4 : tie.Need-returns-4 Inv-loop μ-loop
 returns-4 c = ((omega arith, omega arith), λ e. never (sym e))
@@ -148,29 +178,26 @@ play-some-spec =
     part-feed-end
     feed-requires
     add-from
-    slice-reshare-prefix-write-all
-    slice-aggregate-write-all
-    write-all-requires
-    slice-aggregate-fail
-    fail-requires
+    write-out-requires
+    sub-if3
+    carry-requires
     same-length
     same-length-2
     same-length-3
     same-length-4
     returns
+    loop-less
+    loop-again
     same-length-5
     same-length-6
     same-length-7
     same-length-8
     returns-2
-    carry-requires
     same-length-9
     same-length-10
     same-length-11
     same-length-12
     returns-3
-    loop-less
-    loop-again
     same-length-13
     same-length-14
     same-length-15

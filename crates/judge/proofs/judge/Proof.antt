@@ -1,5 +1,5 @@
 use borrow.Author.Needs.{needs}
-use mathlib.Core.Path.{_≡_, sym, _∙_}
+use mathlib.Core.Path.{_∙_}
 use native.Mathlib.Omega.{arith}
 use Rattle.judge.proofs.Lengths.{long-log, long-list, odd-log, odd-list, even, zeros-at}
 use Rattle.judge.proofs.judge.Statement.{statement}

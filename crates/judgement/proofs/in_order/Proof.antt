@@ -1,5 +1,5 @@
-use mathlib.Core.Path.{_≡_, sym, _∙_, subst}
-use Prim.Native.Nat.{ℕ, _+_, _-_, _<_, _≤_}
+use mathlib.Core.Path.{_≡_, sym, subst}
+use Prim.Native.Nat.{ℕ, _+_, _-_, _≤_}
 use native.Mathlib.Omega.{arith}
 use Rattle.judgement.specs.Judgement.{wordsOf}
 use Rattle.judgement.proofs.Order.{Floor, floor-start, floor-skip, floor-next, known-by, too-low, too-high, plain-by, numbered-by, not-known, not-rising, in-order-whole}

@@ -1,5 +1,5 @@
 use borrow.Author.Needs.{needs}
-use mathlib.Core.Path.{_≡_, sym, _∙_}
+use mathlib.Core.Path.{sym, _∙_}
 use Rattle.puts.proofs.Halving.{at-place}
 use Rattle.puts.proofs.look_up.Statement.{statement}
 use Rattle.puts.proofs.look_up.Tie as tie

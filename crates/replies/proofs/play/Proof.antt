@@ -1,8 +1,6 @@
 use borrow.Author.Needs.{needs}
-use mathlib.Core.Path.{_≡_, sym, ap, subst}
+use mathlib.Core.Path.{_≡_, subst}
 use mathlib.Core.Bool.{Bool}
-use Rattle.model.specs.Listing.{Program, respond}
-use Rattle.replies.specs.Sessions.{PlayedBy}
 use Rattle.replies.specs.Choices.{askedOf}
 use Rattle.replies.specs.declared.Asked.the-variants.{Other}
 use Rattle.replies.proofs.Replies.{program-live, program-waits}

@@ -1,5 +1,4 @@
 use borrow.Author.Needs.{needs}
-use mathlib.Core.Path.{_≡_}
 use Rattle.model.specs.Listing.{respond}
 use Rattle.replies.proofs.Replies.{program-live, bad-at, asks-steps}
 use Rattle.replies.proofs.play_live.Statement.{statement}

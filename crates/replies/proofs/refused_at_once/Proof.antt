@@ -1,8 +1,6 @@
 use borrow.Author.Needs.{needs}
-use mathlib.Core.Path.{_≡_, refl, sym, ap, subst}
-use mathlib.Core.Bool.{true}
+use mathlib.Core.Path.{refl, ap}
 use borrow.Author.Tests.{not-false}
-use Rattle.model.specs.declared.Operation.the-variants.{Put, Take, Steal}
 use Rattle.model.specs.Calls.{lent}
 use Rattle.model.specs.Listing.{playing, respond}
 use Rattle.replies.proofs.Replies.{begin-at-once}

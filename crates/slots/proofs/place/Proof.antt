@@ -1,4 +1,3 @@
-use native.Mathlib.Omega.{arith}
 use Rattle.model.specs.Memory.{offsetAt}
 use borrow.Author.Needs.{needs}
 use Rattle.slots.proofs.place.Statement.{statement}

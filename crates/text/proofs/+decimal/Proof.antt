@@ -1,5 +1,5 @@
 use native.Mathlib.Omega.{arith}
-use mathlib.Core.Path.{_≡_, ap, sym, _∙_}
+use mathlib.Core.Path.{ap}
 use lib.ListN.{length, length-set, length-append}
 use lib.Seq.{length-sets}
 use Rattle.text.proofs.Spell.{decimal-short, decimal-long, placed-more, placed-byte}

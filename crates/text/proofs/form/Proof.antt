@@ -1,7 +1,7 @@
 use native.Mathlib.Omega.{arith}
-use Prim.Native.Nat.{ℕ, _≤_}
-use mathlib.Core.Path.{_≡_, sym, _∙_}
-use lib.ListN.{length, getD, take}
+use Prim.Native.Nat.{_≤_}
+use mathlib.Core.Path.{_≡_, sym}
+use lib.ListN.{length}
 use lib.Seq.{getD-take}
 use borrow.Author.Tests.{le-leb, lt-leb}
 use Rattle.model.specs.Tests.{if_then_else_, _and_}
@@ -10,8 +10,6 @@ use Rattle.text.proofs.Fields.{count-is, count-not}
 use borrow.Author.Needs.{needs}
 use Rattle.text.proofs.form.Statement.{statement}
 use Rattle.text.proofs.form.Tie as tie
-use Rattle.text.proofs.form.Reads as reads
-use Rattle.text.proofs.form.Lts as lts
 
 enum-told : tie.Need-enum-told
 enum-told c = search needs

@@ -4,9 +4,6 @@ use Rattle.text.specs.Commands.{keyOf}
 use borrow.Author.Needs.{needs}
 use Rattle.text.proofs.keyword.Statement.{statement}
 use Rattle.text.proofs.keyword.Tie as tie
-use Rattle.text.proofs.keyword.Reads as reads
-use Rattle.text.proofs.keyword.Lts as lts
-use Rattle.text.proofs.same.Reads as same-reads
 
 slice-aggregate-same : tie.Need-slice-aggregate-same
 slice-aggregate-same c = search needs

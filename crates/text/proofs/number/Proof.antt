@@ -1,7 +1,6 @@
 use native.Mathlib.Omega.{arith}
-use Prim.Native.Nat.{ℕ, _+_, _-_, _*_, _≤_}
-use mathlib.Core.Path.{_≡_, refl, sym, ap, _∙_}
-use mathlib.Core.List.{List}
+use Prim.Native.Nat.{_+_, _-_, _≤_}
+use mathlib.Core.Path.{_≡_, sym, _∙_}
 use lib.ListN.{length, drop, getD}
 use borrow.Author.Tests.{not-true, not-false}
 use Rattle.text.specs.Numbers.{valueOf}
@@ -9,10 +8,6 @@ use Rattle.text.proofs.Lists.{next, done}
 use Rattle.text.proofs.Digits.{readOn, number-plain, number-not, read-low, read-high, read-digit, read-big, read-end}
 use Rattle.text.proofs.number.Statement.{statement}
 use Rattle.text.proofs.number.Tie as tie
-use Rattle.text.proofs.number.Reads as reads
-use Rattle.text.proofs.number.Lts as lts
-use Rattle.text.proofs.plain.Reads as plain-reads
-use Rattle.text.proofs.wide.Reads as wide-reads
 
 abbrev Inv-loop : tie.InvT-loop
 Inv-loop word v₀ i₀ v i = (i ≤ length word) × (v ≤ 4294967295) × (readOn v (drop i word) ≡ valueOf word)

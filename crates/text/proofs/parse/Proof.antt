@@ -7,19 +7,13 @@ use Rattle.text.proofs.Split.{first-fits}
 use Rattle.text.proofs.Fields.{part-is, front-is}
 use native.Mathlib.Omega.{arith}
 use borrow.Author.Needs.{needs}
-use Prim.Native.Nat.{ℕ, _+_, _-_, _≤_, _<_}
+use Prim.Native.Nat.{_-_, _≤_, _<_}
 use mathlib.Core.Path.{_≡_, refl, sym, ap, _∙_}
-use lib.ListN.{length, getD, take, drop, length-set}
+use lib.ListN.{length, take, length-set}
 use lib.Seq.{length-take-le}
 use Rattle.text.proofs.Fields.{Read, read-first, read-on, read-fits, read-many, read-wrong, read-end}
 use Rattle.text.proofs.parse.Statement.{statement}
 use Rattle.text.proofs.parse.Tie as tie
-use Rattle.text.proofs.parse.Reads as reads
-use Rattle.text.proofs.parse.Lts as lts
-use Rattle.text.proofs.form.Reads as form-reads
-use Rattle.text.proofs.keyword.Reads as keyword-reads
-use Rattle.text.proofs.number.Reads as number-reads
-use Rattle.text.proofs.word_end.Reads as word-end-reads
 
 abbrev Inv-loop : tie.InvT-loop
 Inv-loop line at₀ key v₀ n₀ at v n = (at ≤ length line) × (n ≤ 5) × (length v ≡ 5) × (Read line at (take n v))

@@ -3,8 +3,6 @@ use Rattle.text.proofs.Digits.{plain-none, plain-one, plain-more}
 use borrow.Author.Needs.{needs}
 use Rattle.text.proofs.plain.Statement.{statement}
 use Rattle.text.proofs.plain.Tie as tie
-use Rattle.text.proofs.plain.Reads as reads
-use Rattle.text.proofs.plain.Lts as lts
 
 returns : tie.Need-returns
 returns c = sym (plain-none _ (c .if1 .taken))

@@ -1,18 +1,14 @@
 use borrow.Author.Needs.{needs}
 use native.Mathlib.Omega.{arith}
-use Prim.Native.Nat.{ℕ, _+_, _-_, _*_, _≤_, _<_}
-use mathlib.Core.Path.{_≡_, refl, sym, ap, _∙_}
-use mathlib.Core.List.{List, _++_, _∷_, []}
-use lib.ListN.{length, getD, take, drop, set, length-set}
-use lib.Seq.{take-suc, take-length}
+use Prim.Native.Nat.{_+_, _-_, _≤_, _<_}
+use mathlib.Core.Path.{_≡_, ap}
+use lib.ListN.{length, take, set, length-set}
+use lib.Seq.{take-suc}
 use native.Mathlib.Numerals.{add-one}
-use Rattle.text.specs.Numbers.{Placed, spacedOf, decimalOf, lineOf}
+use Rattle.text.specs.Numbers.{Placed, spacedOf}
 use Rattle.text.proofs.Spell.{line-placed, number-placed, placed-none, placed-length, room, line-length}
 use Rattle.text.proofs.print.Statement.{statement}
 use Rattle.text.proofs.print.Tie as tie
-use Rattle.text.proofs.print.Reads as reads
-use Rattle.text.proofs.print.Lts as lts
-use Rattle.text.proofs.decimal.Reads as decimal-reads
 
 abbrev Inv-loop : tie.InvT-loop
 Inv-loop out₀ at letter values end₀ i₀ out end i = (i ≤ length values) × (Placed out₀ end₀ (spacedOf (take i values)) end out)

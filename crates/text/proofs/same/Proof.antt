@@ -1,14 +1,11 @@
 use native.Mathlib.Omega.{arith}
-use Prim.Native.Nat.{ℕ, _+_, _-_, _≤_}
-use mathlib.Core.Path.{_≡_, refl, sym, ap, _∙_}
-use lib.ListN.{length, drop, length-drop, getD}
-use lib.Dec.{eqb}
+use Prim.Native.Nat.{_-_, _≤_}
+use mathlib.Core.Path.{_≡_, refl, sym}
+use lib.ListN.{length, drop, getD}
 use Rattle.text.specs.Same.{same}
 use Rattle.text.proofs.Lists.{next, done, same-end, same-step, same-differ, same-rest}
 use Rattle.text.proofs.same.Statement.{statement}
 use Rattle.text.proofs.same.Tie as tie
-use Rattle.text.proofs.same.Reads as reads
-use Rattle.text.proofs.same.Lts as lts
 
 abbrev Inv-loop : tie.InvT-loop
 Inv-loop a b i₀ i = (i ≤ length a) × (i ≤ length b) × (same (drop i a) (drop i b) ≡ same a b)

@@ -1,15 +1,12 @@
 use native.Mathlib.Omega.{arith}
-use Prim.Native.Nat.{ℕ, _+_, _-_, _≤_}
-use mathlib.Core.Path.{_≡_, refl, sym, ap, _∙_}
-use mathlib.Core.List.{List}
-use lib.ListN.{length, drop, getD}
+use Prim.Native.Nat.{_+_, _-_, _≤_}
+use mathlib.Core.Path.{_≡_, refl}
+use lib.ListN.{length, drop}
 use Rattle.text.specs.Words.{words, head}
 use Rattle.text.proofs.Lists.{next, done}
 use Rattle.text.proofs.Split.{first-space, first-more, first-none}
 use Rattle.text.proofs.word_end.Statement.{statement}
 use Rattle.text.proofs.word_end.Tie as tie
-use Rattle.text.proofs.word_end.Reads as reads
-use Rattle.text.proofs.word_end.Lts as lts
 
 abbrev Inv-loop : tie.InvT-loop
 Inv-loop line at i₀ i = (i ≤ length line) × (i + length (head (words (drop i line))) ≡ at + length (head (words (drop at line))))

@@ -8,6 +8,7 @@ use Rattle.model.proofs.Tests.{if-false, passed, refused}
 use Rattle.lines.specs.Deeds.{Ready}
 use Rattle.machine.specs.Steps.{StepStops}
 use Rattle.machine.proofs.Commits.{steps-by, goes-by}
+use Rattle.machine.proofs.Steps.{step-stops}
 use Rattle.queues.specs.declared.Reply.{Reply}
 use Rattle.queues.specs.Left.{left}
 use Rattle.queues.proofs.Faces.{faced-left}
@@ -62,7 +63,7 @@ returns-2 c =
     let at-valid = c .before .before .before .before .before .before .before .before in
     let a = c .before .before .before .before .before .before .before .before .before .before .before .before .before .before .args in
     let W : World = lent (a .self .state) (a .store .now) (a .log .now) in
-    let stops = c .before .before .before .before .step-stop .ensures (a .store .now) (a .log .now) (passed (at-valid .valid .ensures) (c .before .before .before .before .before .before .before .if1 .left)) (λ h. ap (lineAt (W .bench .workers)) (c .before .before .before .before .before .before .place-of .ensures .1 h)) in
+    let stops = step-stops W (a .worker) _ (c .before .before .before .before .step-stop .ensures) (passed (at-valid .valid .ensures) (c .before .before .before .before .before .before .before .if1 .left)) (λ h. ap (lineAt (W .bench .workers)) (c .before .before .before .before .before .before .place-of .ensures .1 h)) in
     ap (λ (r : Reply). left r (a .store .now) (a .log .now)) (c .refused2 .ensures)
     ∙ sym (subst (StepStops W (a .worker)) (c .before .before .stop .given .1) stops)
 
@@ -75,7 +76,7 @@ next-line-requires c κs =
     let at-place-of = c .before .before .before .before .before .before in
     let a = c .before .before .before .before .before .before .before .before .before .before .before .before .before .before .args in
     let W : World = lent (a .self .state) (a .store .now) (a .log .now) in
-    let stops = c .before .before .before .before .step-stop .ensures (a .store .now) (a .log .now) (passed (at-valid .valid .ensures) (c .before .before .before .before .before .before .before .if1 .left)) (λ h. ap (lineAt (W .bench .workers)) (at-place-of .place-of .ensures .1 h)) in
+    let stops = step-stops W (a .worker) _ (c .before .before .before .before .step-stop .ensures) (passed (at-valid .valid .ensures) (c .before .before .before .before .before .before .before .if1 .left)) (λ h. ap (lineAt (W .bench .workers)) (at-place-of .place-of .ensures .1 h)) in
     let steps = subst (StepStops W (a .worker)) (c .before .before .enum-told .given .1) stops in
     let at = at-place-of .place-of .ensures .1 (steps .worker) in
     let line = ap (lineAt (W .bench .workers)) at in
@@ -88,7 +89,7 @@ decide-requires c κs =
     let at-place-of = c .before .before .before .before .before .before .before .before in
     let a = c .before .before .before .before .before .before .before .before .before .before .before .before .before .before .before .before .args in
     let W : World = lent (a .self .state) (a .store .now) (a .log .now) in
-    let stops = c .before .before .before .before .before .before .step-stop .ensures (a .store .now) (a .log .now) (passed (at-valid .valid .ensures) (at-if1 .if1 .left)) (λ h. ap (lineAt (W .bench .workers)) (at-place-of .place-of .ensures .1 h)) in
+    let stops = step-stops W (a .worker) _ (c .before .before .before .before .before .before .step-stop .ensures) (passed (at-valid .valid .ensures) (at-if1 .if1 .left)) (λ h. ap (lineAt (W .bench .workers)) (at-place-of .place-of .ensures .1 h)) in
     let steps = subst (StepStops W (a .worker)) (c .before .before .before .before .enum-told .given .1) stops in
     let at = at-place-of .place-of .ensures .1 (steps .worker) in
     let line = ap (lineAt (W .bench .workers)) at in
@@ -106,7 +107,7 @@ apply-requires c κs =
     let at-enum-told = c .before .before .before .before .before .before .before .before in
     let a = c .before .before .before .before .before .before .before .before .before .before .before .before .before .before .before .before .before .before .before .before .args in
     let W : World = lent (a .self .state) (a .store .now) (a .log .now) in
-    let stops = at-step-stop .step-stop .ensures (a .store .now) (a .log .now) (passed (at-valid .valid .ensures) (at-if1 .if1 .left)) (λ h. ap (lineAt (W .bench .workers)) (at-place-of .place-of .ensures .1 h)) in
+    let stops = step-stops W (a .worker) _ (at-step-stop .step-stop .ensures) (passed (at-valid .valid .ensures) (at-if1 .if1 .left)) (λ h. ap (lineAt (W .bench .workers)) (at-place-of .place-of .ensures .1 h)) in
     let steps = subst (StepStops W (a .worker)) (at-enum-told .enum-told .given .1) stops in
     (steps .worker, (steps .ground .listed, c .before .before .before .decide .ensures .1))
 
@@ -130,7 +131,7 @@ returns-3 c =
     let at-decide = c .before .before .before .before .before .before .before .before .before in
     let a = c .before .before .before .before .before .before .before .before .before .before .before .before .before .before .before .before .before .before .before .before .before .before .before .before .before .before .args in
     let W : World = lent (a .self .state) (a .store .now) (a .log .now) in
-    let stops = at-step-stop .step-stop .ensures (a .store .now) (a .log .now) (passed (at-valid .valid .ensures) (at-if1 .if1 .left)) (λ h. ap (lineAt (W .bench .workers)) (at-place-of .place-of .ensures .1 h)) in
+    let stops = step-stops W (a .worker) _ (at-step-stop .step-stop .ensures) (passed (at-valid .valid .ensures) (at-if1 .if1 .left)) (λ h. ap (lineAt (W .bench .workers)) (at-place-of .place-of .ensures .1 h)) in
     let steps = subst (StepStops W (a .worker)) (at-enum-told .enum-told .given .1) stops in
     let at = at-place-of .place-of .ensures .1 (steps .worker) in
     let line = ap (lineAt (W .bench .workers)) at in
@@ -161,7 +162,7 @@ returns-4 c =
     let at-enum-told = c .before .before .before .before .before .before .before .before in
     let a = c .before .before .before .before .before .before .before .before .before .before .before .before .before .before .before .before .before .before .before .before .args in
     let W : World = lent (a .self .state) (a .store .now) (a .log .now) in
-    let stops = at-step-stop .step-stop .ensures (a .store .now) (a .log .now) (passed (at-valid .valid .ensures) (at-if1 .if1 .left)) (λ h. ap (lineAt (W .bench .workers)) (at-place-of .place-of .ensures .1 h)) in
+    let stops = step-stops W (a .worker) _ (at-step-stop .step-stop .ensures) (passed (at-valid .valid .ensures) (at-if1 .if1 .left)) (λ h. ap (lineAt (W .bench .workers)) (at-place-of .place-of .ensures .1 h)) in
     let steps = subst (StepStops W (a .worker)) (at-enum-told .enum-told .given .1) stops in
     let at = at-place-of .place-of .ensures .1 (steps .worker) in
     let line = ap (lineAt (W .bench .workers)) at in
