@@ -5,18 +5,20 @@ use mathlib.Core.List.{List, [], _∷_, _++_}
 use Prim.Native.Nat.{ℕ, _/_}
 use lib.ListN.{replicate}
 use Rattle.model.specs.declared.Operation.{Operation}
-use Rattle.model.specs.declared.Operation.the-variants.{Put, Steal}
+use Rattle.model.specs.declared.Operation.the-variants.{Put, Take, Steal}
 use Rattle.model.specs.Tests.{if_then_else_, _and_, _or_}
 use Rattle.model.specs.Memory.{zeros, wordAt, setWord, offsetAt, sizeAt}
 use Rattle.model.specs.Lines.{lineStep}
 use Rattle.model.specs.World.{World}
 use Rattle.model.specs.Limits.{validOf}
-use Rattle.model.specs.Counts.{someBelow}
+use Rattle.model.specs.Counts.{someBelow, countBelow}
 use Rattle.model.specs.Calls.{freshOf, beginOf, stepOf, frontOf, Call, begin, step}
 use Rattle.model.specs.Run.{after}
 use Rattle.model.specs.Window.{windowSize}
 use Rattle.examples.proofs.Examples.{does, p1, bench}
-use Rattle.judgement.specs.Judgement.{allBelow, accepts}
+use Rattle.judgement.specs.declared.Verdict.{Verdict}
+use Rattle.judgement.specs.declared.Verdict.the-variants.{No, Accepted}
+use Rattle.judgement.specs.Judgement.{wordsOf, allBelow, accepts, judged}
 use Rattle.accepted.specs.Runs.{windowNumbers}
 
 abbrev accepted : World → List Call → Bool
@@ -49,3 +51,28 @@ full = whole 1 Steal ++ whole 0 (Put 8) ++ whole 0 (Put 9)
 pub full-accepted : accepted (freshOf 2 1 1 2 (replicate 2 0) (replicate 40 5) .world) full ≡ true
 unfolding frontOf after allBelow someBelow freshOf beginOf stepOf validOf lineStep zeros wordAt setWord offsetAt sizeAt if_then_else_ _and_ _or_
 full-accepted = refl
+
+-- THE BYTES. The words of these runs are below 256, so each is its lowest byte and three zeros
+abbrev spelled : List ℕ → List ℕ
+spelled [] = []
+spelled (x ∷ l) = x ∷ 0 ∷ 0 ∷ 0 ∷ spelled l
+
+abbrev verdict : World → List Call → Verdict
+verdict W cs = judged (spelled (frontOf (after W cs .bench) (after W cs .log))) (spelled (windowNumbers (after W cs) (windowSize (after W cs))))
+
+-- P1 is answered no, though its premise is the only thing that is wrong with it; P2 has two hand-outs of different numbers
+pub p1-judged : verdict (bench 1 2) p1 ≡ No
+unfolding bench p1 does frontOf after judged wordsOf allBelow someBelow freshOf beginOf stepOf validOf lineStep zeros wordAt setWord offsetAt sizeAt if_then_else_ _and_ _or_
+p1-judged = refl
+
+pub p2-judged : verdict (bench 2 2) p1 ≡ Accepted 2 0
+unfolding bench p1 does frontOf after judged wordsOf allBelow someBelow countBelow freshOf beginOf stepOf validOf lineStep zeros wordAt setWord offsetAt sizeAt if_then_else_ _and_ _or_
+p2-judged = refl
+
+-- P3: owner and thief are handed the same task, two hand-outs of one number
+abbrev p3 : List Call
+p3 = begin 0 (Put 5) ∷ replicate 6 (step 0) ++ begin 0 Take ∷ replicate 3 (step 0) ++ begin 1 Steal ∷ replicate 7 (step 1) ++ replicate 3 (step 0)
+
+pub p3-judged : verdict (freshOf 2 1 2 2 (replicate 4 0) (replicate 40 5) .world) p3 ≡ Accepted 2 1
+unfolding frontOf after judged wordsOf allBelow someBelow countBelow freshOf beginOf stepOf validOf lineStep zeros wordAt setWord offsetAt sizeAt if_then_else_ _and_ _or_
+p3-judged = refl

@@ -4,30 +4,30 @@ use mathlib.Core.Path.{_≡_, refl, sym, _∙_, ap, subst₂}
 use mathlib.Core.Bool.{Bool, true, false, not}
 use mathlib.Core.Logic.{_⊎_, inl, inr, ⊎-elim}
 use mathlib.Core.List.{List, [], _∷_}
-use Prim.Native.Nat.{ℕ, zero, suc, _/_, _≤_, _<_}
+use Prim.Native.Nat.{ℕ, zero, suc, _≤_, _<_}
 use native.Mathlib.Omega.{arith}
 use native.Mathlib.Nat.{eq-or-lt-of-le}
 use lib.ListN.{length, getD, length-append, List·getD-append}
 use lib.Seq.{getD-append-seam}
-use borrow.Author.Tests.{eqb-true, eq-eqb, le-leb, lt-ltb}
-use Rattle.model.specs.declared.Task.{Task}
-use Rattle.model.specs.declared.Answer.the-variants.{Finished}
+use borrow.Author.Tests.{eq-eqb, le-leb, lt-ltb}
 use Rattle.model.specs.Tests.{_and_, _or_}
-use Rattle.model.specs.Answers.{Entry, entry, entryOf, ends, task}
+use Rattle.model.specs.Answers.{entry, entryOf, ends, task}
 use Rattle.model.specs.World.{World}
 use Rattle.model.specs.Calls.{freshOf, Call}
 use Rattle.model.specs.Run.{Played, played, after}
 use Rattle.model.specs.Window.{windowSize, windowWord}
-use Rattle.model.specs.Counts.{entryAt, taskAt, isKind, sameTask, someBelow, outWhole}
-use Rattle.model.proofs.Tests.{and-both, or-cases, or-true}
+use Rattle.model.specs.Counts.{entryAt, taskAt, isKind, someBelow, outWhole}
+use Rattle.model.proofs.Tests.{and-both, or-cases, or-either}
 use Rattle.model.proofs.Below.{some-at}
-use Rattle.theorems.specs.Demand3.{At, Finishes, Belongs, HandsOut, Out, Stands, Demand3}
+use Rattle.theorems.specs.Demand3.{At, Finishes, Stands, Demand3}
 use Rattle.order.specs.Order.{entries}
 use Rattle.theorems.proofs.Translate.{at-map}
-use Rattle.order.proofs.Entries.{kind-1, kind-2, place, place-rises, placed, entered, earlier, count, entries-long, entries-known, entries-inside}
+use Rattle.order.proofs.Entries.{place, place-rises, earlier, count, entries-known}
 use Rattle.order.proofs.EndedPuts.{EndsPut, ended-puts-rise}
+use Rattle.order.proofs.FrontEntries.{entries-many}
+use Rattle.order.proofs.KeptEntries.{number-of, is-entry, wrote, hands-out, kept-entry}
 use Rattle.theorems.proofs.NothingLost.{demand3}
-use Rattle.order.proofs.LogFront.{log-is-answers, written-is}
+use Rattle.order.proofs.LogFront.{log-is-answers}
 use Rattle.judgement.specs.Judgement.{allBelow, known, numbered, rises, finishedAs, honest, listed, kept, accepts}
 use Rattle.judgement.proofs.All.{all-true}
 use Rattle.accepted.specs.Runs.{windowNumbers, RunsAccepted}
@@ -38,13 +38,8 @@ unfolding _or_
 only-if true y f = f refl
 only-if false y f = refl
 
-one-of : (x y : Bool) → (x ≡ true) ⊎ (y ≡ true) → (x or y) ≡ true
-unfolding _or_
-one-of x y (inl e) = rw e
-one-of x y (inr e) = rw e (or-true x)
-
 -- the i-th of the window's numbers is that of its i-th task
-window-long : (W : World) (n : ℕ) → length (windowNumbers W n) ≡ n
+pub window-long : (W : World) (n : ℕ) → length (windowNumbers W n) ≡ n
 window-long W zero = refl
 window-long W (suc n) = omega (arith, length-append (windowNumbers W n) (windowWord W n 0 ∷ []), window-long W n)
 
@@ -57,20 +52,6 @@ window-number W (suc n) i h =
     (λ q. List·getD-append (windowNumbers W n) (windowWord W n 0 ∷ []) 0 i (omega (arith, q, window-long W n)) ∙ window-number W n i q)
     (eq-or-lt-of-le (let le : i ≤ n = omega arith in le))
 
--- the words of equal entries
-kind-of : {e f : Entry} → e ≡ f → e .kind ≡ f .kind
-kind-of q = ap (λ (x : Entry). x .kind) q
-
-number-of : {e f : Entry} → e ≡ f → e .number ≡ f .number
-number-of q = ap (λ (x : Entry). x .number) q
-
-payload-of : {e f : Entry} → e ≡ f → e .payload ≡ f .payload
-payload-of q = ap (λ (x : Entry). x .payload) q
-
--- entry i of a log has kind k and the words of the task t
-is-entry : (l : List ℕ) (i k w : ℕ) (u t : Task) → entryAt l i ≡ entry k w u → Belongs u t → (isKind l k i and sameTask (taskAt l i) t) ≡ true
-is-entry l i k w u t q (n, p) = and-both _ _ (eq-eqb _ _ (kind-of q)) (and-both _ _ (eq-eqb _ _ (number-of q ∙ n)) (eq-eqb _ _ (payload-of q ∙ p)))
-
 module _ (W : World) (cs : List Call) (D : Demand3 W cs)
     (R : (i j m n : ℕ) → i < j → At (played W cs) i (EndsPut m) → At (played W cs) j (EndsPut n) → m < n) where
   abbrev T : List Played
@@ -82,20 +63,13 @@ module _ (W : World) (cs : List Call) (D : Demand3 W cs)
   known-all : allBelow (known l) (count T) ≡ true
   known-all = all-true (known l) (count T) (λ j h. let (a, b) = entries-known T j h in and-both _ _ (le-leb 1 _ a) (le-leb _ 4 b))
 
-  -- the call that wrote an entry of kind k
-  wrote : (k j : ℕ) → 0 < k → isKind l k j ≡ true
-      → At T (place T j) (λ s. (entryOf (s .answer) ≡ entryAt l j) × (entryOf (s .answer) .kind ≡ k))
-  wrote k j h e =
-      let q : entryAt l j .kind ≡ k = eqb-true (entryAt l j .kind) k e in
-      at-map T (place T j) _ _ (λ s a. (a, kind-of a ∙ q)) (placed T j (omega (arith, q)))
-
   -- numbers of ended puts rise
   ends-put : (j : ℕ) → numbered l j ≡ true → At T (place T j) (EndsPut (entryAt l j .number))
   ends-put j e = go (or-cases (isKind l 1 j) (isKind l 4 j) e)
     where
       go : (isKind l 1 j ≡ true) ⊎ (isKind l 4 j ≡ true) → At T (place T j) (EndsPut (entryAt l j .number))
-      go (inl q) = at-map T (place T j) _ _ (λ s (a, k). (inl k, number-of a)) (wrote 1 j (omega arith) q)
-      go (inr q) = at-map T (place T j) _ _ (λ s (a, k). (inr k, number-of a)) (wrote 4 j (omega arith) q)
+      go (inl q) = at-map T (place T j) _ _ (λ s (a, k). (inl k, number-of a)) (wrote T 1 j (omega arith) q)
+      go (inr q) = at-map T (place T j) _ _ (λ s (a, k). (inr k, number-of a)) (wrote T 4 j (omega arith) q)
 
   rises-all : allBelow (rises l) (count T) ≡ true
   rises-all =
@@ -104,28 +78,14 @@ module _ (W : World) (cs : List Call) (D : Demand3 W cs)
       lt-ltb _ _ (R (place T i) (place T j) _ _ (place-rises T i j g) (ends-put i f) (ends-put j e))))))
 
   -- a hand-out repeats a put finished before it
-  hands-out : (j : ℕ) → isKind l 2 j ≡ true → Out T (place T j) (taskAt l j)
-  hands-out j e =
-      at-map T (place T j) _ _
-      (λ s (a, k). let (i, t, q) = kind-2 (s .answer) k in
-      let x = sym (ap entryOf q) ∙ a in (i, t, q, (number-of x, payload-of x)))
-      (wrote 2 j (omega arith) e)
-
   honest-all : allBelow (honest l) (count T) ≡ true
   honest-all = all-true (honest l) (count T) (λ j h. only-if (isKind l 2 j) _ (repeats j))
     where
       repeats : (j : ℕ) → isKind l 2 j ≡ true → someBelow (finishedAs l j) j ≡ true
       repeats j e =
-          let (b, k, h, d) = D .belongs (place T j) (taskAt l j) (hands-out j e) in
+          let (b, k, h, d) = D .belongs (place T j) (taskAt l j) (hands-out T j e) in
           let (i, g, (s, (w, a), q)) = earlier T j k (Finishes (taskAt l j)) (λ s (w, a). ap ends a) h (d .finished) in
           sym (some-at (finishedAs l j) j i g refl (is-entry l i 1 w (taskAt l j) (taskAt l j) (q ∙ ap entryOf a) (refl, refl)))
-
-  -- a finished put is handed out, or stands in the window
-  finished : (j : ℕ) → isKind l 1 j ≡ true → At T (place T j) (Finishes (taskAt l j))
-  finished j e =
-      at-map T (place T j) _ _
-      (λ s (a, k). let (i, t, q) = kind-1 (s .answer) k in (i, q ∙ ap (Finished i) (ap (λ (x : Entry). task (x .number) (x .payload)) (sym (ap entryOf q) ∙ a))))
-      (wrote 1 j (omega arith) e)
 
   abbrev size : ℕ
   size = windowSize (after W cs)
@@ -133,21 +93,15 @@ module _ (W : World) (cs : List Call) (D : Demand3 W cs)
   abbrev stored : List ℕ
   stored = windowNumbers (after W cs) size
 
+  -- a finished put is handed out, or stands in the window
   kept-all : allBelow (kept l (count T) stored size) (count T) ≡ true
-  kept-all = all-true (kept l (count T) stored size) (count T) (λ j h. only-if (isKind l 1 j) _ (λ e. one-of _ _ (there j e)))
+  kept-all = all-true (kept l (count T) stored size) (count T) (λ j h. only-if (isKind l 1 j) _ (λ e. or-either _ _ (go j (kept-entry W cs D j e))))
     where
-      there : (j : ℕ) → isKind l 1 j ≡ true
+      go : (j : ℕ) → (someBelow (outWhole l (taskAt l j)) (count T) ≡ true) ⊎ Stands (after W cs) (taskAt l j)
           → (someBelow (outWhole l (taskAt l j)) (count T) ≡ true) ⊎ (someBelow (listed stored (entryAt l j .number)) size ≡ true)
-      there j e = go (D .kept _ (place T j) (taskAt l j) (D .ended (place T j) (taskAt l j) (finished j e) .1))
-        where
-          go : ((k : ℕ) × Out T k (taskAt l j)) ⊎ Stands (after W cs) (taskAt l j)
-              → (someBelow (outWhole l (taskAt l j)) (count T) ≡ true) ⊎ (someBelow (listed stored (entryAt l j .number)) size ≡ true)
-          go (inl (k, a)) =
-              let (i, g, (s, (w, u, q, b), x)) = entered T k (HandsOut (taskAt l j)) (λ s (w, u, q, b). ap ends q) a in
-              let y = x ∙ ap entryOf q in
-              inl (sym (some-at (outWhole l (taskAt l j)) (count T) i (entries-inside T i (omega (arith, kind-of y))) refl (is-entry l i 2 w u (taskAt l j) y b)))
-          go (inr (i, h, x, y)) =
-              inr (sym (some-at (listed stored (entryAt l j .number)) size i h refl (eq-eqb _ _ (window-number (after W cs) size i h ∙ x))))
+      go j (inl x) = inl x
+      go j (inr (i, h, x, y)) =
+          inr (sym (some-at (listed stored (entryAt l j .number)) size i h refl (eq-eqb _ _ (window-number (after W cs) size i h ∙ x))))
 
   all-accepted : accepts l (count T) stored size ≡ true
   all-accepted = and-both _ _ known-all (and-both _ _ rises-all (and-both _ _ honest-all kept-all))
@@ -155,10 +109,7 @@ module _ (W : World) (cs : List Call) (D : Demand3 W cs)
 pub runs-accepted : RunsAccepted
 runs-accepted k w c n m l e cs f =
     subst₂ (λ (l : List ℕ) (n : ℕ). accepts l n (windowNumbers (after W cs) (windowSize (after W cs))) (windowSize (after W cs)) ≡ true)
-    (sym (log-is-answers k w c n m l e cs)) many (all-accepted W cs (demand3 k w c n m l e cs f) (ended-puts-rise k w c n m l e cs))
+    (sym (log-is-answers k w c n m l e cs)) (entries-many k w c n m l e cs) (all-accepted W cs (demand3 k w c n m l e cs f) (ended-puts-rise k w c n m l e cs))
   where
     W : World
     W = freshOf k w c n m l .world
-
-    many : count (played W cs) ≡ after W cs .bench .written / 4
-    many = omega (arith, written-is k w c n m l e cs, entries-long (played W cs))

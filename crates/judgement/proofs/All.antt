@@ -47,8 +47,3 @@ module _ (p : ℕ → Bool) where
   unfolding someBelow
   some-found zero e = absurd (let z : _≡_ {A = ℕ} 0 1 = cc in omega (arith, z))
   some-found (suc n) e = found-at n (p n) refl e (some-found n)
-
-pub some-same : (p q : ℕ → Bool) (n : ℕ) → ((i : ℕ) → i < n → p i ≡ q i) → someBelow p n ≡ someBelow q n
-unfolding someBelow
-some-same p q zero f = refl
-some-same p q (suc n) f = rw (f n (omega arith), some-same p q n (λ i h. f i (omega (arith, h))))

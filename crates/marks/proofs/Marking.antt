@@ -12,11 +12,11 @@ use borrow.Author.Tests.{eq-eqb, ne-eqb, eqb-true, eqb-false}
 use Rattle.model.specs.Tests.{if_then_else_, _and_, _or_}
 use Rattle.model.specs.Counts.{entryAt, taskAt, isKind, someBelow, countBelow, outAs, outWhole, outFirst}
 use Rattle.model.proofs.Tests.{holds, fails, and-left, and-right, and-both, and-false}
-use Rattle.model.proofs.Below.{some-at, up-miss}
+use Rattle.model.proofs.Below.{some-at, up-miss, some-same}
 use Rattle.judgement.specs.Judgement.{allBelow, finishedAs, honest, listed}
 use Rattle.puts.specs.Puts.{numberOfPut, Rising, Gathered, RepeatsPut}
 use Rattle.marks.specs.Marks.{Marked, OutsBy}
-use Rattle.judgement.proofs.All.{all-at, all-next, all-fails, some-found, some-same}
+use Rattle.judgement.proofs.All.{all-at, all-next, all-fails, some-found}
 use Rattle.puts.proofs.Repeating.{one-place, same-put}
 
 pub mark-start : (l stored puts : List ℕ) (c : ℕ) (seen : List ℕ) → ((k : ℕ) → getD seen k 0 ≡ 0) → Marked l 0 stored 0 puts c seen

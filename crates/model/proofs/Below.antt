@@ -67,3 +67,20 @@ pub none-stricter : (p q : ℕ → Bool) (n : ℕ) → ((k : ℕ) → p k ≡ fa
 unfolding someBelow _or_
 none-stricter p q zero f e = refl
 none-stricter p q (suc n) f e = let o = or-false (p n) (someBelow p n) e in rw (f n (o .0)) (none-stricter p q n f (o .1))
+
+-- tests that agree below n
+pub some-same : (p q : ℕ → Bool) (n : ℕ) → ((i : ℕ) → i < n → p i ≡ q i) → someBelow p n ≡ someBelow q n
+unfolding someBelow
+some-same p q zero f = refl
+some-same p q (suc n) f = rw (f n (omega arith), some-same p q n (λ i h. f i (omega (arith, h))))
+
+pub count-same : (p q : ℕ → Bool) (n : ℕ) → ((i : ℕ) → i < n → p i ≡ q i) → countBelow p n ≡ countBelow q n
+unfolding countBelow
+count-same p q zero f = refl
+count-same p q (suc n) f = rw (f n (omega arith), count-same p q n (λ i h. f i (omega (arith, h))))
+
+-- a test that none passes
+pub count-zero : (p : ℕ → Bool) (n : ℕ) → ((i : ℕ) → i < n → p i ≡ false) → countBelow p n ≡ 0
+unfolding countBelow if_then_else_
+count-zero p zero f = refl
+count-zero p (suc n) f = rw (f n (omega arith)) (count-zero p n (λ i h. f i (omega (arith, h))))

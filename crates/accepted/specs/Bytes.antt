@@ -1,0 +1,26 @@
+-- The judge and demand 3, of the bytes: what the judge says of the bench's own log is what the bench's `T` says.
+use mathlib.Core.Path.{_≡_}
+use mathlib.Core.List.{List}
+use Prim.Native.Nat.{ℕ, _-_, _*_, _≤_}
+use lib.ListN.{length}
+use Rattle.model.specs.Calls.{Call, frontOf}
+use Rattle.model.specs.Run.{after}
+use Rattle.model.specs.Window.{windowSize}
+use Rattle.model.specs.Counts.{countsOf}
+use Rattle.theorems.specs.Demand3.{FewPuts, FromFresh}
+use Rattle.judgement.specs.declared.Verdict.the-variants.{Accepted}
+use Rattle.judgement.specs.Judgement.{wordsOf, judged}
+use Rattle.accepted.specs.Runs.{windowNumbers}
+
+-- bytes that are the words l: four for each, lowest first
+abbrev pub Spells : List ℕ → List ℕ → Type 0
+Spells bytes l = (length bytes ≡ 4 * length l) × (wordsOf bytes ≡ l)
+
+-- For every list from a fresh bench under demand 3's premise, where the log's front is not too long for the judge: accepted, with the hand-outs
+-- that `T` counts, and for repeats those less the different numbers
+abbrev pub RunsJudged : Type 0
+RunsJudged =
+    FromFresh
+    (λ W. (cs : List Call) → FewPuts W cs → (log list : List ℕ) → Spells log (frontOf (after W cs .bench) (after W cs .log))
+    → Spells list (windowNumbers (after W cs) (windowSize (after W cs))) → length log ≤ 65536
+    → judged log list ≡ Accepted (countsOf (after W cs) .handouts) (countsOf (after W cs) .handouts - countsOf (after W cs) .different))
