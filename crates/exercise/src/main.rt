@@ -225,8 +225,7 @@ fn put(bench: Bench, store: &mut [u32], log: &mut [u32]) -> Reply {
     let mut last = bench.begin(0, Operation::Put { payload: 65 }, store, log);
     let mut line: u32 = 0;
     while line < 5 {
-        let at = last.bench;
-        last = at.step(0, store, log);
+        last = last.bench.step(0, store, log);
         line += 1;
     }
     last
@@ -235,12 +234,12 @@ fn put(bench: Bench, store: &mut [u32], log: &mut [u32]) -> Reply {
 // Two puts, of which the end of the second is told: the first has left 4 words fewer in the log.
 fn try_log(tried: &[u8], log: &mut [u32]) {
     let mut store = [0u32; 4];
-    let made = Bench::fresh(1, 4, 2, 1, &mut store);
-    let one = put(made.bench, &mut store, log);
-    let two = put(one.bench, &mut store, log);
-    let answer = two.answer;
+    let mut last = Bench::fresh(1, 4, 2, 1, &mut store);
+    last = put(last.bench, &mut store, log);
+    last = put(last.bench, &mut store, log);
+    let answer = last.answer;
     told(tried, answer);
-    front_text(two.bench, log);
+    front_text(last.bench, log);
 }
 
 // The log's last words.
@@ -435,24 +434,31 @@ fn foreign_copies() {
 
 fn foreign_thieves() {
     let read = anchor(0, 1, 0);
+    let task = task(1);
     try_line(b"a thief at a line of take", 1, 1, Line::TakeRead);
     try_line(b"a busy worker outside the crew", 1, 3, Line::StealRead);
-    let place = Line::StealNumber {
-        read: read,
-        place: 1,
-    };
-    try_line(b"a noted array that is not published", 1, 2, place);
-    let beyond = Line::StealCompare {
-        read: read,
-        next: 2048,
-        task: task(1),
-    };
-    try_line(b"double-ended, h2 2048", 3, 2, beyond);
-    let next = Line::StealNext {
-        read: read,
-        task: task(1),
-    };
-    try_line(b"LIFO at figure 3's steal 5", 1, 2, next);
+    try_line(
+        b"a noted array that is not published",
+        1,
+        2,
+        Line::StealNumber { read, place: 1 },
+    );
+    try_line(
+        b"double-ended, h2 2048",
+        3,
+        2,
+        Line::StealCompare {
+            read,
+            next: 2048,
+            task,
+        },
+    );
+    try_line(
+        b"LIFO at figure 3's steal 5",
+        1,
+        2,
+        Line::StealNext { read, task },
+    );
 }
 
 fn main() {

@@ -205,36 +205,36 @@ fn workers_ok(bench: Bench, first: u32, tasks: u32) -> bool
         first: first,
         tasks: tasks,
     };
-    let own0 = bench.workers[0];
-    if !rests(own0) && !busy_ok(scope, 0, own0) {
+    let mut own = bench.workers[0];
+    if !rests(own) && !busy_ok(scope, 0, own) {
         return false;
     }
-    let own1 = bench.workers[1];
-    if !rests(own1) && !busy_ok(scope, 1, own1) {
+    own = bench.workers[1];
+    if !rests(own) && !busy_ok(scope, 1, own) {
         return false;
     }
-    let own2 = bench.workers[2];
-    if !rests(own2) && !busy_ok(scope, 2, own2) {
+    own = bench.workers[2];
+    if !rests(own) && !busy_ok(scope, 2, own) {
         return false;
     }
-    let own3 = bench.workers[3];
-    if !rests(own3) && !busy_ok(scope, 3, own3) {
+    own = bench.workers[3];
+    if !rests(own) && !busy_ok(scope, 3, own) {
         return false;
     }
-    let own4 = bench.workers[4];
-    if !rests(own4) && !busy_ok(scope, 4, own4) {
+    own = bench.workers[4];
+    if !rests(own) && !busy_ok(scope, 4, own) {
         return false;
     }
-    let own5 = bench.workers[5];
-    if !rests(own5) && !busy_ok(scope, 5, own5) {
+    own = bench.workers[5];
+    if !rests(own) && !busy_ok(scope, 5, own) {
         return false;
     }
-    let own6 = bench.workers[6];
-    if !rests(own6) && !busy_ok(scope, 6, own6) {
+    own = bench.workers[6];
+    if !rests(own) && !busy_ok(scope, 6, own) {
         return false;
     }
-    let own7 = bench.workers[7];
-    if !rests(own7) && !busy_ok(scope, 7, own7) {
+    own = bench.workers[7];
+    if !rests(own) && !busy_ok(scope, 7, own) {
         return false;
     }
     true

@@ -6,6 +6,7 @@ use libc::STDOUT_FILENO;
 use model::Answer;
 use model::Operation;
 use queues::Bench;
+use queues::Reply;
 
 // 1 of a step that goes on.
 fn went_on(answer: Answer) -> u64 {
@@ -22,17 +23,14 @@ fn went_on(answer: Answer) -> u64 {
 }
 
 // The owner's put, from its begin to its last line.
-fn put(bench: Bench, store: &mut [u32], log: &mut [u32]) -> Bench {
-    let operation = Operation::Put { payload: 7 };
-    let begun = bench.begin(0, operation, store, log);
-    let mut current = begun.bench;
+fn put(bench: Bench, store: &mut [u32], log: &mut [u32]) -> Reply {
+    let mut last = bench.begin(0, Operation::Put { payload: 7 }, store, log);
     let mut line: u32 = 0;
     while line < 5 {
-        let r = current.step(0, store, log);
-        current = r.bench;
+        last = last.bench.step(0, store, log);
         line += 1;
     }
-    current
+    last
 }
 
 // A step's answer, counted.
@@ -64,10 +62,10 @@ fn attempt(made: u64, start: Bench, store: &mut [u32], log: &mut [u32]) -> u64 {
 fn main() {
     let mut store = [0u32; 64];
     let mut log = [0u32; 64];
-    let made = Bench::fresh(1, 4, 4, 8, &mut store);
-    let filled = put(made.bench, &mut store, &mut log);
-    let begun = filled.begin(1, Operation::Steal, &store, &log);
-    let start = begun.bench;
+    let mut last = Bench::fresh(1, 4, 4, 8, &mut store);
+    last = put(last.bench, &mut store, &mut log);
+    last = last.bench.begin(1, Operation::Steal, &store, &log);
+    let start = last.bench;
     let mut steps: u64 = 0;
     let mut attempts: u32 = 0;
     while attempts < 600000 {

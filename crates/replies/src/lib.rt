@@ -328,24 +328,17 @@ fn play_waiting(
         PlayedBy (respond (waiting (now (store .entry)) l) command) r (now (store .exit)) l (now (out .entry)) at (now (out .exit)))
         ⌝ }
 {
-    match command {
-        Command::Open {
-            kind,
-            width,
-            size,
-            workers,
-            words,
-        } => open_queue(session, kind, width, size, workers, words, store, out, at),
-        Command::BeginPut { payload: _ } => refuse(session, out, at),
-        Command::BeginTake => refuse(session, out, at),
-        Command::BeginSteal { worker: _ } => refuse(session, out, at),
-        Command::Steps {
-            worker: _,
-            times: _,
-        } => refuse(session, out, at),
-        Command::End => refuse(session, out, at),
-        Command::Bad => refuse(session, out, at),
-    }
+    let Command::Open {
+        kind,
+        width,
+        size,
+        workers,
+        words,
+    } = command
+    else {
+        return refuse(session, out, at);
+    };
+    open_queue(session, kind, width, size, workers, words, store, out, at)
 }
 
 // A line while a bench is played, but for `step`.
@@ -366,13 +359,6 @@ fn play_live(
         ⌝ }
 {
     match command {
-        Command::Open {
-            kind: _,
-            width: _,
-            size: _,
-            workers: _,
-            words: _,
-        } => refuse(session, out, at),
         Command::BeginPut { payload } => {
             let operation = Operation::Put { payload };
             begin(session, 0, operation, store, log, out, at)
@@ -385,12 +371,9 @@ fn play_live(
             let operation = Operation::Steal;
             begin(session, worker, operation, store, log, out, at)
         }
-        Command::Steps {
-            worker: _,
-            times: _,
-        } => refuse(session, out, at),
         Command::End => total(session, store, log, out, at),
-        Command::Bad => refuse(session, out, at),
+        // another `queue`, or no line of the form
+        _ => refuse(session, out, at),
     }
 }
 

@@ -9,8 +9,8 @@ use Rattle.limits.proofs.workers_ok.Statement.{statement}
 use Rattle.limits.proofs.workers_ok.Tie as tie
 
 -- The workers before the one that is looked at pass: each is idle, or busy and within the limits.
-element-copy-out-own0 : tie.Need-element-copy-out-own0
-element-copy-out-own0 c = search needs
+element-copy-out-own : tie.Need-element-copy-out-own
+element-copy-out-own c = search needs
 
 rests-requires : tie.Need-rests-requires
 rests-requires c κs = search needs
@@ -30,8 +30,8 @@ returns c =
     (no-workers (b .kind) (b .width) (b .queue) (b .crew) (b .workers) 1 8 (omega arith)
     (next-worker (b .kind) (b .width) (b .queue) (b .crew) (b .workers) false 0 refl (refused {t = member (b .kind) (b .width) (b .queue) (b .crew) (b .workers) 0} (c .before .busy-ok .ensures (b .queue) (refl, d, t)) (c .if2 .taken))))
 
-element-copy-out-own1 : tie.Need-element-copy-out-own1
-element-copy-out-own1 c = search needs
+element-copy-out-own-2 : tie.Need-element-copy-out-own-2
+element-copy-out-own-2 c = search needs
 
 rests-requires-2 : tie.Need-rests-requires-2
 rests-requires-2 c κs = search needs
@@ -52,8 +52,8 @@ returns-2 c =
     (no-workers (b .kind) (b .width) (b .queue) (b .crew) (b .workers) 2 8 (omega arith)
     (next-worker (b .kind) (b .width) (b .queue) (b .crew) (b .workers) false 1 p1 (refused {t = member (b .kind) (b .width) (b .queue) (b .crew) (b .workers) 1} (c .before .busy-ok2 .ensures (b .queue) (refl, d, t)) (c .if4 .taken))))
 
-element-copy-out-own2 : tie.Need-element-copy-out-own2
-element-copy-out-own2 c = search needs
+element-copy-out-own-3 : tie.Need-element-copy-out-own-3
+element-copy-out-own-3 c = search needs
 
 rests-requires-3 : tie.Need-rests-requires-3
 rests-requires-3 c κs = search needs
@@ -75,8 +75,8 @@ returns-3 c =
     (no-workers (b .kind) (b .width) (b .queue) (b .crew) (b .workers) 3 8 (omega arith)
     (next-worker (b .kind) (b .width) (b .queue) (b .crew) (b .workers) false 2 p2 (refused {t = member (b .kind) (b .width) (b .queue) (b .crew) (b .workers) 2} (c .before .busy-ok3 .ensures (b .queue) (refl, d, t)) (c .if6 .taken))))
 
-element-copy-out-own3 : tie.Need-element-copy-out-own3
-element-copy-out-own3 c = search needs
+element-copy-out-own-4 : tie.Need-element-copy-out-own-4
+element-copy-out-own-4 c = search needs
 
 rests-requires-4 : tie.Need-rests-requires-4
 rests-requires-4 c κs = search needs
@@ -99,8 +99,8 @@ returns-4 c =
     (no-workers (b .kind) (b .width) (b .queue) (b .crew) (b .workers) 4 8 (omega arith)
     (next-worker (b .kind) (b .width) (b .queue) (b .crew) (b .workers) false 3 p3 (refused {t = member (b .kind) (b .width) (b .queue) (b .crew) (b .workers) 3} (c .before .busy-ok4 .ensures (b .queue) (refl, d, t)) (c .if8 .taken))))
 
-element-copy-out-own4 : tie.Need-element-copy-out-own4
-element-copy-out-own4 c = search needs
+element-copy-out-own-5 : tie.Need-element-copy-out-own-5
+element-copy-out-own-5 c = search needs
 
 rests-requires-5 : tie.Need-rests-requires-5
 rests-requires-5 c κs = search needs
@@ -124,8 +124,8 @@ returns-5 c =
     (no-workers (b .kind) (b .width) (b .queue) (b .crew) (b .workers) 5 8 (omega arith)
     (next-worker (b .kind) (b .width) (b .queue) (b .crew) (b .workers) false 4 p4 (refused {t = member (b .kind) (b .width) (b .queue) (b .crew) (b .workers) 4} (c .before .busy-ok5 .ensures (b .queue) (refl, d, t)) (c .if10 .taken))))
 
-element-copy-out-own5 : tie.Need-element-copy-out-own5
-element-copy-out-own5 c = search needs
+element-copy-out-own-6 : tie.Need-element-copy-out-own-6
+element-copy-out-own-6 c = search needs
 
 rests-requires-6 : tie.Need-rests-requires-6
 rests-requires-6 c κs = search needs
@@ -150,8 +150,8 @@ returns-6 c =
     (no-workers (b .kind) (b .width) (b .queue) (b .crew) (b .workers) 6 8 (omega arith)
     (next-worker (b .kind) (b .width) (b .queue) (b .crew) (b .workers) false 5 p5 (refused {t = member (b .kind) (b .width) (b .queue) (b .crew) (b .workers) 5} (c .before .busy-ok6 .ensures (b .queue) (refl, d, t)) (c .if12 .taken))))
 
-element-copy-out-own6 : tie.Need-element-copy-out-own6
-element-copy-out-own6 c = search needs
+element-copy-out-own-7 : tie.Need-element-copy-out-own-7
+element-copy-out-own-7 c = search needs
 
 rests-requires-7 : tie.Need-rests-requires-7
 rests-requires-7 c κs = search needs
@@ -177,8 +177,8 @@ returns-7 c =
     (no-workers (b .kind) (b .width) (b .queue) (b .crew) (b .workers) 7 8 (omega arith)
     (next-worker (b .kind) (b .width) (b .queue) (b .crew) (b .workers) false 6 p6 (refused {t = member (b .kind) (b .width) (b .queue) (b .crew) (b .workers) 6} (c .before .busy-ok7 .ensures (b .queue) (refl, d, t)) (c .if14 .taken))))
 
-element-copy-out-own7 : tie.Need-element-copy-out-own7
-element-copy-out-own7 c = search needs
+element-copy-out-own-8 : tie.Need-element-copy-out-own-8
+element-copy-out-own-8 c = search needs
 
 rests-requires-8 : tie.Need-rests-requires-8
 rests-requires-8 c κs = search needs
@@ -225,35 +225,35 @@ pub workers-ok-spec : {M : Type 1} → statement M
 workers-ok-spec =
     tie.close
     (tie.spec
-    element-copy-out-own0
+    element-copy-out-own
     rests-requires
     busy-ok-requires
     returns
-    element-copy-out-own1
+    element-copy-out-own-2
     rests-requires-2
     busy-ok-requires-2
     returns-2
-    element-copy-out-own2
+    element-copy-out-own-3
     rests-requires-3
     busy-ok-requires-3
     returns-3
-    element-copy-out-own3
+    element-copy-out-own-4
     rests-requires-4
     busy-ok-requires-4
     returns-4
-    element-copy-out-own4
+    element-copy-out-own-5
     rests-requires-5
     busy-ok-requires-5
     returns-5
-    element-copy-out-own5
+    element-copy-out-own-6
     rests-requires-6
     busy-ok-requires-6
     returns-6
-    element-copy-out-own6
+    element-copy-out-own-7
     rests-requires-7
     busy-ok-requires-7
     returns-7
-    element-copy-out-own7
+    element-copy-out-own-8
     rests-requires-8
     busy-ok-requires-8
     returns-8

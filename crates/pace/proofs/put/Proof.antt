@@ -7,10 +7,10 @@ use Rattle.pace.proofs.put.Statement.{statement}
 use Rattle.pace.proofs.put.Tie as tie
 
 abbrev Inv-loop : tie.InvT-loop
-Inv-loop store₀ log₀ current₀ line₀ store log current line = (length store ≡ length store₀) × (length log ≡ length log₀)
+Inv-loop store₀ log₀ last₀ line₀ store log last line = (length store ≡ length store₀) × (length log ≡ length log₀)
 
 abbrev μ-loop : tie.MeasureT-loop
-μ-loop store₀ log₀ current₀ line₀ store log current line = 5 - line
+μ-loop store₀ log₀ last₀ line₀ store log last line = 5 - line
 
 begin-requires : tie.Need-begin-requires Inv-loop μ-loop
 begin-requires c κs = search needs

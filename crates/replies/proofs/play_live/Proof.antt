@@ -1,14 +1,9 @@
 use borrow.Author.Needs.{needs}
 use Rattle.model.specs.Listing.{respond}
-use Rattle.replies.proofs.Replies.{program-live, bad-at, asks-steps}
+use Rattle.replies.proofs.Replies.{program-live, bad-at}
+use Rattle.replies.proofs.Refusals.{plays-bad, refused-by}
 use Rattle.replies.proofs.play_live.Statement.{statement}
 use Rattle.replies.proofs.play_live.Tie as tie
-
-enum-told : tie.Need-enum-told
-enum-told c = search needs
-
-refuse-requires : tie.Need-refuse-requires
-refuse-requires c κs = search needs
 
 enum-known-command : tie.Need-enum-known-command
 enum-known-command c = search needs
@@ -16,8 +11,8 @@ enum-known-command c = search needs
 begin-requires : tie.Need-begin-requires
 begin-requires c κs = search needs
 
-enum-told-2 : tie.Need-enum-told-2
-enum-told-2 c = search needs
+enum-told : tie.Need-enum-told
+enum-told c = search needs
 
 begin-requires-2 : tie.Need-begin-requires-2
 begin-requires-2 c κs = search needs
@@ -28,33 +23,17 @@ enum-known-command-2 c = search needs
 begin-requires-3 : tie.Need-begin-requires-3
 begin-requires-3 c κs = search needs
 
-enum-told-3 : tie.Need-enum-told-3
-enum-told-3 c = search needs
-
-refuse-requires-2 : tie.Need-refuse-requires-2
-refuse-requires-2 c κs = search needs
-
-enum-told-4 : tie.Need-enum-told-4
-enum-told-4 c = search needs
+enum-told-2 : tie.Need-enum-told-2
+enum-told-2 c = search needs
 
 total-requires : tie.Need-total-requires
 total-requires c κs = search needs
 
-enum-told-5 : tie.Need-enum-told-5
-enum-told-5 c = search needs
-
-refuse-requires-3 : tie.Need-refuse-requires-3
-refuse-requires-3 c κs = search needs
+refuse-requires : tie.Need-refuse-requires
+refuse-requires c κs = search needs
 
 same-length : tie.Need-same-length
 same-length c = search needs
-
-returns : tie.Need-returns
-unfolding respond
-returns c =
-    let start = c .before .before .before .before .before .before .before .before .before in
-    let a = start .args in
-    rw (c .before .before .before .before .enum-told .given .1) (bad-at _ _ _ _ _ _ (program-live (a .session) (a .store .now) (a .log .now) (start .pre .0 .1)) (c .before .before .refuse .ensures (a .store .now) (a .log .now)))
 
 same-length-2 : tie.Need-same-length-2
 same-length-2 c = search needs
@@ -62,12 +41,12 @@ same-length-2 c = search needs
 same-length-3 : tie.Need-same-length-3
 same-length-3 c = search needs
 
+returns : tie.Need-returns
+unfolding respond
+returns c = rw (c .before .before .before .before .before .before .before .command .given .1) (c .before .before .begin .ensures)
+
 same-length-4 : tie.Need-same-length-4
 same-length-4 c = search needs
-
-returns-2 : tie.Need-returns-2
-unfolding respond
-returns-2 c = rw (c .before .before .before .before .before .before .before .command .given .1) (c .before .before .begin .ensures)
 
 same-length-5 : tie.Need-same-length-5
 same-length-5 c = search needs
@@ -75,12 +54,12 @@ same-length-5 c = search needs
 same-length-6 : tie.Need-same-length-6
 same-length-6 c = search needs
 
+returns-2 : tie.Need-returns-2
+unfolding respond
+returns-2 c = rw (c .before .before .before .before .before .before .enum-told .given .1) (c .before .before .begin2 .ensures)
+
 same-length-7 : tie.Need-same-length-7
 same-length-7 c = search needs
-
-returns-3 : tie.Need-returns-3
-unfolding respond
-returns-3 c = rw (c .before .before .before .before .before .before .enum-told2 .given .1) (c .before .before .begin2 .ensures)
 
 same-length-8 : tie.Need-same-length-8
 same-length-8 c = search needs
@@ -88,79 +67,61 @@ same-length-8 c = search needs
 same-length-9 : tie.Need-same-length-9
 same-length-9 c = search needs
 
+returns-3 : tie.Need-returns-3
+unfolding respond
+returns-3 c = rw (c .before .before .before .before .before .before .before .command2 .given .1) (c .before .before .begin3 .ensures)
+
 same-length-10 : tie.Need-same-length-10
 same-length-10 c = search needs
-
-returns-4 : tie.Need-returns-4
-unfolding respond
-returns-4 c = rw (c .before .before .before .before .before .before .before .command2 .given .1) (c .before .before .begin3 .ensures)
 
 same-length-11 : tie.Need-same-length-11
 same-length-11 c = search needs
 
-returns-5 : tie.Need-returns-5
-returns-5 c = absurd (asks-steps _ _ _ (c .before .before .before .before .enum-told3 .given .1) (c .before .before .before .before .before .before .before .before .before .pre .1))
-
 same-length-12 : tie.Need-same-length-12
 same-length-12 c = search needs
+
+returns-4 : tie.Need-returns-4
+unfolding respond
+returns-4 c = rw (c .before .before .before .before .before .before .enum-told2 .given .1) (c .before .before .total .ensures)
 
 same-length-13 : tie.Need-same-length-13
 same-length-13 c = search needs
 
-same-length-14 : tie.Need-same-length-14
-same-length-14 c = search needs
-
-returns-6 : tie.Need-returns-6
-unfolding respond
-returns-6 c = rw (c .before .before .before .before .before .before .enum-told4 .given .1) (c .before .before .total .ensures)
-
-same-length-15 : tie.Need-same-length-15
-same-length-15 c = search needs
-
-returns-7 : tie.Need-returns-7
-unfolding respond
-returns-7 c =
-    let start = c .before .before .before .before .before .before .before .before .before in
+returns-5 : tie.Need-returns-5
+returns-5 c =
+    let start = c .before .before .before .before .before .before .before .before in
     let a = start .args in
-    rw (c .before .before .before .before .enum-told5 .given .1) (bad-at _ _ _ _ _ _ (program-live (a .session) (a .store .now) (a .log .now) (start .pre .0 .1)) (c .before .before .refuse3 .ensures (a .store .now) (a .log .now)))
+    refused-by (plays-bad _ (a .command) (start .pre .1) (c .before .before .before .before .match .keys5))
+    (bad-at _ _ _ _ _ _ (program-live (a .session) (a .store .now) (a .log .now) (start .pre .0 .1)) (c .before .before .refuse .ensures (a .store .now) (a .log .now)))
 
 pub play-live-spec : {M : Type 1} → statement M
 play-live-spec =
     tie.close
     (tie.spec
-    enum-told
-    refuse-requires
     enum-known-command
     begin-requires
-    enum-told-2
+    enum-told
     begin-requires-2
     enum-known-command-2
     begin-requires-3
-    enum-told-3
-    refuse-requires-2
-    enum-told-4
+    enum-told-2
     total-requires
-    enum-told-5
-    refuse-requires-3
+    refuse-requires
     same-length
-    returns
     same-length-2
     same-length-3
+    returns
     same-length-4
-    returns-2
     same-length-5
     same-length-6
+    returns-2
     same-length-7
-    returns-3
     same-length-8
     same-length-9
+    returns-3
     same-length-10
-    returns-4
     same-length-11
-    returns-5
     same-length-12
+    returns-4
     same-length-13
-    same-length-14
-    returns-6
-    same-length-15
-    returns-7)
+    returns-5)
