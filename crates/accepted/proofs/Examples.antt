@@ -2,7 +2,7 @@
 use mathlib.Core.Path.{_≡_, refl}
 use mathlib.Core.Bool.{Bool, true, false}
 use mathlib.Core.List.{List, [], _∷_, _++_}
-use Prim.Native.Nat.{ℕ, _/_}
+use Prim.Native.Nat.{ℕ}
 use lib.ListN.{replicate}
 use Rattle.model.specs.declared.Operation.{Operation}
 use Rattle.model.specs.declared.Operation.the-variants.{Put, Take, Steal}
@@ -11,20 +11,20 @@ use Rattle.model.specs.Memory.{zeros, wordAt, setWord, offsetAt, sizeAt}
 use Rattle.model.specs.Lines.{lineStep}
 use Rattle.model.specs.World.{World}
 use Rattle.model.specs.Limits.{validOf}
-use Rattle.model.specs.Counts.{someBelow, countBelow}
-use Rattle.model.specs.Calls.{freshOf, beginOf, stepOf, frontOf, Call, begin, step}
+use Rattle.model.specs.Counts.{someBelow, countBelow, entriesIn}
+use Rattle.model.specs.Calls.{freshOf, beginOf, stepOf, frontOf, Call, step}
 use Rattle.model.specs.Run.{after}
 use Rattle.model.specs.Window.{windowSize}
+use Rattle.order.specs.Order.{logFront}
 use Rattle.examples.proofs.Examples.{does, p1, bench}
+use Rattle.examples.proofs.OrderExamples as tried
 use Rattle.judgement.specs.declared.Verdict.{Verdict}
 use Rattle.judgement.specs.declared.Verdict.the-variants.{No, Accepted}
 use Rattle.judgement.specs.Judgement.{wordsOf, allBelow, accepts, judged}
-use Rattle.accepted.specs.Runs.{windowNumbers}
+use Rattle.accepted.specs.Runs.{stored}
 
 abbrev accepted : World → List Call → Bool
-accepted W cs =
-    accepts (frontOf (after W cs .bench) (after W cs .log)) (after W cs .bench .written / 4) (windowNumbers (after W cs) (windowSize (after W cs)))
-    (windowSize (after W cs))
+accepted W cs = accepts (logFront (after W cs)) (entriesIn (after W cs)) (stored (after W cs)) (windowSize (after W cs))
 
 -- no call; whatever the log held before
 pub none-accepted : accepted (freshOf 3 1 2 2 (replicate 4 0) (replicate 9 7) .world) [] ≡ true
@@ -42,14 +42,11 @@ p2-accepted = refl
 
 -- of a FIFO with one slot: an EMPTY, a put that stands in the window, one answered FULL, and a step of an idle worker that is
 -- refused, in a log that held words before
-abbrev whole : ℕ → Operation → List Call
-whole i op = begin i op ∷ replicate 6 (step i)
-
 abbrev full : List Call
-full = whole 1 Steal ++ whole 0 (Put 8) ++ whole 0 (Put 9)
+full = tried.does 1 Steal 6 ++ tried.does 0 (Put 8) 6 ++ tried.does 0 (Put 9) 6
 
 pub full-accepted : accepted (freshOf 2 1 1 2 (replicate 2 0) (replicate 40 5) .world) full ≡ true
-unfolding frontOf after allBelow someBelow freshOf beginOf stepOf validOf lineStep zeros wordAt setWord offsetAt sizeAt if_then_else_ _and_ _or_
+unfolding tried.does frontOf after allBelow someBelow freshOf beginOf stepOf validOf lineStep zeros wordAt setWord offsetAt sizeAt if_then_else_ _and_ _or_
 full-accepted = refl
 
 -- THE BYTES. The words of these runs are below 256, so each is its lowest byte and three zeros
@@ -58,7 +55,7 @@ spelled [] = []
 spelled (x ∷ l) = x ∷ 0 ∷ 0 ∷ 0 ∷ spelled l
 
 abbrev verdict : World → List Call → Verdict
-verdict W cs = judged (spelled (frontOf (after W cs .bench) (after W cs .log))) (spelled (windowNumbers (after W cs) (windowSize (after W cs))))
+verdict W cs = judged (spelled (logFront (after W cs))) (spelled (stored (after W cs)))
 
 -- P1 is answered no, though its premise is the only thing that is wrong with it; P2 has two hand-outs of different numbers
 pub p1-judged : verdict (bench 1 2) p1 ≡ No
@@ -71,8 +68,8 @@ p2-judged = refl
 
 -- P3: owner and thief are handed the same task, two hand-outs of one number
 abbrev p3 : List Call
-p3 = begin 0 (Put 5) ∷ replicate 6 (step 0) ++ begin 0 Take ∷ replicate 3 (step 0) ++ begin 1 Steal ∷ replicate 7 (step 1) ++ replicate 3 (step 0)
+p3 = tried.does 0 (Put 5) 6 ++ tried.does 0 Take 3 ++ tried.does 1 Steal 7 ++ replicate 3 (step 0)
 
 pub p3-judged : verdict (freshOf 2 1 2 2 (replicate 4 0) (replicate 40 5) .world) p3 ≡ Accepted 2 1
-unfolding frontOf after judged wordsOf allBelow someBelow countBelow freshOf beginOf stepOf validOf lineStep zeros wordAt setWord offsetAt sizeAt if_then_else_ _and_ _or_
+unfolding tried.does frontOf after judged wordsOf allBelow someBelow countBelow freshOf beginOf stepOf validOf lineStep zeros wordAt setWord offsetAt sizeAt if_then_else_ _and_ _or_
 p3-judged = refl

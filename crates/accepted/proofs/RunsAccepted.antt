@@ -30,7 +30,7 @@ use Rattle.theorems.proofs.NothingLost.{demand3}
 use Rattle.order.proofs.LogFront.{log-is-answers}
 use Rattle.judgement.specs.Judgement.{allBelow, known, numbered, rises, finishedAs, honest, listed, kept, accepts}
 use Rattle.judgement.proofs.All.{all-true}
-use Rattle.accepted.specs.Runs.{windowNumbers, RunsAccepted}
+use Rattle.accepted.specs.Runs.{windowNumbers, stored, RunsAccepted}
 
 -- a test that is asked only where another holds
 only-if : (x y : Bool) → (x ≡ true → y ≡ true) → (not x or y) ≡ true
@@ -87,28 +87,28 @@ module _ (W : World) (cs : List Call) (D : Demand3 W cs)
           let (i, g, (s, (w, a), q)) = earlier T j k (Finishes (taskAt l j)) (λ s (w, a). ap ends a) h (d .finished) in
           sym (some-at (finishedAs l j) j i g refl (is-entry l i 1 w (taskAt l j) (taskAt l j) (q ∙ ap entryOf a) (refl, refl)))
 
-  abbrev size : ℕ
-  size = windowSize (after W cs)
+  abbrev U : World
+  U = after W cs
 
-  abbrev stored : List ℕ
-  stored = windowNumbers (after W cs) size
+  abbrev size : ℕ
+  size = windowSize U
 
   -- a finished put is handed out, or stands in the window
-  kept-all : allBelow (kept l (count T) stored size) (count T) ≡ true
-  kept-all = all-true (kept l (count T) stored size) (count T) (λ j h. only-if (isKind l 1 j) _ (λ e. or-either _ _ (go j (kept-entry W cs D j e))))
+  kept-all : allBelow (kept l (count T) (stored U) size) (count T) ≡ true
+  kept-all = all-true (kept l (count T) (stored U) size) (count T) (λ j h. only-if (isKind l 1 j) _ (λ e. or-either _ _ (go j (kept-entry W cs D j e))))
     where
-      go : (j : ℕ) → (someBelow (outWhole l (taskAt l j)) (count T) ≡ true) ⊎ Stands (after W cs) (taskAt l j)
-          → (someBelow (outWhole l (taskAt l j)) (count T) ≡ true) ⊎ (someBelow (listed stored (entryAt l j .number)) size ≡ true)
+      go : (j : ℕ) → (someBelow (outWhole l (taskAt l j)) (count T) ≡ true) ⊎ Stands U (taskAt l j)
+          → (someBelow (outWhole l (taskAt l j)) (count T) ≡ true) ⊎ (someBelow (listed (stored U) (entryAt l j .number)) size ≡ true)
       go j (inl x) = inl x
       go j (inr (i, h, x, y)) =
-          inr (sym (some-at (listed stored (entryAt l j .number)) size i h refl (eq-eqb _ _ (window-number (after W cs) size i h ∙ x))))
+          inr (sym (some-at (listed (stored U) (entryAt l j .number)) size i h refl (eq-eqb _ _ (window-number U size i h ∙ x))))
 
-  all-accepted : accepts l (count T) stored size ≡ true
+  all-accepted : accepts l (count T) (stored U) size ≡ true
   all-accepted = and-both _ _ known-all (and-both _ _ rises-all (and-both _ _ honest-all kept-all))
 
 pub runs-accepted : RunsAccepted
 runs-accepted k w c n m l e cs f =
-    subst₂ (λ (l : List ℕ) (n : ℕ). accepts l n (windowNumbers (after W cs) (windowSize (after W cs))) (windowSize (after W cs)) ≡ true)
+    subst₂ (λ (l : List ℕ) (n : ℕ). accepts l n (stored (after W cs)) (windowSize (after W cs)) ≡ true)
     (sym (log-is-answers k w c n m l e cs)) (entries-many k w c n m l e cs) (all-accepted W cs (demand3 k w c n m l e cs f) (ended-puts-rise k w c n m l e cs))
   where
     W : World

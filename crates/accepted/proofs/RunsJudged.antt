@@ -10,7 +10,7 @@ use Rattle.model.specs.declared.Kind.the-variants.{Lifo, Fifo, Deque}
 use Rattle.model.specs.declared.Anchor.{Anchor}
 use Rattle.model.specs.Tests.{_and_}
 use Rattle.model.specs.World.{World}
-use Rattle.model.specs.Calls.{freshOf, frontOf}
+use Rattle.model.specs.Calls.{freshOf}
 use Rattle.model.specs.Run.{played, after}
 use Rattle.model.specs.Window.{tasks, windowSize}
 use Rattle.model.specs.Counts.{countBelow, outFirst, entriesIn, countsOf}
@@ -21,6 +21,7 @@ use Rattle.theorems.proofs.Directory.{now}
 use Rattle.theorems.proofs.Valid.{Whole}
 use Rattle.theorems.proofs.WholeRun.{whole-run}
 use Rattle.theorems.proofs.Fresh.{fresh-started}
+use Rattle.order.specs.Order.{logFront}
 use Rattle.order.proofs.Entries.{entries-long}
 use Rattle.order.proofs.LogFront.{log-is-answers}
 use Rattle.order.proofs.FrontEntries.{handouts-same, different-same, entries-many}
@@ -57,9 +58,9 @@ unfolding countsOf
 runs-judged k w c n m l e cs f log list (a, b) (x, y) short =
     judged-words log list N size whole stored short (omega (arith, stored, window-small U (whole-run cs W (fresh-started k w c n m l e .whole))))
     ∙ ap (λ (v : List ℕ). judgedWords v N (wordsOf list) size) b
-    ∙ ap (λ (v : List ℕ). judgedWords front N v size) y
+    ∙ ap (λ (v : List ℕ). judgedWords (logFront U) N v size) y
     ∙ if-true _ (runs-accepted k w c n m l e cs f)
-    ∙ ap (λ (h : ℕ). Accepted h (repeats front N)) (handouts-same U)
+    ∙ ap (λ (h : ℕ). Accepted h (repeats (logFront U) N)) (handouts-same U)
     ∙ ap (λ (r : ℕ). Accepted (countsOf U .handouts) r) same
   where
     W : World
@@ -67,9 +68,6 @@ runs-judged k w c n m l e cs f log list (a, b) (x, y) short =
 
     U : World
     U = after W cs
-
-    front : List ℕ
-    front = frontOf (U .bench) (U .log)
 
     N : ℕ
     N = entriesIn U
@@ -83,5 +81,5 @@ runs-judged k w c n m l e cs f log list (a, b) (x, y) short =
     stored : length list ≡ 4 * size
     stored = omega (arith, x, window-long U size)
 
-    same : repeats front N ≡ countsOf U .handouts - countsOf U .different
-    same = ap (λ (h : ℕ). h - countBelow (outFirst front) N) (handouts-same U) ∙ ap (λ (d : ℕ). countsOf U .handouts - d) (different-same U)
+    same : repeats (logFront U) N ≡ countsOf U .handouts - countsOf U .different
+    same = ap (λ (h : ℕ). h - countBelow (outFirst (logFront U)) N) (handouts-same U) ∙ ap (λ (d : ℕ). countsOf U .handouts - d) (different-same U)

@@ -3,14 +3,14 @@ use mathlib.Core.Path.{_≡_}
 use mathlib.Core.List.{List}
 use Prim.Native.Nat.{ℕ, _-_, _*_, _≤_}
 use lib.ListN.{length}
-use Rattle.model.specs.Calls.{Call, frontOf}
+use Rattle.model.specs.Calls.{Call}
 use Rattle.model.specs.Run.{after}
-use Rattle.model.specs.Window.{windowSize}
 use Rattle.model.specs.Counts.{countsOf}
 use Rattle.theorems.specs.Demand3.{FewPuts, FromFresh}
+use Rattle.order.specs.Order.{logFront}
 use Rattle.judgement.specs.declared.Verdict.the-variants.{Accepted}
 use Rattle.judgement.specs.Judgement.{wordsOf, judged}
-use Rattle.accepted.specs.Runs.{windowNumbers}
+use Rattle.accepted.specs.Runs.{stored}
 
 -- bytes that are the words l: four for each, lowest first
 abbrev pub Spells : List ℕ → List ℕ → Type 0
@@ -21,6 +21,6 @@ Spells bytes l = (length bytes ≡ 4 * length l) × (wordsOf bytes ≡ l)
 abbrev pub RunsJudged : Type 0
 RunsJudged =
     FromFresh
-    (λ W. (cs : List Call) → FewPuts W cs → (log list : List ℕ) → Spells log (frontOf (after W cs .bench) (after W cs .log))
-    → Spells list (windowNumbers (after W cs) (windowSize (after W cs))) → length log ≤ 65536
+    (λ W. (cs : List Call) → FewPuts W cs
+    → (log list : List ℕ) → Spells log (logFront (after W cs)) → Spells list (stored (after W cs)) → length log ≤ 65536
     → judged log list ≡ Accepted (countsOf (after W cs) .handouts) (countsOf (after W cs) .handouts - countsOf (after W cs) .different))

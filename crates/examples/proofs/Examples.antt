@@ -1,7 +1,7 @@
 -- Lists tried against the statement by computation: P1 breaks the premise and loses a task, P2 keeps it; and for each
 -- sentence of the claim a list past the premise that meets a weaker sentence and not this one.
 use mathlib.Core.Path.{_≡_, refl, sym, _∙_, ap, subst}
-use mathlib.Core.Bool.{Bool, true, false}
+use mathlib.Core.Bool.{Bool, true, false, true≢false}
 use mathlib.Core.Logic.{_⊎_, inl, inr}
 use mathlib.Core.List.{List, [], _∷_, _++_}
 use Prim.Native.Nat.{ℕ, zero, suc, _-_, _≤_, _<_}
@@ -14,7 +14,7 @@ use Rattle.model.specs.declared.Task.{Task}
 use Rattle.model.specs.declared.Operation.the-variants.{Put, Take, Steal}
 use Rattle.model.specs.declared.Answer.{Answer}
 use Rattle.model.specs.declared.Answer.the-variants.{Accepted, Numbered, GoesOn, Finished, HandedOut, Empty, Full, Refused}
-use Rattle.model.proofs.Tests.{and-both}
+use Rattle.model.proofs.Tests.{and-both, or-false}
 use Rattle.model.specs.Tests.{if_then_else_, _and_, _or_}
 use Rattle.model.specs.Memory.{zeros, wordAt, setWord, offsetAt, sizeAt}
 use Rattle.model.specs.Answers.{task}
@@ -45,13 +45,8 @@ anyOut : Task → List Played → Bool
 anyOut t [] = false
 anyOut t (s ∷ T) = isOut t (s .answer) or anyOut t T
 
-neither : (a b : Bool) → (a or b) ≡ false → (a ≡ false) × (b ≡ false)
-unfolding _or_
-neither true b e = absurd (let z : _≡_ {A = ℕ} 0 1 = cc in omega arith)
-neither false b e = (refl, e)
-
 not-both : {a : Bool} → a ≡ true → a ≡ false → ⊥
-not-both p q = let z : _≡_ {A = ℕ} 0 1 = cc in omega arith
+not-both p q = true≢false (sym p ∙ q)
 
 out-yes : (t : Task) (a : Answer) (i : ℕ) (u : Task) → a ≡ HandedOut i u → u .number ≡ t .number → u .payload ≡ t .payload → isOut t a ≡ true
 unfolding isOut
@@ -60,8 +55,8 @@ out-yes t a i u e n p = ap (isOut t) e ∙ and-both _ _ (eq-eqb _ _ n) (eq-eqb _
 none-out : (t : Task) (T : List Played) → anyOut t T ≡ false → (k : ℕ) → Out T k t → ⊥
 unfolding anyOut
 none-out t [] f k a = a
-none-out t (s ∷ T) f zero (i, u, e, b) = not-both (out-yes t (s .answer) i u e (b .0) (b .1)) (neither (isOut t (s .answer)) _ f .0)
-none-out t (s ∷ T) f (suc k) a = none-out t T (neither (isOut t (s .answer)) _ f .1) k a
+none-out t (s ∷ T) f zero (i, u, e, b) = not-both (out-yes t (s .answer) i u e (b .0) (b .1)) (or-false (isOut t (s .answer)) _ f .0)
+none-out t (s ∷ T) f (suc k) a = none-out t T (or-false (isOut t (s .answer)) _ f .1) k a
 
 -- no call of a part is a line 1 of worker i
 isStep : ℕ → Call → Bool
@@ -83,8 +78,8 @@ start-yes i s (inr (c, l, n)) = and-both _ _ (ap (isStep i) c ∙ eq-eqb i i ref
 none-starts : (i : ℕ) (T : List Played) → anyStart i T ≡ false → (k : ℕ) → At T k (Line1 i) → ⊥
 unfolding anyStart
 none-starts i [] f k a = a
-none-starts i (s ∷ T) f zero a = not-both (start-yes i s a) (neither (startsAttempt i s) _ f .0)
-none-starts i (s ∷ T) f (suc k) a = none-starts i T (neither (startsAttempt i s) _ f .1) k a
+none-starts i (s ∷ T) f zero a = not-both (start-yes i s a) (or-false (startsAttempt i s) _ f .0)
+none-starts i (s ∷ T) f (suc k) a = none-starts i T (or-false (startsAttempt i s) _ f .1) k a
 
 at-drop : (T : List Played) (l k : ℕ) (P : Played → Type 0) → l ≤ k → At T k P → At (drop l T) (k - l) P
 at-drop T zero k P h a = rw (sub-zero k) a

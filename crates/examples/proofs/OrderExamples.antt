@@ -17,7 +17,7 @@ use Rattle.model.specs.Limits.{validOf}
 use Rattle.model.specs.Calls.{freshOf, beginOf, stepOf, frontOf, Call, begin, step}
 use Rattle.model.specs.Run.{played, after}
 use Rattle.model.specs.Counts.{entryAt, isKind, outFirst, someBelow}
-use Rattle.order.specs.Order.{InOrder, LogInOrder}
+use Rattle.order.specs.Order.{InOrder, LogInOrder, logFront}
 use Rattle.order.proofs.LogFront.{log-is-answers}
 use Rattle.order.proofs.LogOrder.{log-in-order}
 
@@ -30,7 +30,7 @@ unfoldable pub bench : ℕ → World
 bench k = freshOf k 1 2 2 (replicate 4 0) (replicate 64 0) .world
 
 unfoldable pub front : ℕ → List Call → List ℕ
-front k cs = frontOf (after (bench k) cs .bench) (after (bench k) cs .log)
+front k cs = logFront (after (bench k) cs)
 
 -- the put numbers of those of a log's first n entries that pass the test
 unfoldable pub numbers : (List ℕ → ℕ → Bool) → List ℕ → ℕ → List ℕ

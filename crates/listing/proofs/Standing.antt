@@ -39,7 +39,7 @@ use Rattle.replies.specs.Choices.{askedOf, RefusedAtOnce}
 use Rattle.listing.specs.Feeding.{Reachable, FedBy}
 use Rattle.replies.proofs.Fronts.{lent-front}
 use Rattle.replies.proofs.Shows.{answer-most}
-use Rattle.replies.proofs.Replies.{played, program-live, left-on}
+use Rattle.replies.proofs.Replies.{played, program-live, left-on, played-as}
 use Rattle.listing.proofs.Feeding.{Heard, Onward, line-on, heard-next, fed-on, fed-over}
 use Rattle.listing.proofs.Reaching.{respond-reach}
 
@@ -116,7 +116,7 @@ unfolding respond
 steps-by s m l c i n p m′ l′ before at after e by =
     let a = asked-steps (s .live) c i n e in
     let same : respond (programOf s m l) c ≡ stepsOf (worldOf s m l) i n = ap (λ (P : Program). respond P c) (program-live s m l (a .0)) ∙ ap (respond (playing (worldOf s m l))) (a .1) in
-    subst (λ (R : Reply). PlayedBy R p m′ l′ before at after) (sym same) by
+    played-as same by
 
 -- while a bench is played it is reached, so within the limits
 pub reached-of : (s : Session) (m l : List ℕ) → s .live ≡ true → Reachable (programOf s m l) → Reached (worldOf s m l)

@@ -16,7 +16,7 @@ use Rattle.model.specs.Answers.{Entry, entryOf, ends}
 use Rattle.model.specs.Run.{Played}
 use Rattle.model.specs.Counts.{entryAt}
 use Rattle.theorems.specs.Demand3.{At}
-use Rattle.order.specs.Order.{wordsOf, entries}
+use Rattle.order.specs.Order.{entryWords, entries}
 use Rattle.theorems.proofs.Remainders.{le-or-lt}
 
 -- AN ANSWER BY ITS ENTRY'S KIND. Kind 1 finishes a put, kind 2 hands out
@@ -63,10 +63,10 @@ place-rises [] j k h = h
 place-rises (s ∷ T) j k h = rises-behind (ends (s .answer)) (λ i. place T i) (λ i m g. place-rises T i m g) j k h
 
 -- entry j + 1 behind an entry is entry j of the rest
-word-behind : (e : Entry) (l : List ℕ) (m n : ℕ) → n ≡ m + 4 → getD (wordsOf e ++ l) n 0 ≡ getD l m 0
-word-behind e l m n q = ap (λ (i : ℕ). getD (wordsOf e ++ l) i 0) (let z : n ≡ suc (suc (suc (suc m))) = omega arith in z)
+word-behind : (e : Entry) (l : List ℕ) (m n : ℕ) → n ≡ m + 4 → getD (entryWords e ++ l) n 0 ≡ getD l m 0
+word-behind e l m n q = ap (λ (i : ℕ). getD (entryWords e ++ l) i 0) (let z : n ≡ suc (suc (suc (suc m))) = omega arith in z)
 
-entry-behind : (e : Entry) (l : List ℕ) (j : ℕ) → entryAt (wordsOf e ++ l) (suc j) ≡ entryAt l j
+entry-behind : (e : Entry) (l : List ℕ) (j : ℕ) → entryAt (entryWords e ++ l) (suc j) ≡ entryAt l j
 entry-behind e l j =
     rw (
       word-behind e l (4 * j) (4 * suc j) (omega arith),
@@ -77,7 +77,7 @@ entry-behind e l j =
 
 -- the words of the entries behind an answer
 abbrev behind : Bool → Answer → List ℕ → List ℕ
-behind x a l = (if x then wordsOf (entryOf a) else []) ++ l
+behind x a l = (if x then entryWords (entryOf a) else []) ++ l
 
 -- FROM ENTRIES TO PLACES. An entry has the place of the answer that wrote it; past the entries kinds are 0
 abbrev Placed : List Played → (ℕ → ℕ) → List ℕ → Type 0

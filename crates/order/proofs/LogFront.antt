@@ -19,7 +19,7 @@ use Rattle.model.specs.Calls.{beginAnswer, logFull, frontOf, kindOf, Call, call
 use Rattle.model.specs.Run.{played, after}
 use Rattle.model.proofs.Tests.{or-false}
 use Rattle.theorems.specs.Demand3.{FromFresh}
-use Rattle.order.specs.Order.{wordsOf, entries, LogIsAnswers}
+use Rattle.order.specs.Order.{entryWords, entries, logFront, LogIsAnswers}
 use Rattle.theorems.proofs.Cases.{call-cases}
 use Rattle.theorems.proofs.WholeRun.{whole-run}
 use Rattle.theorems.proofs.Fresh.{start, fresh-is, fresh-started}
@@ -33,7 +33,7 @@ take-next (y ∷ l) zero (suc (suc m)) x e h = absurd (omega arith)
 take-next (y ∷ l) (suc n) (suc m) x e h = ap (λ (r : List ℕ). y ∷ r) (take-next l n m x (omega arith) (omega arith))
 
 entry-written : (l : List ℕ) (n : ℕ) (e : Entry) → n + 4 ≤ length l
-    → (length (writeEntry l n e) ≡ length l) × (take (n + 4) (writeEntry l n e) ≡ take n l ++ wordsOf e)
+    → (length (writeEntry l n e) ≡ length l) × (take (n + 4) (writeEntry l n e) ≡ take n l ++ entryWords e)
 entry-written l n e h = (long₄, front₄ ∙ joined)
   where
     a : ℕ
@@ -86,7 +86,7 @@ entry-written l n e h = (long₄, front₄ ∙ joined)
 
 -- the words that an answer adds to the front
 abbrev words : Answer → List ℕ
-words a = if ends a then wordsOf (entryOf a) else []
+words a = if ends a then entryWords (entryOf a) else []
 
 -- a call adds its answer's words, and the front still lies in the log: a refusal and a begin have none, and a step that ends an
 -- operation had room
@@ -106,7 +106,7 @@ adds-none l a e = rw e (sym (append-nil l))
 
 step-adds : (l : List ℕ) (n : ℕ) (a : Answer) (x : Bool) → n ≤ length l → (x and logFull l n) ≡ false
     → ((if x then n + 4 else n) ≤ length (if x then writeEntry l n (entryOf a) else l))
-    × (take (if x then n + 4 else n) (if x then writeEntry l n (entryOf a) else l) ≡ take n l ++ (if x then wordsOf (entryOf a) else []))
+    × (take (if x then n + 4 else n) (if x then writeEntry l n (entryOf a) else l) ≡ take n l ++ (if x then entryWords (entryOf a) else []))
 unfolding if_then_else_ _and_
 step-adds l n a true h r =
     let f : n + 4 ≤ length l = ltb-false (length l) (n + 4) (or-false (ltb (length l) (n + 4)) _ r .0) in
@@ -125,7 +125,7 @@ call-adds W h c =
 
 -- so does a list of calls
 front-grows : (cs : List Call) (W : World) → W .bench .written ≤ length (W .log)
-    → frontOf (after W cs .bench) (after W cs .log) ≡ take (W .bench .written) (W .log) ++ entries (played W cs)
+    → logFront (after W cs) ≡ take (W .bench .written) (W .log) ++ entries (played W cs)
 unfolding played after frontOf
 front-grows [] W h = sym (append-nil (take (W .bench .written) (W .log)))
 front-grows (c ∷ cs) W h =
@@ -136,7 +136,7 @@ front-grows (c ∷ cs) W h =
 -- and a fresh bench has written nothing
 pub log-is-answers : LogIsAnswers
 log-is-answers k w c n m l e =
-    subst (λ (W : World). (cs : List Call) → frontOf (after W cs .bench) (after W cs .log) ≡ entries (played W cs))
+    subst (λ (W : World). (cs : List Call) → logFront (after W cs) ≡ entries (played W cs))
     (sym (fresh-is k w c n m l e .0)) (λ cs. front-grows cs (start (kindOf k) w c n m l) (omega arith))
 
 -- which lies in the log, so that the front has as many words as are written

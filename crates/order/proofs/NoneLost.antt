@@ -10,7 +10,7 @@ use Rattle.model.specs.declared.Task.{Task}
 use Rattle.model.specs.Tests.{_and_, _or_}
 use Rattle.model.specs.Answers.{Entry, task}
 use Rattle.model.specs.World.{World}
-use Rattle.model.specs.Calls.{freshOf, frontOf}
+use Rattle.model.specs.Calls.{freshOf}
 use Rattle.model.specs.Run.{after}
 use Rattle.model.specs.Window.{windowSize}
 use Rattle.model.specs.Counts.{taskAt, isKind, someBelow, outWhole, standsAt, isLost, entriesIn, countsOf}
@@ -18,6 +18,7 @@ use Rattle.model.proofs.Tests.{and-both, or-either}
 use Rattle.model.proofs.Below.{some-at, count-zero}
 use Rattle.theorems.specs.Demand3.{Stands}
 use Rattle.theorems.proofs.NothingLost.{demand3}
+use Rattle.order.specs.Order.{logFront}
 use Rattle.order.specs.Totals.{NoneLost}
 use Rattle.order.proofs.LogFront.{log-is-answers}
 use Rattle.order.proofs.FrontEntries.{entry-same, out-same, entries-many}
@@ -42,22 +43,19 @@ none-lost k w c n m l e cs f = count-zero (isLost U (entriesIn U)) (entriesIn U)
     U : World
     U = after W cs
 
-    front : List ℕ
-    front = frontOf (U .bench) (U .log)
-
-    kept : (j : ℕ) → isKind front 1 j ≡ true → (someBelow (outWhole front (taskAt front j)) (entriesIn U) ≡ true) ⊎ Stands U (taskAt front j)
+    kept : (j : ℕ) → isKind (logFront U) 1 j ≡ true → (someBelow (outWhole (logFront U) (taskAt (logFront U) j)) (entriesIn U) ≡ true) ⊎ Stands U (taskAt (logFront U) j)
     kept =
         subst₂ (λ (l : List ℕ) (n : ℕ). (j : ℕ) → isKind l 1 j ≡ true → (someBelow (outWhole l (taskAt l j)) n ≡ true) ⊎ Stands U (taskAt l j))
         (sym (log-is-answers k w c n m l e cs)) (entries-many k w c n m l e cs) (kept-entry W cs (demand3 k w c n m l e cs f))
 
     there : (j : ℕ) → j < entriesIn U → isKind (U .log) 1 j ≡ true
         → (someBelow (outWhole (U .log) (taskAt (U .log) j)) (entriesIn U) ≡ true) ⊎ (someBelow (standsAt U (taskAt (U .log) j)) (windowSize U) ≡ true)
-    there j h q = go (subst (λ (t : Task). (someBelow (outWhole front t) (entriesIn U) ≡ true) ⊎ Stands U t) same (kept j (ap (λ (x : Entry). eqb (x .kind) 1) (entry-same U j h) ∙ q)))
+    there j h q = go (subst (λ (t : Task). (someBelow (outWhole (logFront U) t) (entriesIn U) ≡ true) ⊎ Stands U t) same (kept j (ap (λ (x : Entry). eqb (x .kind) 1) (entry-same U j h) ∙ q)))
       where
-        same : taskAt front j ≡ taskAt (U .log) j
+        same : taskAt (logFront U) j ≡ taskAt (U .log) j
         same = ap (λ (x : Entry). task (x .number) (x .payload)) (entry-same U j h)
 
-        go : (someBelow (outWhole front (taskAt (U .log) j)) (entriesIn U) ≡ true) ⊎ Stands U (taskAt (U .log) j)
+        go : (someBelow (outWhole (logFront U) (taskAt (U .log) j)) (entriesIn U) ≡ true) ⊎ Stands U (taskAt (U .log) j)
             → (someBelow (outWhole (U .log) (taskAt (U .log) j)) (entriesIn U) ≡ true) ⊎ (someBelow (standsAt U (taskAt (U .log) j)) (windowSize U) ≡ true)
         go (inl x) = inl (sym (out-same U (taskAt (U .log) j)) ∙ x)
         go (inr x) = inr (stands-some U _ x)

@@ -37,17 +37,20 @@ FromFifo P =
 abbrev pub FifoInOrder : Type 0
 FifoInOrder = FromFifo (λ W. (cs : List Call) → InOrder (played W cs))
 
--- THE LOG. The four words of an entry; those of the answers of a list, in order
-abbrev pub wordsOf : Entry → List ℕ
-wordsOf e = e .kind ∷ e .worker ∷ e .number ∷ e .payload ∷ []
+-- THE LOG. Its written front; the four words of an entry; those of the answers of a list, in order
+abbrev pub logFront : World → List ℕ
+logFront W = frontOf (W .bench) (W .log)
+
+abbrev pub entryWords : Entry → List ℕ
+entryWords e = e .kind ∷ e .worker ∷ e .number ∷ e .payload ∷ []
 
 abbrev pub entries : List Played → List ℕ
 entries [] = []
-entries (s ∷ T) = (if ends (s .answer) then wordsOf (entryOf (s .answer)) else []) ++ entries T
+entries (s ∷ T) = (if ends (s .answer) then entryWords (entryOf (s .answer)) else []) ++ entries T
 
 -- the log's written front is the entries that the steps answered, in order: of every kind
 abbrev pub LogIsAnswers : Type 0
-LogIsAnswers = FromFresh (λ W. (cs : List Call) → frontOf (after W cs .bench) (after W cs .log) ≡ entries (played W cs))
+LogIsAnswers = FromFresh (λ W. (cs : List Call) → logFront (after W cs) ≡ entries (played W cs))
 
 -- of two entries of the log l, each the first hand-out of its put number, the later one has the larger number; past a log's
 -- end there is no hand-out
@@ -57,4 +60,4 @@ LogInOrder l =
 
 -- THE CLAIM, of the log
 abbrev pub FifoLogInOrder : Type 0
-FifoLogInOrder = FromFifo (λ W. (cs : List Call) → LogInOrder (frontOf (after W cs .bench) (after W cs .log)))
+FifoLogInOrder = FromFifo (λ W. (cs : List Call) → LogInOrder (logFront (after W cs)))

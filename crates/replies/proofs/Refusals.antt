@@ -1,18 +1,16 @@
 -- Lines that are refused 13 whatever the bench is, by the numbers of their cases.
 use mathlib.Core.Bool.{true}
 use mathlib.Core.List.{List, [], _∷_}
-use mathlib.Core.Path.{_≡_, refl, sym, subst}
+use mathlib.Core.Path.{_≡_, refl}
 use Prim.Native.Nat.{ℕ}
 use denote.Enum.Declared.{tagOf}
 use types.Run.{OneOf, miss}
 use Rattle.model.specs.declared.Command.{Command}
 use Rattle.model.specs.declared.Command.the-variants.{Open, BeginPut, BeginTake, BeginSteal, Steps, End, Bad}
 use Rattle.model.specs.World.{World}
-use Rattle.model.specs.Listing.{Reply, waiting, playing, respond, bad}
+use Rattle.model.specs.Listing.{waiting, playing, respond, bad}
 use Rattle.model.proofs.Command.{the-type}
 use Rattle.replies.specs.declared.Asked.the-variants.{Other}
-use Rattle.replies.specs.declared.Played.{Played}
-use Rattle.replies.specs.Sessions.{PlayedBy}
 use Rattle.replies.specs.Choices.{askedOf}
 use Rattle.replies.proofs.Replies.{asks-steps}
 
@@ -37,6 +35,3 @@ plays-bad W (BeginSteal i) q h = absurd (miss (0 ∷ 4 ∷ 6 ∷ []) 3 tt h)
 plays-bad W (Steps i n) q h = absurd (asks-steps _ _ _ refl q)
 plays-bad W End q h = absurd (miss (0 ∷ 4 ∷ 6 ∷ []) 5 tt h)
 plays-bad W Bad q h = refl
-
-pub refused-by : {R S : Reply} {p : Played} {m l before : List ℕ} {at : ℕ} {after : List ℕ} → S ≡ R → PlayedBy R p m l before at after → PlayedBy S p m l before at after
-refused-by {p = p} {m} {l} {before} {at} {after} e by = subst (λ (X : Reply). PlayedBy X p m l before at after) (sym e) by

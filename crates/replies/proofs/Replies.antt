@@ -22,7 +22,7 @@ use Rattle.state.specs.declared.Stop.{Stop}
 use Rattle.state.specs.declared.Stop.the-variants.{No, Why}
 use Rattle.opening.specs.Begins.{BeginStops}
 use Rattle.model.specs.Counts.{countsOf}
-use Rattle.model.specs.Listing.{Program, waiting, playing, ended, printed, isRefused, totals, reply, opened, told, bad, respond}
+use Rattle.model.specs.Listing.{Program, Reply, waiting, playing, ended, printed, isRefused, totals, reply, opened, told, respond}
 use Rattle.text.specs.Numbers.{lineOf, Placed}
 use Rattle.replies.specs.declared.Judged.the-variants.{Made, Stopped}
 use Rattle.replies.specs.declared.Asked.the-variants.{Other, Step}
@@ -114,9 +114,9 @@ judged-stopped (Empty i) e = cc
 judged-stopped (Full i t) e = cc
 judged-stopped (Refused r) e = refl
 
--- a line out of place, where the program stands
-pub bad-at : {P Q : Program} (p : Played) (m l before : List ℕ) (at : ℕ) (after : List ℕ) → P ≡ Q → PlayedBy (bad P) p m l before at after → PlayedBy (bad Q) p m l before at after
-bad-at p m l before at after e by = subst (λ (X : Program). PlayedBy (bad X) p m l before at after) e by
+-- a reply under another name
+pub played-as : {R S : Reply} {p : Played} {m l before : List ℕ} {at : ℕ} {after : List ℕ} → S ≡ R → PlayedBy R p m l before at after → PlayedBy S p m l before at after
+played-as {p = p} {m} {l} {before} {at} {after} e by = subst (λ (X : Reply). PlayedBy X p m l before at after) (sym e) by
 
 -- `queue`, on the words that were lent, p as fresh leaves them
 module _ (k v c i w n : ℕ) (m l p : List ℕ) (b : Bench) (a : Answer) (e : ℕ) (before : List ℕ) (at : ℕ) (after : List ℕ)

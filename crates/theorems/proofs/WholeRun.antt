@@ -23,6 +23,7 @@ use Rattle.model.specs.Lines.{Effect}
 use Rattle.model.specs.World.{World, Outcome, resting, lineAt, isIdle}
 use Rattle.model.specs.Calls.{logFull, usedBy, firstLine, begun, stepped, nextEffect, Call, callOf}
 use Rattle.model.specs.Run.{after}
+use Rattle.model.proofs.Tests.{or-false}
 use Rattle.theorems.proofs.Cases.{MayBegin, MayStep, call-cases}
 use Rattle.theorems.proofs.Shape.{Spent, Shape}
 use Rattle.theorems.proofs.ShapeOwner.{own-shaped, stay, spent-put}
@@ -81,11 +82,6 @@ entry-length l at e =
     length-set (set (set (set l at (e .kind)) (at + 1) (e .worker)) (at + 2) (e .number)) (at + 3) (e .payload)
     ∙ length-set (set (set l at (e .kind)) (at + 1) (e .worker)) (at + 2) (e .number) ∙ length-set (set l at (e .kind)) (at + 1) (e .worker)
     ∙ length-set l at (e .kind)
-
-neither : (a b : Bool) → (a or b) ≡ false → a ≡ false
-unfolding _or_
-neither true b e = e
-neither false b e = refl
 
 -- the owner's operations and the thieves'
 pub not-thief : (k : ℕ) {A : Type 0} → eqb (suc k) 0 ≡ true → A
@@ -175,7 +171,7 @@ module _ {W : World} (H : Whole W) where
       rw ex
       (omega (
         arith,
-        ltb-false (length (W .log)) (W .bench .written + 4) (neither (ltb (length (W .log)) (W .bench .written + 4)) _ ey),
+        ltb-false (length (W .log)) (W .bench .written + 4) (or-false (ltb (length (W .log)) (W .bench .written + 4)) _ ey .0),
         entry-length (W .log) (W .bench .written) (entryOf (E .answer)),
       ))
   written-in i E false y ex ey nb = rw ex (H .logged)

@@ -1,7 +1,8 @@
 use borrow.Author.Needs.{needs}
-use Rattle.model.specs.Listing.{respond}
-use Rattle.replies.proofs.Replies.{program-live, bad-at}
-use Rattle.replies.proofs.Refusals.{plays-bad, refused-by}
+use mathlib.Core.Path.{sym, ap, _∙_}
+use Rattle.model.specs.Listing.{bad, respond}
+use Rattle.replies.proofs.Replies.{program-live, played-as}
+use Rattle.replies.proofs.Refusals.{plays-bad}
 use Rattle.replies.proofs.play_live.Statement.{statement}
 use Rattle.replies.proofs.play_live.Tie as tie
 
@@ -91,8 +92,8 @@ returns-5 : tie.Need-returns-5
 returns-5 c =
     let start = c .before .before .before .before .before .before .before .before in
     let a = start .args in
-    refused-by (plays-bad _ (a .command) (start .pre .1) (c .before .before .before .before .match .keys5))
-    (bad-at _ _ _ _ _ _ (program-live (a .session) (a .store .now) (a .log .now) (start .pre .0 .1)) (c .before .before .refuse .ensures (a .store .now) (a .log .now)))
+    played-as (plays-bad _ (a .command) (start .pre .1) (c .before .before .before .before .match .keys5) ∙ ap bad (sym (program-live (a .session) (a .store .now) (a .log .now) (start .pre .0 .1))))
+    (c .before .before .refuse .ensures (a .store .now) (a .log .now))
 
 pub play-live-spec : {M : Type 1} → statement M
 play-live-spec =

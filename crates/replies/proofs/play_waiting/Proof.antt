@@ -1,7 +1,8 @@
 use borrow.Author.Needs.{needs}
-use Rattle.model.specs.Listing.{respond}
-use Rattle.replies.proofs.Replies.{bad-at, program-waits}
-use Rattle.replies.proofs.Refusals.{waits-bad, refused-by}
+use mathlib.Core.Path.{sym, ap, _∙_}
+use Rattle.model.specs.Listing.{bad, respond}
+use Rattle.replies.proofs.Replies.{program-waits, played-as}
+use Rattle.replies.proofs.Refusals.{waits-bad}
 use Rattle.replies.proofs.play_waiting.Statement.{statement}
 use Rattle.replies.proofs.play_waiting.Tie as tie
 
@@ -18,8 +19,8 @@ returns : tie.Need-returns
 returns c =
     let start = c .before .before .before .before .before .before .before in
     let a = start .args in λ l.
-    refused-by (waits-bad (a .store .now) l (a .command) (c .before .before .before .before .match .keys2))
-    (bad-at _ _ _ _ _ _ (program-waits (a .session) (a .store .now) l (start .pre .1)) (c .before .before .refuse .ensures (a .store .now) l))
+    played-as (waits-bad (a .store .now) l (a .command) (c .before .before .before .before .match .keys2) ∙ ap bad (sym (program-waits (a .session) (a .store .now) l (start .pre .1))))
+    (c .before .before .refuse .ensures (a .store .now) l)
 
 open-queue-requires : tie.Need-open-queue-requires
 open-queue-requires c κs = search needs
