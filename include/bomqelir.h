@@ -1,4 +1,5 @@
-/* The proved judge of a matcher's log, for C and C++.
+/* The proved judge of a matcher's log, for C (from C99 on) and C++ (from C++11
+ * on).
  *
  * Link target/staticlib/libjudge.a, which `rt staticlib judge` proves and
  * builds. It needs memset and about 48 KiB of stack, allocates nothing, keeps
@@ -10,12 +11,13 @@
 #include <stddef.h>
 #include <stdint.h>
 
-#ifdef __cplusplus
-extern "C" {
-#endif
+/* Rises by one with every change to what this header declares or promises, so
+ * that a caller can ask for what it needs: #if BOMQELIR_VERSION < 2 ... */
+#define BOMQELIR_VERSION 1
 
 /* What bomqelir_judge answers for a log that it can't judge, and for one that
- * it does not accept. */
+ * it does not accept. 15 comes before 14: what is too long is answered 15, whole
+ * entries or not. */
 #define BOMQELIR_NO UINT64_C(0)
 #define BOMQELIR_BAD_LENGTH UINT64_C(14) /* not whole entries (16 bytes), or not whole numbers (4 bytes) */
 #define BOMQELIR_TOO_LONG UINT64_C(15)   /* either of them over 65,536 bytes */
@@ -32,18 +34,21 @@ extern "C" {
  *     2^32 + 65,536 * hand-outs + repeats
  *
  * where repeats are the hand-outs less the different put numbers among them.
- * Neither pointer may be null, also where its length is 0; the bytes are only
- * read.
+ * The bytes are only read. Where a length is 0 nothing is read, and its pointer
+ * may be null, as data() of an empty std::vector may be.
  */
+#ifdef __cplusplus
+extern "C"
+#endif
 uint64_t bomqelir_judge(const uint8_t *log, size_t log_bytes, const uint8_t *stored, size_t stored_bytes);
 
-/* The two counts of an accepting answer. */
+/* Whether the log is accepted, and the two counts: both 0 if it is not. */
 static inline int bomqelir_accepted(uint64_t answer) { return (answer >> 32) != 0; }
-static inline uint32_t bomqelir_handouts(uint64_t answer) { return (uint32_t)(answer >> 16) & 0xffffu; }
-static inline uint32_t bomqelir_repeats(uint64_t answer) { return (uint32_t)answer & 0xffffu; }
-
-#ifdef __cplusplus
+static inline uint32_t bomqelir_handouts(uint64_t answer) {
+    return bomqelir_accepted(answer) ? (answer >> 16) & 0xffffu : 0u;
 }
-#endif
+static inline uint32_t bomqelir_repeats(uint64_t answer) {
+    return bomqelir_accepted(answer) ? answer & 0xffffu : 0u;
+}
 
 #endif

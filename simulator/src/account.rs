@@ -4,11 +4,10 @@
 //! there are and, for each put number, what became of its task. That is a fixed
 //! amount of memory however long the input.
 
+use crate::bench::LAST_NUMBER;
+
 /// The log's room, in entries of four words.
 const ENTRIES: u32 = 4096;
-
-/// The last put number.
-const LAST_NUMBER: u32 = 65_535;
 
 #[derive(Clone, Copy, Default)]
 struct Put {
@@ -28,7 +27,6 @@ pub struct Account {
     finished: u32,
     hand_outs: u32,
     different: u32,
-    restarts: u32,
 }
 
 impl Account {
@@ -40,7 +38,6 @@ impl Account {
             finished: 0,
             hand_outs: 0,
             different: 0,
-            restarts: 0,
         }
     }
 
@@ -54,14 +51,10 @@ impl Account {
         ENTRIES - self.entries
     }
 
-    /// The number of the put that begins now, if there is one left.
-    pub fn begin_put(&mut self, payload: u32) -> Option<u32> {
-        if self.last_begun == LAST_NUMBER {
-            return None;
-        }
-        self.last_begun += 1;
-        self.puts[self.last_begun as usize].payload = payload;
-        Some(self.last_begun)
+    /// The put `number` begins; numbers are given from 1 on, in turn.
+    pub fn begin_put(&mut self, number: u32, payload: u32) {
+        self.last_begun = number;
+        self.puts[number as usize].payload = payload;
     }
 
     pub fn finish(&mut self, number: u32) {
@@ -90,12 +83,8 @@ impl Account {
         self.entries += 1;
     }
 
-    pub fn restart(&mut self) {
-        self.restarts = self.restarts.saturating_add(1);
-    }
-
-    /// The six counts of `T`, given the tasks in the window.
-    pub fn totals(&self, window: impl Iterator<Item = (u32, u32)>) -> [u32; 6] {
+    /// The six counts of `T`, given the tasks in the window and the restarts.
+    pub fn totals(&self, window: impl Iterator<Item = (u32, u32)>, restarts: u32) -> [u32; 6] {
         let mut standing = vec![false; self.puts.len()];
         let mut tasks = 0;
         for (number, payload) in window {
@@ -108,7 +97,7 @@ impl Account {
             put.finished && !put.task_seen && !standing
         });
         let lost = lost.count() as u32;
-        [self.finished, self.hand_outs, self.different, self.restarts, tasks, lost]
+        [self.finished, self.hand_outs, self.different, restarts, tasks, lost]
     }
 }
 
@@ -136,20 +125,10 @@ mod tests {
     }
 
     #[test]
-    fn numbers_end_at_65535() {
-        let mut account = Account::new();
-        for number in 1..=65_535 {
-            assert_eq!(account.begin_put(0), Some(number));
-        }
-        assert_eq!(account.begin_put(0), None);
-        assert_eq!(account.begin_put(0), None);
-    }
-
-    #[test]
     fn lost_goes_by_both_words_and_different_by_the_number() {
         let mut account = Account::new();
-        for payload in [10, 20, 30, 40] {
-            let number = account.begin_put(payload).unwrap();
+        for number in 1..=4 {
+            account.begin_put(number, 10 * number);
             if number < 4 {
                 account.finish(number);
             }
@@ -157,18 +136,8 @@ mod tests {
         account.hand_out(1, 10);
         account.hand_out(1, 10);
         account.hand_out(2, 10); // number of one, payload of another
-        account.restart();
-        assert_eq!(account.totals([(3, 30)].into_iter()), [3, 3, 2, 1, 1, 1]);
-        assert_eq!(account.totals([(3, 31), (2, 20)].into_iter()), [3, 3, 2, 1, 2, 1]);
-        assert_eq!(account.totals([].into_iter()), [3, 3, 2, 1, 0, 2]);
-    }
-
-    #[test]
-    fn the_restarts_stay_at_the_largest_count() {
-        let mut account = Account::new();
-        account.restarts = u32::MAX - 1;
-        account.restart();
-        account.restart();
-        assert_eq!(account.totals([].into_iter())[3], u32::MAX);
+        assert_eq!(account.totals([(3, 30)].into_iter(), 1), [3, 3, 2, 1, 1, 1]);
+        assert_eq!(account.totals([(3, 31), (2, 20)].into_iter(), 1), [3, 3, 2, 1, 2, 1]);
+        assert_eq!(account.totals([].into_iter(), 1), [3, 3, 2, 1, 0, 2]);
     }
 }

@@ -67,7 +67,7 @@ pub struct DoubleEnded {
 }
 
 impl DoubleEnded {
-    pub fn new(width: u32, size: u32, words: u32) -> DoubleEnded {
+    pub fn new(width: u32, store: Store) -> DoubleEnded {
         let worker = Worker {
             counter: Counter::Idle,
             read: Anchor::default(),
@@ -77,7 +77,7 @@ impl DoubleEnded {
             h2: 0,
         };
         DoubleEnded {
-            store: Store::new(words, size),
+            store,
             anchor: Anchor::default(),
             largest_tag: (1 << width) - 1,
             workers: [worker; 8],
@@ -130,7 +130,7 @@ impl DoubleEnded {
                 let g = if g == *largest_tag { 0 } else { g + 1 };
                 *anchor = Anchor { h, s: s + 1, g };
                 me.counter = Counter::Idle;
-                Outcome::Finished { number: me.number }
+                Outcome::Finished { number: me.number, payload: me.payload }
             }
             Counter::P4 => Outcome::Refused(refusal::LOG_FULL),
 
@@ -141,7 +141,7 @@ impl DoubleEnded {
                 }
                 None if room => {
                     me.counter = Counter::Idle;
-                    Outcome::Full { number: me.number }
+                    Outcome::Full { number: me.number, payload: me.payload }
                 }
                 None => Outcome::Refused(refusal::LOG_FULL),
             },
@@ -237,6 +237,19 @@ impl DoubleEnded {
         (h..h + s).map(move |i| (self.store.number(array, i), self.store.payload(array, i)))
     }
 
+    /// What is shared: head, count and tag.
+    pub fn anchor(&self) -> [u32; 3] {
+        [self.anchor.h, self.anchor.s, self.anchor.g]
+    }
+
+    pub fn store(&self) -> &Store {
+        &self.store
+    }
+
+    pub fn into_store(self) -> Store {
+        self.store
+    }
+
     /// Whether the next put, left alone, would have to expand.
     pub fn full(&self) -> bool {
         self.anchor.s == self.store.size()
@@ -263,6 +276,10 @@ mod tests {
     use super::*;
     use crate::witness::Blind;
 
+    fn double_ended(width: u32, size: u32, words: usize) -> DoubleEnded {
+        DoubleEnded::new(width, Store::fresh(vec![0; words], size))
+    }
+
     fn steps(queue: &mut DoubleEnded, worker: usize, count: u32) -> Outcome {
         let mut last = Outcome::GoesOn;
         for made in 1..=count {
@@ -276,12 +293,12 @@ mod tests {
 
     fn put(queue: &mut DoubleEnded, number: u32, payload: u32) {
         queue.begin_put(number, payload);
-        assert_eq!(steps(queue, 0, 5), Outcome::Finished { number });
+        assert_eq!(steps(queue, 0, 5), Outcome::Finished { number, payload });
     }
 
     #[test]
     fn the_owner_takes_the_newest_a_thief_the_oldest() {
-        let mut queue = DoubleEnded::new(4, 4, 8);
+        let mut queue = double_ended(4, 4, 8);
         for number in 1..=3 {
             put(&mut queue, number, 10 * number);
         }
@@ -295,7 +312,7 @@ mod tests {
     #[test]
     fn a_compare_looks_at_all_three() {
         // The head alone would be equal here: only the count differs.
-        let mut queue = DoubleEnded::new(4, 4, 8);
+        let mut queue = double_ended(4, 4, 8);
         put(&mut queue, 1, 10);
         put(&mut queue, 2, 20);
         queue.begin_steal(1);
@@ -314,7 +331,7 @@ mod tests {
 
     #[test]
     fn the_head_comes_round_at_2048() {
-        let mut queue = DoubleEnded::new(16, 2, 4);
+        let mut queue = double_ended(16, 2, 4);
         queue.anchor.h = 2047;
         put(&mut queue, 1, 10);
         put(&mut queue, 2, 20);
@@ -327,7 +344,7 @@ mod tests {
 
     #[test]
     fn expansion_with_nothing_left_to_copy() {
-        let mut queue = DoubleEnded::new(4, 1, 6);
+        let mut queue = double_ended(4, 1, 6);
         put(&mut queue, 1, 10);
         queue.begin_put(2, 20);
         steps(&mut queue, 0, 2);
@@ -335,20 +352,20 @@ mod tests {
         steps(&mut queue, 1, 7);
         assert_eq!(steps(&mut queue, 0, 3), Outcome::Published);
         assert_eq!(queue.store.size(), 2, "twice the size, not twice the count");
-        assert_eq!(steps(&mut queue, 0, 5), Outcome::Finished { number: 2 });
+        assert_eq!(steps(&mut queue, 0, 5), Outcome::Finished { number: 2, payload: 20 });
         assert_eq!(queue.window().collect::<Vec<_>>(), [(2, 20)]);
     }
 
     #[test]
     fn expansion_across_the_heads_end() {
-        let mut queue = DoubleEnded::new(4, 2, 12);
+        let mut queue = double_ended(4, 2, 12);
         queue.anchor.h = 2047;
         put(&mut queue, 1, 10);
         put(&mut queue, 2, 20);
         queue.begin_put(3, 30);
         // Lines 1 and 2, X1, X2, two copies, X4.
         assert_eq!(steps(&mut queue, 0, 7), Outcome::Published);
-        assert_eq!(steps(&mut queue, 0, 5), Outcome::Finished { number: 3 });
+        assert_eq!(steps(&mut queue, 0, 5), Outcome::Finished { number: 3, payload: 30 });
         assert_eq!(queue.window().collect::<Vec<_>>(), [(1, 10), (2, 20), (3, 30)]);
         // 2047 lies in slot 3 of the new array, 2048 and 2049 in slots 0 and 1.
         assert_eq!(queue.store.number(queue.store.current(), 3), 1);
@@ -356,20 +373,20 @@ mod tests {
 
     #[test]
     fn a_put_writes_back_the_head_it_read() {
-        let mut queue = DoubleEnded::new(4, 4, 8);
+        let mut queue = double_ended(4, 4, 8);
         put(&mut queue, 1, 10);
         queue.begin_put(2, 20);
         steps(&mut queue, 0, 4);
         queue.begin_steal(1);
         steps(&mut queue, 1, 7);
         assert_eq!(queue.anchor, Anchor { h: 1, s: 0, g: 1 });
-        assert_eq!(steps(&mut queue, 0, 1), Outcome::Finished { number: 2 });
+        assert_eq!(steps(&mut queue, 0, 1), Outcome::Finished { number: 2, payload: 20 });
         assert_eq!(queue.anchor, Anchor { h: 0, s: 2, g: 2 });
     }
 
     #[test]
     fn the_log_full_at_every_ending_line() {
-        let mut queue = DoubleEnded::new(1, 1, 2);
+        let mut queue = double_ended(1, 1, 2);
         queue.begin_take();
         steps(&mut queue, 0, 1);
         assert_eq!(queue.step(0, false, &mut Blind), Outcome::Refused(11));
@@ -377,11 +394,13 @@ mod tests {
         queue.begin_put(1, 10);
         steps(&mut queue, 0, 4);
         assert_eq!(queue.step(0, false, &mut Blind), Outcome::Refused(11));
-        assert_eq!(queue.step(0, true, &mut Blind), Outcome::Finished { number: 1 });
+        let finished = Outcome::Finished { number: 1, payload: 10 };
+        assert_eq!(queue.step(0, true, &mut Blind), finished);
         queue.begin_put(2, 20);
         steps(&mut queue, 0, 2);
         assert_eq!(queue.step(0, false, &mut Blind), Outcome::Refused(11));
-        assert_eq!(queue.step(0, true, &mut Blind), Outcome::Full { number: 2 });
+        let full = Outcome::Full { number: 2, payload: 20 };
+        assert_eq!(queue.step(0, true, &mut Blind), full);
         queue.begin_steal(1);
         steps(&mut queue, 1, 6);
         assert_eq!(queue.step(1, false, &mut Blind), Outcome::Refused(11));

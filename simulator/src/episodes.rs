@@ -3,15 +3,16 @@
 use crate::damage;
 use crate::outcome::Place;
 use crate::script::Script;
+use crate::store::LARGEST;
 
 /// Begins something for an idle worker.
 fn begin(script: &mut Script, worker: u32) {
     if worker > 0 {
-        script.say(&format!("steal {worker}"));
+        script.steal(worker);
     } else if script.random.chance(58) {
         script.put();
     } else {
-        script.say("take");
+        script.take();
     }
 }
 
@@ -32,13 +33,13 @@ fn whole_take(script: &mut Script) -> bool {
     if !owner_idle(script) {
         return false;
     }
-    script.say("take");
+    script.take();
     script.finish(0)
 }
 
 fn whole_steal(script: &mut Script, thief: u32) -> bool {
     if script.idle(thief) {
-        script.say(&format!("steal {thief}"));
+        script.steal(thief);
     }
     script.finish(thief)
 }
@@ -78,10 +79,10 @@ pub fn burst(script: &mut Script) {
             begin(script, worker);
         }
         match script.random.below(8) {
-            // Past the end, so that the refusal stops it.
-            0 => script.step(worker, 65_535),
+            // Past the end, to the refusals.
+            0 => script.step(worker, script.most_steps()),
             1 => {
-                let count = script.random.between(8, 3000);
+                let count = script.random.between(8, 3000).min(script.most_steps());
                 script.step(worker, count);
             }
             _ => {
@@ -123,7 +124,7 @@ pub fn owner_paused(script: &mut Script) {
     if script.random.chance(35) {
         script.put();
     } else {
-        script.say("take");
+        script.take();
     }
     script.step_until(0, 3000, |place| matches!(place, Place::Last | Place::Idle));
     for _ in 0..script.random.between(1, 8) {
@@ -131,7 +132,7 @@ pub fn owner_paused(script: &mut Script) {
         if script.random.chance(75) {
             whole_steal(script, thief);
         } else if script.idle(thief) {
-            script.say(&format!("steal {thief}"));
+            script.steal(thief);
         } else {
             let count = script.random.between(1, 6);
             script.step(thief, count);
@@ -173,7 +174,7 @@ pub fn tag_comes_round(script: &mut Script) {
         if !script.finish(thief) {
             return;
         }
-        script.say(&format!("steal {thief}"));
+        script.steal(thief);
         match script.random.below(10) {
             0..=4 => {
                 script.step_until(thief, 20, |place| matches!(place, Place::Last | Place::Idle));
@@ -254,7 +255,7 @@ pub fn noted_before_growth(script: &mut Script) {
     for _ in 0..script.random.between(1, 3) {
         let Some(thief) = other_thief(script, &waiting) else { break };
         if script.idle(thief) {
-            script.say(&format!("steal {thief}"));
+            script.steal(thief);
         }
         script.step_until(thief, 20, |place| matches!(place, Place::Noted | Place::Idle));
         if script.random.chance(25) {
@@ -330,7 +331,7 @@ pub fn race(script: &mut Script) {
     }
     for thief in 1..script.shape.crew {
         if script.idle(thief) {
-            script.say(&format!("steal {thief}"));
+            script.steal(thief);
         }
         script.step_until(thief, 20, |place| matches!(place, Place::Last | Place::Idle));
     }
@@ -339,6 +340,21 @@ pub fn race(script: &mut Script) {
             let count = script.random.between(1, 8);
             script.step(thief, count);
         }
+    }
+}
+
+/// Any of those above.
+pub fn any(script: &mut Script) {
+    match script.random.below(10) {
+        0 | 1 => uniform(script),
+        2 => burst(script),
+        3 => fill(script),
+        4 => drain(script),
+        5 => owner_paused(script),
+        6 => tag_comes_round(script),
+        7 => noted_before_growth(script),
+        8 => emptied_before_x2(script),
+        _ => race(script),
     }
 }
 
@@ -351,15 +367,15 @@ pub fn refusals(script: &mut Script) {
             _ => script.random.word(),
         };
         match script.random.below(9) {
-            0 => script.say("steal 0"),
-            1 => script.say(&format!("steal {beyond}")),
+            0 => script.steal(0),
+            1 => script.steal(beyond),
             2 => script.say(&format!("step {beyond} 1")),
             3 => script.say(&format!("step {beyond} 0")),
             4 => script.put(),
-            5 => script.say("take"),
+            5 => script.take(),
             6 => {
                 let worker = script.random.below(script.shape.crew);
-                script.say(&format!("steal {worker}"));
+                script.steal(worker);
             }
             7 => {
                 let worker = script.random.below(script.shape.crew);
@@ -390,7 +406,7 @@ pub fn damaged(script: &mut Script) {
 pub fn fill_log(script: &mut Script, left: u32) {
     let until_empty = if script.shape.kind == 2 { 3 } else { 2 };
     while script.entries_left() > left {
-        script.say("take");
+        script.take();
         script.step(0, until_empty);
     }
 }
@@ -423,6 +439,15 @@ pub fn past_the_log(script: &mut Script) {
         }
         script.finish(worker);
         script.step(worker, 2);
+    }
+}
+
+/// One put more than the largest array holds, with nobody else at work.
+pub fn past_the_largest_array(script: &mut Script) {
+    for _ in 0..=LARGEST {
+        if !whole_put(script) {
+            return;
+        }
     }
 }
 

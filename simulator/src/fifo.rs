@@ -80,7 +80,7 @@ pub struct Fifo {
 }
 
 impl Fifo {
-    pub fn new(size: u32, words: u32) -> Fifo {
+    pub fn new(store: Store) -> Fifo {
         let thief = Thief {
             line: StealLine::Nothing,
             head: 0,
@@ -90,7 +90,7 @@ impl Fifo {
             payload: 0,
         };
         Fifo {
-            store: Store::new(words, size),
+            store,
             head: 0,
             tail: 0,
             doing: Doing::Nothing,
@@ -168,7 +168,7 @@ impl Fifo {
                 }
                 self.tail = self.tail_read + 1;
                 self.doing = Doing::Nothing;
-                return Outcome::Finished { number: self.number };
+                return Outcome::Finished { number: self.number, payload: self.payload };
             }
             PutLine::X1 => {
                 let Some(array) = self.store.next_array() else {
@@ -176,7 +176,7 @@ impl Fifo {
                         return Outcome::Refused(refusal::LOG_FULL);
                     }
                     self.doing = Doing::Nothing;
-                    return Outcome::Full { number: self.number };
+                    return Outcome::Full { number: self.number, payload: self.payload };
                 };
                 self.store.claim(array);
                 PutLine::X2
@@ -315,6 +315,19 @@ impl Fifo {
             .map(move |i| (self.store.number(array, i), self.store.payload(array, i)))
     }
 
+    /// What is shared, with 0 for the tag, which this queue has not.
+    pub fn anchor(&self) -> [u32; 3] {
+        [self.head, self.tail, 0]
+    }
+
+    pub fn store(&self) -> &Store {
+        &self.store
+    }
+
+    pub fn into_store(self) -> Store {
+        self.store
+    }
+
     /// Whether the next put, left alone, would have to expand.
     pub fn full(&self) -> bool {
         self.tail == self.head + self.store.size()
@@ -343,6 +356,10 @@ mod tests {
     use super::*;
     use crate::witness::Blind;
 
+    fn fifo(size: u32, words: usize) -> Fifo {
+        Fifo::new(Store::fresh(vec![0; words], size))
+    }
+
     fn steps(queue: &mut Fifo, worker: usize, count: u32) -> Outcome {
         let mut last = Outcome::GoesOn;
         for made in 1..=count {
@@ -356,12 +373,12 @@ mod tests {
 
     fn put(queue: &mut Fifo, number: u32, payload: u32) {
         queue.begin_put(number, payload);
-        assert_eq!(steps(queue, 0, 6), Outcome::Finished { number });
+        assert_eq!(steps(queue, 0, 6), Outcome::Finished { number, payload });
     }
 
     #[test]
     fn first_in_first_out() {
-        let mut queue = Fifo::new(2, 4);
+        let mut queue = fifo(2, 4);
         put(&mut queue, 1, 10);
         put(&mut queue, 2, 20);
         queue.begin_take();
@@ -376,7 +393,7 @@ mod tests {
 
     #[test]
     fn the_owners_stale_store_sets_the_head_back() {
-        let mut queue = Fifo::new(4, 8);
+        let mut queue = fifo(4, 8);
         for number in 1..=3 {
             put(&mut queue, number, number);
         }
@@ -394,7 +411,7 @@ mod tests {
 
     #[test]
     fn a_compare_looks_at_the_head_alone() {
-        let mut queue = Fifo::new(4, 8);
+        let mut queue = fifo(4, 8);
         put(&mut queue, 1, 1);
         queue.begin_steal(1);
         steps(&mut queue, 1, 6);
@@ -410,7 +427,7 @@ mod tests {
 
     #[test]
     fn expansion_notes_head_and_tail_at_x2() {
-        let mut queue = Fifo::new(2, 12);
+        let mut queue = fifo(2, 12);
         put(&mut queue, 1, 10);
         put(&mut queue, 2, 20);
         queue.begin_put(3, 30);
@@ -422,13 +439,13 @@ mod tests {
         assert_eq!(queue.store.size(), 4);
         assert_eq!(queue.store.number(queue.store.current(), 0), 0);
         assert_eq!(queue.store.number(queue.store.current(), 1), 2);
-        assert_eq!(steps(&mut queue, 0, 6), Outcome::Finished { number: 3 });
+        assert_eq!(steps(&mut queue, 0, 6), Outcome::Finished { number: 3, payload: 30 });
         assert_eq!(queue.window().collect::<Vec<_>>(), [(2, 20), (3, 30)]);
     }
 
     #[test]
     fn tasks_stolen_after_x2_are_copied_all_the_same() {
-        let mut queue = Fifo::new(1, 6);
+        let mut queue = fifo(1, 6);
         put(&mut queue, 1, 10);
         queue.begin_put(2, 20);
         steps(&mut queue, 0, 5); // lines 1 to 3, X1, X2
@@ -441,12 +458,13 @@ mod tests {
 
     #[test]
     fn full_and_the_log() {
-        let mut queue = Fifo::new(1, 5);
+        let mut queue = fifo(1, 5);
         put(&mut queue, 1, 10);
         queue.begin_put(2, 20);
         steps(&mut queue, 0, 3);
         assert_eq!(queue.step(0, false, &mut Blind), Outcome::Refused(11));
-        assert_eq!(queue.step(0, true, &mut Blind), Outcome::Full { number: 2 });
+        let full = Outcome::Full { number: 2, payload: 20 };
+        assert_eq!(queue.step(0, true, &mut Blind), full);
         assert_eq!(queue.step(0, true, &mut Blind), Outcome::Refused(8));
         queue.begin_steal(7);
         steps(&mut queue, 7, 6);

@@ -1,16 +1,62 @@
-//! Where a line of the input ends.
+//! The input, line by line.
 //!
 //! The input comes in chunks of whatever length a read gives. A line that lies
 //! whole in a chunk is looked at there; one that does not is gathered. No line
 //! of a given form is longer than `KEPT` bytes, so of a longer one only that
 //! many are kept: enough to see that it has no given form.
 
-use std::io::{self, ErrorKind, Read};
+use std::io::{self, ErrorKind, Read, Write};
 
 /// More than the longest line of a given form, a `queue` of 54 bytes.
 const KEPT: usize = 64;
 
-pub struct Lines {
+/// How much is read at once.
+const CHUNK: usize = 1 << 16;
+
+pub enum Trouble {
+    Reading(io::Error),
+    Writing(io::Error),
+}
+
+/// Gives each line of the input, its newline taken off, to `each`, which writes
+/// to the output. Answers true at the input's end, and false if `each` did: then
+/// nothing more is read. What was written is shown before there is any waiting
+/// for more.
+pub fn for_each_line<W: Write>(
+    input: &mut impl Read,
+    output: &mut W,
+    mut each: impl FnMut(&[u8], &mut W) -> io::Result<bool>,
+) -> Result<bool, Trouble> {
+    let mut buffer = vec![0; CHUNK];
+    let mut lines = Lines::new();
+    loop {
+        output.flush().map_err(Trouble::Writing)?;
+        let length = read_some(input, &mut buffer).map_err(Trouble::Reading)?;
+        if length == 0 {
+            break;
+        }
+        let mut failed = Ok(());
+        let go_on = lines.feed(&buffer[..length], |line| {
+            each(line, output).unwrap_or_else(|error| {
+                failed = Err(Trouble::Writing(error));
+                false
+            })
+        });
+        failed?;
+        if !go_on {
+            output.flush().map_err(Trouble::Writing)?;
+            return Ok(false);
+        }
+    }
+    let go_on = match lines.last() {
+        Some(line) => each(line, output).map_err(Trouble::Writing)?,
+        None => true,
+    };
+    output.flush().map_err(Trouble::Writing)?;
+    Ok(go_on)
+}
+
+struct Lines {
     gathered: Vec<u8>,
     /// The input so far stops within a line. A line can be empty, so the bytes
     /// gathered do not tell.
@@ -18,26 +64,24 @@ pub struct Lines {
 }
 
 impl Lines {
-    pub fn new() -> Lines {
+    fn new() -> Lines {
         Lines { gathered: Vec::with_capacity(KEPT), open: false }
     }
 
     /// Calls `each` with every line that ends in `chunk`, until it answers
     /// false. Answers false if it did.
-    pub fn feed(&mut self, mut chunk: &[u8], mut each: impl FnMut(&[u8]) -> bool) -> bool {
+    fn feed(&mut self, mut chunk: &[u8], mut each: impl FnMut(&[u8]) -> bool) -> bool {
         while let Some(end) = chunk.iter().position(|&byte| byte == b'\n') {
-            let go_on = if self.open {
-                self.gather(&chunk[..end]);
-                self.open = false;
-                let go_on = each(&self.gathered);
-                self.gathered.clear();
-                go_on
-            } else {
-                each(&chunk[..end])
-            };
-            if !go_on {
+            let mut line = &chunk[..end];
+            if self.open {
+                self.gather(line);
+                line = &self.gathered;
+            }
+            if !each(line) {
                 return false;
             }
+            self.gathered.clear();
+            self.open = false;
             chunk = &chunk[end + 1..];
         }
         if !chunk.is_empty() {
@@ -49,7 +93,7 @@ impl Lines {
 
     /// The line that the input's end ends, if there is one. After a last
     /// newline there is none.
-    pub fn last(&mut self) -> Option<&[u8]> {
+    fn last(&mut self) -> Option<&[u8]> {
         if !self.open {
             return None;
         }
@@ -63,14 +107,8 @@ impl Lines {
     }
 }
 
-impl Default for Lines {
-    fn default() -> Lines {
-        Lines::new()
-    }
-}
-
 /// Reads what there is, waiting if there is nothing yet; 0 at the input's end.
-pub fn read_some(input: &mut impl Read, buffer: &mut [u8]) -> io::Result<usize> {
+fn read_some(input: &mut impl Read, buffer: &mut [u8]) -> io::Result<usize> {
     loop {
         match input.read(buffer) {
             Err(error) if error.kind() == ErrorKind::Interrupted => continue,
@@ -127,6 +165,20 @@ mod tests {
             assert_eq!(found.len(), 2);
             assert!(found[0].len() >= KEPT);
             assert_eq!(found[1], b"end");
+        }
+    }
+
+    #[test]
+    fn every_line_writes_and_the_first_false_is_the_last() {
+        for (stop, answer, written) in [("none", true, "a.b.c."), ("b", false, "a.b."), ("c", false, "a.b.c.")] {
+            let mut output = Vec::new();
+            let answered = for_each_line(&mut &b"a\nb\nc"[..], &mut output, |line, output| {
+                output.write_all(line)?;
+                output.write_all(b".")?;
+                Ok(line != stop.as_bytes())
+            });
+            assert_eq!(answered.ok(), Some(answer));
+            assert_eq!(output, written.as_bytes());
         }
     }
 

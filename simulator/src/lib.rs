@@ -1,29 +1,37 @@
 //! A second simulator of the bench for idempotent work-stealing queues.
 //!
 //! It plays the same input as the bench program and prints the same listing,
-//! byte for byte. It is written from the scope document alone, so that a
-//! mistake in the one is not a mistake in the other, and it is deliberately
-//! built the other way round: one machine for each figure, each with lines of
-//! its own, and nothing shared between them but the store.
+//! and it answers the same lists of library calls as the program `calls`, byte
+//! for byte. It is written from documents 01 and 02 alone, so that a mistake in
+//! the one is not a mistake in the other, and it is deliberately built the other
+//! way round: one machine for each figure, each with lines of its own, and
+//! nothing shared between them but the store.
 //!
 //! - [`lifo`], [`fifo`], [`double_ended`]: figures 1, 2 and 3, a step a line;
 //! - [`store`]: the lent words and the directory of arrays;
+//! - [`bench`]: fresh, begin and step, the refusals and their order;
 //! - [`account`]: the log's room and the six counts of `T`;
 //! - [`text`]: what a line of the input says; [`input`]: where it ends;
-//! - [`play`]: the program's rules, the refusals and their order;
-//! - [`witness`], [`judge`]: demand 3, judged from the history of the calls;
+//!   [`listing`]: a line of output;
+//! - [`play`]: the program's rules;
+//! - [`call_text`], [`calls`]: lists of library calls;
+//! - [`witness`], [`demand3`]: demand 3, checked from the history of the calls;
 //! - [`log_judge`]: the judgement of a matcher's own log, [`log_cases`]: logs to
 //!   judge, by seed;
 //! - [`random`], [`script`], [`episodes`], [`damage`]: long random runs by seed.
 
 pub mod account;
+pub mod bench;
+pub mod call_text;
+pub mod calls;
 pub mod damage;
+pub mod demand3;
 pub mod double_ended;
 pub mod episodes;
 pub mod fifo;
 pub mod input;
-pub mod judge;
 pub mod lifo;
+pub mod listing;
 pub mod log_cases;
 pub mod log_judge;
 pub mod outcome;

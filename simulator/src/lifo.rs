@@ -75,7 +75,7 @@ pub struct Lifo {
 }
 
 impl Lifo {
-    pub fn new(width: u32, size: u32, words: u32) -> Lifo {
+    pub fn new(width: u32, store: Store) -> Lifo {
         let thief = Thief {
             at: ThiefAt::Idle,
             t: 0,
@@ -85,7 +85,7 @@ impl Lifo {
             payload: 0,
         };
         Lifo {
-            store: Store::new(words, size),
+            store,
             t: 0,
             g: 0,
             largest_tag: (1 << width) - 1,
@@ -162,7 +162,7 @@ impl Lifo {
                 self.t = owner.t + 1;
                 self.g = if owner.g == self.largest_tag { 0 } else { owner.g + 1 };
                 owner.at = OwnerAt::Idle;
-                return Outcome::Finished { number: owner.number };
+                return Outcome::Finished { number: owner.number, payload: owner.payload };
             }
 
             OwnerAt::X1Claim => match self.store.next_array() {
@@ -175,7 +175,7 @@ impl Lifo {
                         return Outcome::Refused(refusal::LOG_FULL);
                     }
                     owner.at = OwnerAt::Idle;
-                    return Outcome::Full { number: owner.number };
+                    return Outcome::Full { number: owner.number, payload: owner.payload };
                 }
             },
             OwnerAt::X2Note => {
@@ -291,6 +291,19 @@ impl Lifo {
         (0..self.t).map(move |i| (self.store.number(array, i), self.store.payload(array, i)))
     }
 
+    /// What is shared, with 0 for the head, which this queue has not.
+    pub fn anchor(&self) -> [u32; 3] {
+        [0, self.t, self.g]
+    }
+
+    pub fn store(&self) -> &Store {
+        &self.store
+    }
+
+    pub fn into_store(self) -> Store {
+        self.store
+    }
+
     /// Whether the next put, left alone, would have to expand.
     pub fn full(&self) -> bool {
         self.t == self.store.size()
@@ -321,6 +334,10 @@ mod tests {
     use super::*;
     use crate::witness::Blind;
 
+    fn lifo(width: u32, size: u32, words: usize) -> Lifo {
+        Lifo::new(width, Store::fresh(vec![0; words], size))
+    }
+
     fn steps(queue: &mut Lifo, worker: usize, count: u32) -> Outcome {
         let mut last = Outcome::GoesOn;
         for made in 1..=count {
@@ -334,12 +351,12 @@ mod tests {
 
     fn put(queue: &mut Lifo, number: u32, payload: u32) {
         queue.begin_put(number, payload);
-        assert_eq!(steps(queue, 0, 5), Outcome::Finished { number });
+        assert_eq!(steps(queue, 0, 5), Outcome::Finished { number, payload });
     }
 
     #[test]
     fn a_put_is_five_lines() {
-        let mut queue = Lifo::new(2, 2, 4);
+        let mut queue = lifo(2, 2, 4);
         queue.begin_put(1, 50);
         steps(&mut queue, 0, 2);
         assert_eq!(queue.store.number(queue.store.current(), 0), 0);
@@ -349,13 +366,13 @@ mod tests {
         steps(&mut queue, 0, 1);
         assert_eq!(queue.store.payload(queue.store.current(), 0), 50);
         assert_eq!((queue.t, queue.g), (0, 0));
-        assert_eq!(steps(&mut queue, 0, 1), Outcome::Finished { number: 1 });
+        assert_eq!(steps(&mut queue, 0, 1), Outcome::Finished { number: 1, payload: 50 });
         assert_eq!((queue.t, queue.g), (1, 1));
     }
 
     #[test]
     fn the_tag_rises_on_put_alone_and_comes_round_to_zero() {
-        let mut queue = Lifo::new(1, 4, 8);
+        let mut queue = lifo(1, 4, 8);
         put(&mut queue, 1, 0);
         assert_eq!(queue.g, 1);
         queue.begin_take();
@@ -367,7 +384,7 @@ mod tests {
 
     #[test]
     fn the_owner_writes_back_from_what_it_read() {
-        let mut queue = Lifo::new(3, 4, 8);
+        let mut queue = lifo(3, 4, 8);
         put(&mut queue, 1, 10);
         put(&mut queue, 2, 20);
         queue.begin_take();
@@ -384,7 +401,7 @@ mod tests {
 
     #[test]
     fn a_thief_reads_the_array_it_noted() {
-        let mut queue = Lifo::new(4, 1, 6);
+        let mut queue = lifo(4, 1, 6);
         put(&mut queue, 1, 10);
         queue.begin_steal(1);
         steps(&mut queue, 1, 3);
@@ -393,13 +410,13 @@ mod tests {
         assert_eq!(steps(&mut queue, 0, 6), Outcome::Published);
         // The old array is still there to be read, and the anchor did not move.
         assert_eq!(steps(&mut queue, 1, 3), Outcome::HandedOut { number: 1, payload: 10 });
-        assert_eq!(steps(&mut queue, 0, 5), Outcome::Finished { number: 2 });
+        assert_eq!(steps(&mut queue, 0, 5), Outcome::Finished { number: 2, payload: 20 });
         assert_eq!(queue.window().collect::<Vec<_>>(), [(2, 20)]);
     }
 
     #[test]
     fn expansion_copies_every_slot_of_the_old_array() {
-        let mut queue = Lifo::new(4, 2, 12);
+        let mut queue = lifo(4, 2, 12);
         put(&mut queue, 1, 10);
         put(&mut queue, 2, 20);
         queue.begin_put(3, 30);
@@ -413,12 +430,13 @@ mod tests {
 
     #[test]
     fn a_full_log_stops_only_lines_that_would_end() {
-        let mut queue = Lifo::new(1, 1, 2);
+        let mut queue = lifo(1, 1, 2);
         queue.begin_put(1, 10);
         steps(&mut queue, 0, 4);
         assert_eq!(queue.step(0, false, &mut Blind), Outcome::Refused(11));
         assert_eq!((queue.t, queue.g), (0, 0));
-        assert_eq!(queue.step(0, true, &mut Blind), Outcome::Finished { number: 1 });
+        let finished = Outcome::Finished { number: 1, payload: 10 };
+        assert_eq!(queue.step(0, true, &mut Blind), finished);
         queue.begin_steal(1);
         steps(&mut queue, 1, 5);
         assert_eq!(queue.step(1, false, &mut Blind), Outcome::Refused(11));
@@ -433,7 +451,7 @@ mod tests {
 
     #[test]
     fn idle_is_refused() {
-        let mut queue = Lifo::new(1, 1, 2);
+        let mut queue = lifo(1, 1, 2);
         assert_eq!(queue.step(0, true, &mut Blind), Outcome::Refused(8));
         assert_eq!(queue.step(3, true, &mut Blind), Outcome::Refused(8));
     }

@@ -1,13 +1,13 @@
 //! Plays the bench's input and prints its listing.
 //!
-//!     simulator [--judge] < input > listing
+//!     simulator [--demand3] < input > listing
 //!
-//! With `--judge` the run is also judged by demand 3, and the verdict is said
+//! With `--demand3` the run is also checked by demand 3, and the finding is said
 //! on standard error.
 //!
 //! Exit status: 0; 1 if the input can't be read or the listing can't be
-//! written; 2 if the judge found demand 3 violated while its premise held; 64
-//! for a flag it does not know.
+//! written; 2 if demand 3 was violated while its premise held; 64 for a flag it
+//! does not know.
 
 // The usual start would quietly put the null device in the place of a closed
 // standard stream, and a listing written there would be lost without a word.
@@ -18,19 +18,13 @@ use std::io::{self, Write};
 use std::mem::ManuallyDrop;
 use std::os::fd::FromRawFd;
 
-use simulator::input::{read_some, Lines};
-use simulator::judge::{Judge, Verdict};
+use simulator::demand3::{Demand3, Finding};
+use simulator::input::{for_each_line, Trouble};
 use simulator::play::Player;
 use simulator::witness::{Blind, Witness};
 
-/// What is read at once, and how much of the listing is gathered at most before
-/// it is written.
+/// How much of the listing is gathered at most before it is written.
 const CHUNK: usize = 1 << 16;
-
-enum Trouble {
-    Reading(io::Error),
-    Writing(io::Error),
-}
 
 extern "C" {
     fn signal(number: i32, action: usize) -> usize;
@@ -45,9 +39,9 @@ pub extern "C" fn main(_count: i32, _values: *const *const u8) -> i32 {
     let mut flags = std::env::args_os().skip(1);
     match (flags.next(), flags.next()) {
         (None, _) => plain(),
-        (Some(flag), None) if flag == "--judge" => judged(),
+        (Some(flag), None) if flag == "--demand3" => checked(),
         _ => {
-            say("usage: simulator [--judge] < input > listing");
+            say("usage: simulator [--demand3] < input > listing");
             64
         }
     }
@@ -60,22 +54,22 @@ fn plain() -> i32 {
     }
 }
 
-fn judged() -> i32 {
-    let mut player = Player::new(Judge::new());
+fn checked() -> i32 {
+    let mut player = Player::new(Demand3::new());
     if let Err(trouble) = play(&mut player) {
         return told(trouble);
     }
-    match player.witness().verdict() {
-        Verdict::Kept => {
-            say("judge: demand 3 kept");
+    match player.witness().finding() {
+        Finding::Kept => {
+            say("demand 3 kept");
             0
         }
-        Verdict::PremiseBroken { call, worker } => {
-            say(&format!("judge: demand 3 kept until worker {worker} broke its premise by call {call}"));
+        Finding::PremiseBroken { call, worker } => {
+            say(&format!("demand 3 kept until worker {worker} broke its premise by call {call}"));
             0
         }
-        Verdict::Violated { call, what } => {
-            say(&format!("judge: demand 3 violated by call {call}: {what}"));
+        Finding::Violated { call, what } => {
+            say(&format!("demand 3 violated by call {call}: {what}"));
             2
         }
     }
@@ -84,43 +78,35 @@ fn judged() -> i32 {
 fn play<W: Witness>(player: &mut Player<W>) -> Result<(), Trouble> {
     // SAFETY: the two numbers are the standard streams, which nothing else here
     // uses; they are left open for the system to close.
-    let mut input = ManuallyDrop::new(unsafe { File::from_raw_fd(0) });
-    let mut output = ManuallyDrop::new(unsafe { File::from_raw_fd(1) });
-
-    let mut buffer = vec![0; CHUNK];
-    let mut listing = Vec::with_capacity(CHUNK);
-    let mut lines = Lines::new();
-    loop {
-        // What was played is shown before there is any waiting for more.
-        write(&mut output, &mut listing)?;
-        let length = read_some(&mut *input, &mut buffer).map_err(Trouble::Reading)?;
-        if length == 0 {
-            break;
+    let input = ManuallyDrop::new(unsafe { File::from_raw_fd(0) });
+    let file = ManuallyDrop::new(unsafe { File::from_raw_fd(1) });
+    let mut output = Output { file: &file, listing: Vec::with_capacity(CHUNK) };
+    for_each_line(&mut &*input, &mut output, |line, output| {
+        let go_on = player.line(line, &mut output.listing);
+        // A line prints a few dozen bytes, so the listing never has to grow.
+        if output.listing.len() > CHUNK - 256 {
+            output.flush()?;
         }
-        let mut failed = Ok(());
-        let go_on = lines.feed(&buffer[..length], |line| {
-            let go_on = player.line(line, &mut listing);
-            // A line prints a few dozen bytes, so the listing never has to grow.
-            if listing.len() > CHUNK - 256 {
-                failed = write(&mut output, &mut listing);
-            }
-            go_on && failed.is_ok()
-        });
-        failed?;
-        if !go_on {
-            return write(&mut output, &mut listing);
-        }
-    }
-    if let Some(line) = lines.last() {
-        player.line(line, &mut listing);
-    }
-    write(&mut output, &mut listing)
+        Ok(go_on)
+    })?;
+    Ok(())
 }
 
-fn write(output: &mut File, listing: &mut Vec<u8>) -> Result<(), Trouble> {
-    output.write_all(listing).map_err(Trouble::Writing)?;
-    listing.clear();
-    Ok(())
+struct Output<'a> {
+    file: &'a File,
+    listing: Vec<u8>,
+}
+
+impl Write for Output<'_> {
+    fn write(&mut self, bytes: &[u8]) -> io::Result<usize> {
+        self.listing.write(bytes)
+    }
+
+    fn flush(&mut self) -> io::Result<()> {
+        self.file.write_all(&self.listing)?;
+        self.listing.clear();
+        Ok(())
+    }
 }
 
 fn told(trouble: Trouble) -> i32 {

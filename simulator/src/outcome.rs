@@ -1,6 +1,6 @@
 //! What a call answers.
 
-/// The refusals a listing can show, by their numbers.
+/// The refusals that a listing or a list of calls can show, by their numbers.
 pub mod refusal {
     pub const UNKNOWN_QUEUE: u32 = 1;
     pub const TAG_WIDTH: u32 = 2;
@@ -13,6 +13,7 @@ pub mod refusal {
     pub const WRONG_HAND: u32 = 9;
     pub const NUMBERS_SPENT: u32 = 10;
     pub const LOG_FULL: u32 = 11;
+    pub const FOREIGN_STATE: u32 = 12;
     pub const BAD_LINE: u32 = 13;
 }
 
@@ -26,13 +27,13 @@ pub enum Outcome {
     /// X4: the put goes on at line 1 again, and counts as no restart.
     Published,
     /// A put finished.
-    Finished { number: u32 },
+    Finished { number: u32, payload: u32 },
     /// A take or a steal was handed a task.
     HandedOut { number: u32, payload: u32 },
     /// A take or a steal found nothing.
     Empty,
     /// X1 could not claim an array.
-    Full { number: u32 },
+    Full { number: u32, payload: u32 },
     Refused(u32),
 }
 

@@ -1,35 +1,12 @@
-//! The program's rules: which lines are in place, which calls are refused and
-//! in what order, and what is printed.
+//! The program's rules: which lines are in place, what is refused because it is
+//! not, and what is printed.
 
 use crate::account::Account;
-use crate::double_ended::DoubleEnded;
-use crate::fifo::Fifo;
-use crate::lifo::Lifo;
+use crate::bench::{Bench, Operation, Shape};
+use crate::listing::print;
 use crate::outcome::{refusal, Outcome, Place};
 use crate::text::{self, Command};
 use crate::witness::Witness;
-
-enum Queue {
-    Lifo(Lifo),
-    Fifo(Fifo),
-    DoubleEnded(DoubleEnded),
-}
-
-/// Does the same with whichever of the three machines there is.
-macro_rules! with_queue {
-    ($queue:expr, $machine:ident => $body:expr) => {
-        match $queue {
-            Queue::Lifo($machine) => $body,
-            Queue::Fifo($machine) => $body,
-            Queue::DoubleEnded($machine) => $body,
-        }
-    };
-}
-
-struct Bench {
-    queue: Queue,
-    crew: u32,
-}
 
 pub struct Player<W> {
     /// None until a `queue` is accepted.
@@ -49,20 +26,17 @@ impl<W: Witness> Player<W> {
 
     /// How far a worker is; none without a bench or such a worker.
     pub fn place(&self, worker: u32) -> Option<Place> {
-        let bench = self.bench.as_ref().filter(|bench| worker < bench.crew)?;
-        Some(with_queue!(&bench.queue, machine => machine.place(worker as usize)))
+        self.bench.as_ref()?.place(worker)
     }
 
     /// Whether the current array is full.
     pub fn full(&self) -> bool {
-        self.bench.as_ref().is_some_and(|bench| with_queue!(&bench.queue, machine => machine.full()))
+        self.bench.as_ref().is_some_and(Bench::full)
     }
 
     /// The put numbers in the window; none without a bench.
     pub fn standing(&self) -> Vec<u32> {
-        self.bench.as_ref().map_or(Vec::new(), |bench| {
-            with_queue!(&bench.queue, machine => machine.window().map(|(number, _)| number).collect())
-        })
+        self.bench.as_ref().map_or(Vec::new(), |bench| bench.window().map(|(number, _)| number).collect())
     }
 
     /// How many more entries the log can take.
@@ -75,14 +49,12 @@ impl<W: Witness> Player<W> {
     pub fn line(&mut self, line: &[u8], listing: &mut Vec<u8>) -> bool {
         let answer = match text::parse(line) {
             None => Err(refusal::BAD_LINE),
-            Some(Command::Queue { kind, width, size, crew, words }) => {
-                self.fresh(kind, width, size, crew, words)
-            }
+            Some(Command::Queue { shape, words }) => self.fresh(shape, words),
             // Nothing but a queue is in place before one is accepted.
             Some(_) if self.bench.is_none() => Err(refusal::BAD_LINE),
-            Some(Command::Put { payload }) => self.put(payload),
-            Some(Command::Take) => self.take(),
-            Some(Command::Steal { worker }) => self.steal(worker),
+            Some(Command::Put { payload }) => self.begin(0, Operation::Put { payload }),
+            Some(Command::Take) => self.begin(0, Operation::Take),
+            Some(Command::Steal { worker }) => self.begin(worker, Operation::Steal),
             Some(Command::Step { worker, count }) => self.steps(worker, count, listing),
             Some(Command::End) => {
                 self.totals(listing);
@@ -95,164 +67,77 @@ impl<W: Witness> Player<W> {
         true
     }
 
-    fn fresh(&mut self, kind: u32, width: u32, size: u32, crew: u32, words: u32) -> Result<(), u32> {
+    fn fresh(&mut self, shape: Shape, words: u32) -> Result<(), u32> {
         if self.bench.is_some() {
             return Err(refusal::BAD_LINE);
         }
-        if !(1..=3).contains(&kind) {
-            return Err(refusal::UNKNOWN_QUEUE);
-        }
-        if !(1..=16).contains(&width) {
-            return Err(refusal::TAG_WIDTH);
-        }
-        if size > 1024 || !size.is_power_of_two() {
-            return Err(refusal::ARRAY_SIZE);
-        }
-        if !(1..=8).contains(&crew) {
-            return Err(refusal::CREW);
-        }
-        if words < 2 * size {
-            return Err(refusal::SHORT_STORE);
-        }
-        self.witness.fresh(kind, width);
-        let queue = match kind {
-            1 => Queue::Lifo(Lifo::new(width, size, words)),
-            2 => Queue::Fifo(Fifo::new(size, words)),
-            _ => Queue::DoubleEnded(DoubleEnded::new(width, size, words)),
-        };
-        self.bench = Some(Bench { queue, crew });
+        self.bench = Some(Bench::fresh(shape, &mut vec![0; words as usize])?);
+        self.witness.fresh(shape.kind, shape.width);
         Ok(())
     }
 
-    // The lines `put` and `take` name no worker: they are the owner's, who is
-    // always in the crew and whose hand is never wrong for them.
-
-    fn put(&mut self, payload: u32) -> Result<(), u32> {
+    fn begin(&mut self, worker: u32, operation: Operation) -> Result<(), u32> {
         self.witness.call();
         let bench = self.bench.as_mut().ok_or(refusal::BAD_LINE)?;
-        with_queue!(&mut bench.queue, machine => {
-            if machine.busy(0) {
-                return Err(refusal::BUSY);
-            }
-            let number = self.account.begin_put(payload).ok_or(refusal::NUMBERS_SPENT)?;
+        let number = bench.begin(worker, operation)?;
+        if let (Some(number), Operation::Put { payload }) = (number, operation) {
+            self.account.begin_put(number, payload);
             self.witness.put_begun(number, payload);
-            machine.begin_put(number, payload);
-        });
-        Ok(())
-    }
-
-    fn take(&mut self) -> Result<(), u32> {
-        self.witness.call();
-        let bench = self.bench.as_mut().ok_or(refusal::BAD_LINE)?;
-        with_queue!(&mut bench.queue, machine => {
-            if machine.busy(0) {
-                return Err(refusal::BUSY);
-            }
-            machine.begin_take();
-        });
-        Ok(())
-    }
-
-    fn steal(&mut self, worker: u32) -> Result<(), u32> {
-        self.witness.call();
-        let bench = self.bench.as_mut().ok_or(refusal::BAD_LINE)?;
-        if worker >= bench.crew {
-            return Err(refusal::NO_SUCH_WORKER);
         }
-        if worker == 0 {
-            return Err(refusal::WRONG_HAND);
-        }
-        with_queue!(&mut bench.queue, machine => {
-            if machine.busy(worker as usize) {
-                return Err(refusal::BUSY);
-            }
-            machine.begin_steal(worker as usize);
-        });
         Ok(())
     }
 
     fn steps(&mut self, worker: u32, count: u32, listing: &mut Vec<u8>) -> Result<(), u32> {
         let bench = self.bench.as_mut().ok_or(refusal::BAD_LINE)?;
-        if count == 0 {
-            // No step is made, so there is none to refuse.
-            return Ok(());
-        }
-        if worker >= bench.crew {
-            self.witness.call();
-            return Err(refusal::NO_SUCH_WORKER);
-        }
         let account = &mut self.account;
         let witness = &mut self.witness;
-        with_queue!(&mut bench.queue, machine => {
-            for _ in 0..count {
-                witness.call();
-                match machine.step(worker as usize, account.room(), witness) {
-                    Outcome::GoesOn => continue,
-                    Outcome::Restarted => account.restart(),
-                    Outcome::Published => witness.published(),
-                    Outcome::Finished { number } => {
-                        account.finish(number);
-                        witness.finished(number);
-                        print(listing, b'D', &[number]);
-                    }
-                    Outcome::HandedOut { number, payload } => {
-                        account.hand_out(number, payload);
-                        witness.handed_out(worker as usize, number, payload);
-                        print(listing, b'H', &[worker, number, payload]);
-                    }
-                    Outcome::Empty => {
-                        account.other_entry();
-                        witness.empty(worker as usize);
-                        print(listing, b'E', &[worker]);
-                    }
-                    Outcome::Full { number } => {
-                        account.other_entry();
-                        witness.full(number);
-                        print(listing, b'F', &[number]);
-                    }
-                    Outcome::Refused(number) => return Err(number),
+        for _ in 0..count {
+            witness.call();
+            match bench.step(worker, account.room(), witness) {
+                Outcome::GoesOn => continue,
+                Outcome::Restarted => {}
+                Outcome::Published => witness.published(),
+                Outcome::Finished { number, .. } => {
+                    account.finish(number);
+                    witness.finished(number);
+                    print(listing, b'D', &[number]);
                 }
-                if witness.wants_window() {
-                    witness.window(&mut machine.window());
+                Outcome::HandedOut { number, payload } => {
+                    account.hand_out(number, payload);
+                    witness.handed_out(worker as usize, number, payload);
+                    print(listing, b'H', &[worker, number, payload]);
                 }
+                Outcome::Empty => {
+                    account.other_entry();
+                    witness.empty(worker as usize);
+                    print(listing, b'E', &[worker]);
+                }
+                Outcome::Full { number, .. } => {
+                    account.other_entry();
+                    witness.full(number);
+                    print(listing, b'F', &[number]);
+                }
+                Outcome::Refused(number) => return Err(number),
             }
-        });
+            if witness.wants_window() {
+                witness.window(&mut bench.window());
+            }
+        }
         Ok(())
     }
 
     fn totals(&mut self, listing: &mut Vec<u8>) {
         if let Some(bench) = &self.bench {
-            let counts = with_queue!(&bench.queue, machine => self.account.totals(machine.window()));
+            let counts = self.account.totals(bench.window(), bench.restarts());
             print(listing, b'T', &counts);
         }
     }
 }
 
-/// One line of the listing: a letter and its values.
-fn print(listing: &mut Vec<u8>, letter: u8, values: &[u32]) {
-    listing.push(letter);
-    for &value in values {
-        listing.push(b' ');
-        let mut digits = [0; 10];
-        let mut first = digits.len();
-        let mut rest = value;
-        loop {
-            first -= 1;
-            digits[first] = b'0' + (rest % 10) as u8;
-            rest /= 10;
-            if rest == 0 {
-                break;
-            }
-        }
-        listing.extend_from_slice(&digits[first..]);
-    }
-    listing.push(b'\n');
-}
-
 #[cfg(test)]
 mod tests {
     use super::*;
-    use crate::judge::{Judge, Verdict};
+    use crate::demand3::{Demand3, Finding};
     use crate::witness::Blind;
 
     fn listing(lines: &str) -> String {
@@ -284,14 +169,14 @@ mod tests {
     #[test]
     fn p1_breaks_the_premise_and_p2_keeps_it() {
         for (width, broken) in [(1, true), (2, false)] {
-            let mut player = Player::new(Judge::new());
+            let mut player = Player::new(Demand3::new());
             let mut listing = Vec::new();
             for line in format!("queue 1 {width} 2 2 12, {P1}").split(", ") {
                 player.line(line.as_bytes(), &mut listing);
             }
-            let verdict = player.witness().verdict();
-            assert_eq!(matches!(verdict, Verdict::PremiseBroken { .. }), broken);
-            assert_eq!(*verdict == Verdict::Kept, !broken);
+            let finding = player.witness().finding();
+            assert_eq!(matches!(finding, Finding::PremiseBroken { .. }), broken);
+            assert_eq!(*finding == Finding::Kept, !broken);
         }
     }
 

@@ -1,25 +1,33 @@
-//! A run as it is being written. Each line is played as it is written, so that
-//! whoever writes it knows where every worker stands and can pause one there.
+//! A run as it is being written: the bench program's input, or a list of library
+//! calls. Each line is played as it is written, so that whoever writes it knows
+//! where every worker stands and can pause one there.
 
+use crate::bench::{Operation, Shape};
+use crate::calls::Calls;
 use crate::outcome::Place;
 use crate::play::Player;
 use crate::random::Random;
 use crate::witness::Blind;
 
-/// How a run's bench is made.
-#[derive(Clone, Copy, Debug)]
-pub struct Shape {
-    pub kind: u32,
-    pub width: u32,
-    pub size: u32,
-    pub crew: u32,
-    pub words: u32,
+/// What the text is for, and the one who plays it.
+enum Form {
+    Program(Player<Blind>),
+    Calls(Calls),
+}
+
+/// How many lines of a hundred have a `state` and a `front` behind them.
+#[derive(Clone, Copy, Default)]
+pub struct Looks {
+    pub state: u32,
+    pub front: u32,
 }
 
 pub struct Script {
     pub random: Random,
+    /// The bench's, as the last accepted fresh made it.
     pub shape: Shape,
-    player: Player<Blind>,
+    pub looks: Looks,
+    form: Form,
     text: Vec<u8>,
     /// What the last line printed.
     heard: Vec<u8>,
@@ -28,11 +36,25 @@ pub struct Script {
 }
 
 impl Script {
-    pub fn new(random: Random, shape: Shape) -> Script {
+    /// The bench program's input. Its `queue` is to be written yet.
+    pub fn program(random: Random, shape: Shape) -> Script {
+        Script::new(random, shape, Form::Program(Player::new(Blind)))
+    }
+
+    /// A list of library calls.
+    pub fn calls(random: Random, store: u32, log: u32) -> Script {
+        let none = Shape { kind: 0, width: 0, size: 0, crew: 0 };
+        let mut script = Script::new(random, none, Form::Calls(Calls::new()));
+        script.say(&format!("memory {store} {log}"));
+        script
+    }
+
+    fn new(random: Random, shape: Shape, form: Form) -> Script {
         Script {
             random,
             shape,
-            player: Player::new(Blind),
+            looks: Looks::default(),
+            form,
             text: Vec::new(),
             heard: Vec::new(),
             steps: 0,
@@ -45,23 +67,34 @@ impl Script {
         self.steps
     }
 
-    /// Whether an `end` was accepted: nothing more will be read.
+    /// Whether nothing more will be read: an `end` was accepted, or a line of a
+    /// list of calls is not of the form.
     pub fn ended(&self) -> bool {
         self.ended
     }
 
     /// Whether the current array is full.
     pub fn full(&self) -> bool {
-        self.player.full()
+        match &self.form {
+            Form::Program(player) => player.full(),
+            Form::Calls(calls) => calls.full(),
+        }
     }
 
     /// How many more entries the log can take.
     pub fn entries_left(&self) -> u32 {
-        self.player.entries_left()
+        match &self.form {
+            Form::Program(player) => player.entries_left(),
+            Form::Calls(calls) => calls.entries_left(),
+        }
     }
 
     pub fn place(&self, worker: u32) -> Place {
-        self.player.place(worker).unwrap_or(Place::Idle)
+        let place = match &self.form {
+            Form::Program(player) => player.place(worker),
+            Form::Calls(calls) => calls.place(worker),
+        };
+        place.unwrap_or(Place::Idle)
     }
 
     pub fn idle(&self, worker: u32) -> bool {
@@ -83,14 +116,60 @@ impl Script {
         self.bytes(line.as_bytes());
     }
 
-    /// Begins a put with a payload that is at times like another one's.
-    pub fn put(&mut self) {
-        let payload = match self.random.below(4) {
+    /// A library call; whether it is accepted.
+    pub fn fresh(&mut self, shape: Shape) -> bool {
+        let Shape { kind, width, size, crew } = shape;
+        self.say(&format!("fresh {kind} {width} {size} {crew}"));
+        let accepted = self.heard.first() == Some(&b'A');
+        if accepted {
+            self.shape = shape;
+        }
+        accepted
+    }
+
+    /// Begins an operation. The program has no line for a thief that puts or
+    /// takes.
+    pub fn begin(&mut self, worker: u32, operation: Operation) {
+        let line = match (&self.form, operation) {
+            (Form::Program(_), Operation::Put { payload }) => format!("put {payload}"),
+            (Form::Program(_), Operation::Take) => "take".to_string(),
+            (Form::Program(_), Operation::Steal) => format!("steal {worker}"),
+            (Form::Calls(_), Operation::Put { payload }) => format!("begin {worker} put {payload}"),
+            (Form::Calls(_), Operation::Take) => format!("begin {worker} take"),
+            (Form::Calls(_), Operation::Steal) => format!("begin {worker} steal"),
+        };
+        self.say(&line);
+    }
+
+    /// A payload that is at times like another one's.
+    pub fn payload(&mut self) -> u32 {
+        match self.random.below(4) {
             0 => self.random.word(),
             1 => self.random.below(3),
             _ => self.random.below(1000),
-        };
-        self.say(&format!("put {payload}"));
+        }
+    }
+
+    pub fn put(&mut self) {
+        let payload = self.payload();
+        self.begin(0, Operation::Put { payload });
+    }
+
+    pub fn take(&mut self) {
+        self.begin(0, Operation::Take);
+    }
+
+    pub fn steal(&mut self, worker: u32) {
+        self.begin(worker, Operation::Steal);
+    }
+
+    /// The most steps that are worth asking for. The program stops at the first
+    /// refusal; a library call answers each step.
+    pub fn most_steps(&self) -> u32 {
+        match self.form {
+            Form::Program(_) => 65_535,
+            Form::Calls(_) => 30,
+        }
     }
 
     pub fn step(&mut self, worker: u32, count: u32) {
@@ -114,9 +193,10 @@ impl Script {
         }
         // The steps are played; they are written as a line or two, or one by
         // one. A refused one changed nothing and may be written or left out.
+        let watched = self.looks.state > 20;
         if made > 0 {
             match self.random.below(4) {
-                0 if made <= 12 => {
+                way if made <= 12 && (way == 0 || watched) => {
                     for _ in 0..made {
                         self.write(one.as_bytes());
                     }
@@ -159,12 +239,23 @@ impl Script {
     fn write(&mut self, line: &[u8]) {
         self.text.extend_from_slice(line);
         self.text.push(b'\n');
+        // A look changes nothing, so it is written and need not be played.
+        if self.looks.state > 0 && self.random.chance(self.looks.state) {
+            self.text.extend_from_slice(b"state\n");
+        }
+        if self.looks.front > 0 && self.random.chance(self.looks.front) {
+            self.text.extend_from_slice(b"front\n");
+        }
     }
 
     fn play(&mut self, line: &[u8]) {
         self.heard.clear();
-        if !self.ended && !self.player.line(line, &mut self.heard) {
-            self.ended = true;
+        if self.ended {
+            return;
         }
+        self.ended = !match &mut self.form {
+            Form::Program(player) => player.line(line, &mut self.heard),
+            Form::Calls(calls) => calls.line(line, &mut self.heard).expect("memory takes all"),
+        };
     }
 }

@@ -1,5 +1,7 @@
 //! What a line of the input says.
 
+use crate::bench::Shape;
+
 /// The most words a store can have.
 const MOST_WORDS: u32 = 4094;
 
@@ -8,7 +10,7 @@ const MOST_STEPS: u32 = 65_535;
 
 #[derive(Clone, Copy, Debug, PartialEq, Eq)]
 pub enum Command {
-    Queue { kind: u32, width: u32, size: u32, crew: u32, words: u32 },
+    Queue { shape: Shape, words: u32 },
     Put { payload: u32 },
     Take,
     Steal { worker: u32 },
@@ -39,7 +41,7 @@ pub fn parse(line: &[u8]) -> Option<Command> {
         let (crew, rest) = value(rest.strip_prefix(b" ")?)?;
         let (words, rest) = value(rest.strip_prefix(b" ")?)?;
         return (rest.is_empty() && words <= MOST_WORDS)
-            .then_some(Command::Queue { kind, width, size, crew, words });
+            .then_some(Command::Queue { shape: Shape { kind, width, size, crew }, words });
     }
     match line {
         b"take" => Some(Command::Take),
@@ -50,7 +52,7 @@ pub fn parse(line: &[u8]) -> Option<Command> {
 
 /// A value at the front of `text`, and what follows it: base ten, no sign, no
 /// leading zero, at most 4,294,967,295.
-fn value(text: &[u8]) -> Option<(u32, &[u8])> {
+pub fn value(text: &[u8]) -> Option<(u32, &[u8])> {
     let mut digits = 0;
     let mut sum: u64 = 0;
     // An eleventh digit is above the range, whatever it is.
@@ -73,7 +75,7 @@ mod tests {
     fn each_form() {
         assert_eq!(
             parse(b"queue 1 16 1024 8 4094"),
-            Some(Command::Queue { kind: 1, width: 16, size: 1024, crew: 8, words: 4094 })
+            Some(Command::Queue { shape: Shape { kind: 1, width: 16, size: 1024, crew: 8 }, words: 4094 })
         );
         assert_eq!(parse(b"put 4294967295"), Some(Command::Put { payload: u32::MAX }));
         assert_eq!(parse(b"put 0"), Some(Command::Put { payload: 0 }));
@@ -88,10 +90,7 @@ mod tests {
         assert_eq!(
             parse(b"queue 4294967295 4294967295 4294967295 4294967295 0"),
             Some(Command::Queue {
-                kind: u32::MAX,
-                width: u32::MAX,
-                size: u32::MAX,
-                crew: u32::MAX,
+                shape: Shape { kind: u32::MAX, width: u32::MAX, size: u32::MAX, crew: u32::MAX },
                 words: 0
             })
         );

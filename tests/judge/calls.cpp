@@ -2,7 +2,10 @@
 #include "../../include/bomqelir.h"
 
 #include <cstdio>
+#include <initializer_list>
 #include <vector>
+
+static_assert(BOMQELIR_VERSION == 1, "what is tested here");
 
 namespace {
 
@@ -41,17 +44,18 @@ Bytes list(std::initializer_list<uint32_t> numbers) {
 
 uint64_t accepted(uint64_t handouts, uint64_t repeats) { return (UINT64_C(1) << 32) + 65536 * handouts + repeats; }
 
-void expect(const char *what, Bytes log, Bytes stored, uint64_t answer) {
-    // room for one byte more: data() of an empty vector may be null, and the judge takes no null pointer
-    log.reserve(log.size() + 1);
-    stored.reserve(stored.size() + 1);
-    uint64_t got = bomqelir_judge(log.data(), log.size(), stored.data(), stored.size());
+void expect(const char *what, uint64_t got, uint64_t answer) {
     if (got == answer) {
         ++passed;
     } else {
         ++failed;
-        std::printf("FAILED: %s: %llu, expected %llu\n", what, (unsigned long long)got, (unsigned long long)answer);
+        std::printf("FAILED: %s: %llu, expected %llu\n", what, static_cast<unsigned long long>(got),
+                    static_cast<unsigned long long>(answer));
     }
+}
+
+void expect(const char *what, const Bytes &log, const Bytes &stored, uint64_t answer) {
+    expect(what, bomqelir_judge(log.data(), log.size(), stored.data(), stored.size()), answer);
 }
 
 Bytes cut(Bytes bytes, size_t length) {
@@ -104,11 +108,30 @@ int main() {
         all.out(1, 1, 65);
     }
     expect("one put handed out 4,095 times", all.bytes, {}, accepted(4095, 4094));
-    uint64_t answer = bomqelir_judge(all.bytes.data(), all.bytes.size(), all.bytes.data(), 0);
-    bool read = bomqelir_accepted(answer) && bomqelir_handouts(answer) == 4095 && bomqelir_repeats(answer) == 4094;
-    read ? ++passed : ++failed;
-    if (!read) {
-        std::printf("FAILED: the two counts of an answer\n");
+
+    // A null pointer where the length is 0, in each place and with each sort of answer.
+    const Bytes handed_out = Log().put(1, 65).out(3, 1, 65).bytes;
+    const Bytes stored = list({1});
+    const Bytes nowhere = Log().put(1, 65).bytes;
+    const Bytes too_long(65552);
+    expect("null and null", bomqelir_judge(nullptr, 0, nullptr, 0), accepted(0, 0));
+    expect("a null log with a list", bomqelir_judge(nullptr, 0, stored.data(), stored.size()), accepted(0, 0));
+    expect("a null log with a list of 3 bytes", bomqelir_judge(nullptr, 0, stored.data(), 3), BOMQELIR_BAD_LENGTH);
+    expect("a null log with too long a list", bomqelir_judge(nullptr, 0, too_long.data(), too_long.size()), BOMQELIR_TOO_LONG);
+    expect("a log with a null list", bomqelir_judge(handed_out.data(), handed_out.size(), nullptr, 0), accepted(1, 0));
+    expect("a log with a null list, its put nowhere", bomqelir_judge(nowhere.data(), nowhere.size(), nullptr, 0), BOMQELIR_NO);
+    expect("a log of 15 bytes with a null list", bomqelir_judge(nowhere.data(), 15, nullptr, 0), BOMQELIR_BAD_LENGTH);
+    expect("too long a log with a null list", bomqelir_judge(too_long.data(), too_long.size(), nullptr, 0), BOMQELIR_TOO_LONG);
+
+    // What is read off an answer: 0 and 0 unless it accepts.
+    const uint64_t answer = bomqelir_judge(all.bytes.data(), all.bytes.size(), nullptr, 0);
+    expect("accepted", bomqelir_accepted(answer) != 0, true);
+    expect("hand-outs", bomqelir_handouts(answer), 4095);
+    expect("repeats", bomqelir_repeats(answer), 4094);
+    for (uint64_t other : {BOMQELIR_NO, BOMQELIR_BAD_LENGTH, BOMQELIR_TOO_LONG}) {
+        expect("not accepted", bomqelir_accepted(other) != 0, false);
+        expect("no hand-outs", bomqelir_handouts(other), 0);
+        expect("no repeats", bomqelir_repeats(other), 0);
     }
 
     std::printf("%d passed, %d failed\n", passed, failed);

@@ -23,16 +23,9 @@ struct Case {
 };
 
 // Each of the two has its own memory of just its length, so that a read past
-// the end is one that a checker of memory sees. The call wants no null pointer,
-// and an empty vector may have one: hence the byte to point at.
-const uint8_t nothing = 0;
-
-const uint8_t *start(const std::vector<uint8_t> &bytes) {
-    return bytes.empty() ? &nothing : bytes.data();
-}
-
+// the end is one that a checker of memory sees. An empty one has a null pointer.
 uint64_t judge(const Case &c) {
-    return bomqelir_judge(start(c.log), c.log.size(), start(c.list), c.list.size());
+    return bomqelir_judge(c.log.data(), c.log.size(), c.list.data(), c.list.size());
 }
 
 size_t length(const uint8_t *word) {

@@ -4,7 +4,6 @@ use mathlib.Core.Bool.{Bool, true, false}
 use mathlib.Core.List.{List, [], _∷_, _++_}
 use Prim.Native.Nat.{ℕ}
 use lib.ListN.{replicate}
-use Rattle.model.specs.declared.Operation.{Operation}
 use Rattle.model.specs.declared.Operation.the-variants.{Put, Take, Steal}
 use Rattle.model.specs.Tests.{if_then_else_, _and_, _or_}
 use Rattle.model.specs.Memory.{zeros, wordAt, setWord, offsetAt, sizeAt}
@@ -50,12 +49,12 @@ unfolding tried.does frontOf after allBelow someBelow freshOf beginOf stepOf val
 full-accepted = refl
 
 -- THE BYTES. The words of these runs are below 256, so each is its lowest byte and three zeros
-abbrev spelled : List ℕ → List ℕ
-spelled [] = []
-spelled (x ∷ l) = x ∷ 0 ∷ 0 ∷ 0 ∷ spelled l
+abbrev encoded : List ℕ → List ℕ
+encoded [] = []
+encoded (x ∷ l) = x ∷ 0 ∷ 0 ∷ 0 ∷ encoded l
 
 abbrev verdict : World → List Call → Verdict
-verdict W cs = judged (spelled (logFront (after W cs))) (spelled (stored (after W cs)))
+verdict W cs = judged (encoded (logFront (after W cs))) (encoded (stored (after W cs)))
 
 -- P1 is answered no, though its premise is the only thing that is wrong with it; P2 has two hand-outs of different numbers
 pub p1-judged : verdict (bench 1 2) p1 ≡ No

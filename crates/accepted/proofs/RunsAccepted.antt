@@ -11,7 +11,7 @@ use lib.ListN.{length, getD, length-append, List·getD-append}
 use lib.Seq.{getD-append-seam}
 use borrow.Author.Tests.{eq-eqb, le-leb, lt-ltb}
 use Rattle.model.specs.Tests.{_and_, _or_}
-use Rattle.model.specs.Answers.{entry, entryOf, ends, task}
+use Rattle.model.specs.Answers.{entryOf, ends}
 use Rattle.model.specs.World.{World}
 use Rattle.model.specs.Calls.{freshOf, Call}
 use Rattle.model.specs.Run.{Played, played, after}
@@ -28,7 +28,7 @@ use Rattle.order.proofs.FrontEntries.{entries-many}
 use Rattle.order.proofs.KeptEntries.{number-of, is-entry, wrote, hands-out, kept-entry}
 use Rattle.theorems.proofs.NothingLost.{demand3}
 use Rattle.order.proofs.LogFront.{log-is-answers}
-use Rattle.judgement.specs.Judgement.{allBelow, known, numbered, rises, finishedAs, honest, listed, kept, accepts}
+use Rattle.judgement.specs.Judgement.{allBelow, known, numbered, rises, finishedAs, justified, listed, kept, accepts}
 use Rattle.judgement.proofs.All.{all-true}
 use Rattle.accepted.specs.Runs.{windowNumbers, stored, RunsAccepted}
 
@@ -78,8 +78,8 @@ module _ (W : World) (cs : List Call) (D : Demand3 W cs)
       lt-ltb _ _ (R (place T i) (place T j) _ _ (place-rises T i j g) (ends-put i f) (ends-put j e))))))
 
   -- a hand-out repeats a put finished before it
-  honest-all : allBelow (honest l) (count T) ≡ true
-  honest-all = all-true (honest l) (count T) (λ j h. only-if (isKind l 2 j) _ (repeats j))
+  justified-all : allBelow (justified l) (count T) ≡ true
+  justified-all = all-true (justified l) (count T) (λ j h. only-if (isKind l 2 j) _ (repeats j))
     where
       repeats : (j : ℕ) → isKind l 2 j ≡ true → someBelow (finishedAs l j) j ≡ true
       repeats j e =
@@ -104,7 +104,7 @@ module _ (W : World) (cs : List Call) (D : Demand3 W cs)
           inr (sym (some-at (listed (stored U) (entryAt l j .number)) size i h refl (eq-eqb _ _ (window-number U size i h ∙ x))))
 
   all-accepted : accepts l (count T) (stored U) size ≡ true
-  all-accepted = and-both _ _ known-all (and-both _ _ rises-all (and-both _ _ honest-all kept-all))
+  all-accepted = and-both _ _ known-all (and-both _ _ rises-all (and-both _ _ justified-all kept-all))
 
 pub runs-accepted : RunsAccepted
 runs-accepted k w c n m l e cs f =

@@ -13,8 +13,8 @@ use Rattle.judgement.specs.Judgement.{wordsOf, judged}
 use Rattle.accepted.specs.Runs.{stored}
 
 -- bytes that are the words l: four for each, lowest first
-abbrev pub Spells : List ℕ → List ℕ → Type 0
-Spells bytes l = (length bytes ≡ 4 * length l) × (wordsOf bytes ≡ l)
+abbrev pub Encodes : List ℕ → List ℕ → Type 0
+Encodes bytes l = (length bytes ≡ 4 * length l) × (wordsOf bytes ≡ l)
 
 -- For every list from a fresh bench under demand 3's premise, where the log's front is not too long for the judge: accepted, with the hand-outs
 -- that `T` counts, and for repeats those less the different numbers
@@ -22,5 +22,5 @@ abbrev pub RunsJudged : Type 0
 RunsJudged =
     FromFresh
     (λ W. (cs : List Call) → FewPuts W cs
-    → (log list : List ℕ) → Spells log (logFront (after W cs)) → Spells list (stored (after W cs)) → length log ≤ 65536
+    → (log list : List ℕ) → Encodes log (logFront (after W cs)) → Encodes list (stored (after W cs)) → length log ≤ 65536
     → judged log list ≡ Accepted (countsOf (after W cs) .handouts) (countsOf (after W cs) .handouts - countsOf (after W cs) .different))

@@ -5,8 +5,9 @@ ghost use mathlib.Core.Path.{_≡_};
 ghost use mathlib.Core.Bool.{true};
 ghost use Prim.Native.Nat.{_≤_, _<_};
 ghost use lib.ListN.{length};
+ghost use Rattle.model.specs.Listing.{programStore, programLog};
 ghost use Rattle.replies.specs.Sessions.{programOf};
-ghost use Rattle.listing.specs.Feeding.{Reachable};
+ghost use Rattle.listing.specs.Consuming.{Reachable};
 use libc::STDIN_FILENO;
 use libc::STDOUT_FILENO;
 use replies::LONGEST;
@@ -90,7 +91,7 @@ fn play_some(
     let mut turns = u64::MAX;
     while turns > 0 {
         turns -= 1;
-        let f = listing::feed(current, &buf[from..n], store, log, out);
+        let f = listing::consume(current, &buf[from..n], store, log, out);
         let wrote = f.wrote;
         let used = f.used;
         current = f.session;
@@ -117,8 +118,10 @@ fn play_some(
     }
 }
 
+// Plays the input on the program's own store and log, as the definition of its listing has them.
 fn run(buf: &mut [u8], store: &mut [u32], log: &mut [u32], out: &mut [u8])
     requires { ⌜ 61 < length (now buf) ⌝ }
+    requires { ⌜ (now store ≡ programStore) × (now log ≡ programLog) ⌝ }
 {
     let mut session = replies::start();
     let mut have: usize = 0;

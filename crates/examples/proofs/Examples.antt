@@ -25,9 +25,11 @@ use Rattle.model.specs.Limits.{validOf}
 use Rattle.model.specs.Calls.{freshOf, beginOf, stepOf, Call, begin, step}
 use Rattle.model.specs.Run.{Played, played, after}
 use Rattle.model.specs.Window.{windowSize}
-use Rattle.theorems.specs.Demand3.{At, Begins, Line1, Attempt, Out, AllOut, Stands, between, FewPuts, Demand3}
+use Rattle.theorems.specs.Demand3.{At, Begins, Line1, Attempt, Out, AllOut, Stands, puts, between, Few, FewPuts, Demand3}
 use Rattle.premise.specs.Premise.{Loses}
+use Rattle.premise.proofs.WidestTag.{puts-drop, puts-take}
 use Rattle.theorems.proofs.Events.{is-line-1}
+use Rattle.theorems.proofs.NothingLost.{demand3}
 use Rattle.theorems.proofs.Remainders.{le-or-lt}
 
 -- TESTS over places. A task is handed out nowhere
@@ -142,6 +144,33 @@ pub p2-stands : Stands (after (bench 2 2) p1) (task 3 67)
 unfolding bench p1 does after freshOf beginOf stepOf validOf lineStep zeros wordAt setWord offsetAt sizeAt if_then_else_ _and_ _or_
 p2-stands = (0, omega arith, refl, refl)
 
+-- P2 keeps the premise: three puts finish in all, and it takes four to break it
+p2-puts : puts (played (bench 2 2) p1) ≡ 3
+unfolding bench p1 does played freshOf beginOf stepOf validOf lineStep zeros wordAt setWord offsetAt sizeAt if_then_else_ _and_ _or_
+p2-puts = refl
+
+p2-few : (d : ℕ) → d ≤ 3 → Few (bench 2 2 .bench .kind) (bench 2 2 .bench .width) d
+unfolding bench freshOf zeros if_then_else_ _and_ _or_
+p2-few d h = let z : d < 4 = omega arith in z
+
+pub p2-keeps-premise : FewPuts (bench 2 2) p1
+p2-keeps-premise i l j x a =
+    p2-few _ (omega (
+      arith,
+      p2-puts,
+      puts-take (drop (suc l) (played (bench 2 2) p1)) (j - suc l),
+      puts-drop (played (bench 2 2) p1) (suc l),
+    ))
+
+-- so demand 3 holds of it, not emptily
+p2-accepted : freshOf 1 2 2 2 (replicate 12 0) (replicate 64 0) .answer ≡ Accepted
+unfolding freshOf if_then_else_ _and_ _or_
+p2-accepted = refl
+
+pub p2-holds : Demand3 (bench 2 2) p1
+unfolding bench
+p2-holds = demand3 1 2 2 2 (replicate 12 0) (replicate 64 0) p2-accepted p1 p2-keeps-premise
+
 -- thief 2 reads put 3's number before thief 1's compare loses it, and put 5's payload after two more puts
 unfoldable pub mixed : List Call
 mixed =
@@ -178,9 +207,9 @@ not-belongs D =
 unfoldable pub p1-take : List Call
 p1-take = p1 ++ begin 0 Take ∷ step 0 ∷ step 0 ∷ []
 
-pub not-honest : Demand3 (bench 1 2) p1-take → ⊥
+pub false-empty : Demand3 (bench 1 2) p1-take → ⊥
 unfolding bench p1-take p1 does anyOut isOut played freshOf beginOf stepOf validOf lineStep zeros wordAt setWord offsetAt sizeAt if_then_else_ _and_ _or_
-not-honest D = go (D .none-left 39 0 refl)
+false-empty D = go (D .none-left 39 0 refl)
   where
     T : List Played
     T = played (bench 1 2) p1-take

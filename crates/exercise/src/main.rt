@@ -1,16 +1,13 @@
 // Plays through the public calls what document 01 names and does not prove by itself: each refusal that
-// a library call gives, their order, the last words of the log, and a foreign state for each limit. One
-// line for each call: what was tried, and what the bench answered.
+// a library call gives, their order, the last words of the log, and foreign states, each beside the
+// nearest one that is allowed. One line for each call: what was tried, and what the bench answered.
 // Uses `queues` and `model`, of the kit `io` and `libc`. It is a program, and no crate uses it.
-ghost use mathlib.Core.Path.{_≡_};
 ghost use Prim.Native.Nat.{_<_};
-ghost use Rattle.model.specs.Answers.{numberOf};
 use libc::STDOUT_FILENO;
 use model::Anchor;
 use model::Answer;
 use model::Line;
 use model::Operation;
-use model::Refusal;
 use model::Region;
 use model::Task;
 use model::Worker;
@@ -25,26 +22,6 @@ fn number(n: u32) {
     io::print_decimal(STDOUT_FILENO, n as u64);
 }
 
-fn refusal_number(why: Refusal) -> u32
-    ensures { λ r. ⌜ r ≡ numberOf why ⌝ }
-{
-    match why {
-        Refusal::UnknownQueue => 1,
-        Refusal::TagWidth => 2,
-        Refusal::ArraySize => 3,
-        Refusal::Crew => 4,
-        Refusal::ShortStore => 5,
-        Refusal::NoSuchWorker => 6,
-        Refusal::BusyWorker => 7,
-        Refusal::IdleWorker => 8,
-        Refusal::WrongHand => 9,
-        Refusal::NumbersSpent => 10,
-        Refusal::LogFull => 11,
-        Refusal::ForeignState => 12,
-        Refusal::BadLine => 13,
-    }
-}
-
 // What an answer says, in numbers: 0 accepted, 1 to 4 the kind of its log entry, 5 goes on, 6 refused, 7 accepted with a put
 // number; and beside it the put's number or the refusal's.
 struct Said {
@@ -56,7 +33,7 @@ fn said_as(kind: u32, number: u32) -> Said {
     Said { kind, number }
 }
 
-fn heard(answer: Answer) -> Said {
+fn said_by(answer: Answer) -> Said {
     match answer {
         Answer::Accepted => said_as(0, 0),
         Answer::Numbered { number } => said_as(7, number),
@@ -65,7 +42,7 @@ fn heard(answer: Answer) -> Said {
         Answer::HandedOut { worker: _, task } => said_as(2, task.number),
         Answer::Empty { worker: _ } => said_as(3, 0),
         Answer::Full { worker: _, task } => said_as(4, task.number),
-        Answer::Refused { why } => said_as(6, refusal_number(why)),
+        Answer::Refused { why } => said_as(6, queues::number_of(why)),
     }
 }
 
@@ -88,10 +65,10 @@ fn said_text(said: Said) {
 }
 
 // A line of output.
-fn told(tried: &[u8], answer: Answer) {
+fn report(tried: &[u8], answer: Answer) {
     text(tried);
     text(b": ");
-    said_text(heard(answer));
+    said_text(said_by(answer));
 }
 
 // Each try has memory of its own: a store of 30 words and a log of 8.
@@ -99,15 +76,19 @@ fn try_fresh(tried: &[u8], kind: u32, width: u32, size: u32, crew: u32) {
     let mut store = [0u32; 30];
     let made = Bench::fresh(kind, width, size, crew, &mut store);
     let answer = made.answer;
-    told(tried, answer);
+    report(tried, answer);
+}
+
+fn begun_on(state: model::Bench, worker: u32, operation: Operation, store: &[u32]) -> Answer {
+    let log = [0u32; 8];
+    let bench = Bench { state: state };
+    let reply = bench.begin(worker, operation, store, &log);
+    reply.answer
 }
 
 fn begun(state: model::Bench, worker: u32, operation: Operation) -> Answer {
     let store = [0u32; 30];
-    let log = [0u32; 8];
-    let bench = Bench { state: state };
-    let reply = bench.begin(worker, operation, &store, &log);
-    reply.answer
+    begun_on(state, worker, operation, &store)
 }
 
 fn stepped(state: model::Bench, worker: u32) -> Answer {
@@ -118,10 +99,10 @@ fn stepped(state: model::Bench, worker: u32) -> Answer {
     reply.answer
 }
 
-// The owner takes: a state within the limits is refused for no other reason than a busy owner.
+// The owner takes: a state within the limits is refused for no other reason than a busy owner, 7.
 fn try_state(tried: &[u8], state: model::Bench) {
     let answer = begun(state, 0, Operation::Take);
-    told(tried, answer);
+    report(tried, answer);
 }
 
 // The state that an accepted fresh makes: 2 slots, tags of 4 bits, a crew of 3.
@@ -146,7 +127,7 @@ fn played(used: u32, busy: bool) -> model::Bench {
 
 fn try_begin(tried: &[u8], used: u32, busy: bool, worker: u32, operation: Operation) {
     let answer = begun(played(used, busy), worker, operation);
-    told(tried, answer);
+    report(tried, answer);
 }
 
 fn try_put(tried: &[u8], used: u32, busy: bool, worker: u32) {
@@ -163,7 +144,13 @@ fn try_steal(tried: &[u8], used: u32, busy: bool, worker: u32) {
 
 fn try_step(tried: &[u8], used: u32, busy: bool, worker: u32) {
     let answer = stepped(played(used, busy), worker);
-    told(tried, answer);
+    report(tried, answer);
+}
+
+// A thief that is at line 1 of a steal.
+fn try_thief(tried: &[u8], operation: Operation) {
+    let answer = begun(with_line(base(1), 1, Line::StealRead), 1, operation);
+    report(tried, answer);
 }
 
 // Each of fresh's refusals, and then their order: a call that breaks every limit, then one fewer each.
@@ -189,7 +176,7 @@ fn fresh_order() {
     try_fresh(b"fresh, none broken", 3, 16, 1, 8);
 }
 
-// Each of begin's and step's refusals but 11.
+// Each of begin's and step's refusals but 11. P9 is the busy thief that puts.
 fn refusals() {
     try_step(b"a step of worker 3 of 3", 0, false, 3);
     try_step(b"a step of an idle worker", 0, false, 1);
@@ -199,6 +186,8 @@ fn refusals() {
     try_steal(b"the owner steals", 0, false, 0);
     try_put(b"the owner puts", 0, false, 0);
     try_put(b"the busy owner puts", 0, true, 0);
+    try_thief(b"a busy thief puts", Operation::Put { payload: 9 });
+    try_thief(b"a busy thief steals", Operation::Steal);
     try_put(b"a put after number 65535", 65535, false, 0);
     try_take(b"a take after number 65535", 65535, false, 0);
 }
@@ -238,7 +227,7 @@ fn try_log(tried: &[u8], log: &mut [u32]) {
     last = put(last.bench, &mut store, log);
     last = put(last.bench, &mut store, log);
     let answer = last.answer;
-    told(tried, answer);
+    report(tried, answer);
     front_text(last.bench, log);
 }
 
@@ -285,9 +274,33 @@ fn try_anchor(tried: &[u8], kind: u32, head: u32, count: u32, tag: u32) {
     try_state(tried, state);
 }
 
-// A pair of the directory, and how many are published and claimed; the owner is at `line`.
+// A pair of the directory, and how many are published and claimed.
+fn with_pair(
+    state: model::Bench,
+    place: usize,
+    offset: u32,
+    length: u32,
+    published: u32,
+    claimed: u32,
+) -> model::Bench
+    requires { ⌜ place < 11 ⌝ }
+{
+    let mut next = state;
+    let mut queue = next.queue;
+    queue.arrays[place] = Region {
+        offset: offset,
+        length: length,
+    };
+    queue.published = published;
+    queue.claimed = claimed;
+    next.queue = queue;
+    next
+}
+
+// The same, with the owner at `line`.
 fn try_pair(
     tried: &[u8],
+    kind: u32,
     place: usize,
     offset: u32,
     length: u32,
@@ -297,17 +310,8 @@ fn try_pair(
 )
     requires { ⌜ place < 11 ⌝ }
 {
-    let mut state = base(1);
-    let mut queue = state.queue;
-    queue.arrays[place] = Region {
-        offset: offset,
-        length: length,
-    };
-    queue.published = published;
-    queue.claimed = claimed;
-    state.queue = queue;
-    state.workers[0] = Worker { line: line };
-    try_state(tried, state);
+    let state = with_pair(base(kind), place, offset, length, published, claimed);
+    try_state(tried, with_line(state, 0, line));
 }
 
 fn try_line(tried: &[u8], kind: u32, worker: usize, line: Line)
@@ -333,17 +337,37 @@ fn task(number: u32) -> Task {
 
 fn foreign_numbers() {
     try_numbers(b"a state as fresh made it", 4, 3, 0, 0);
+    try_numbers(b"tags of 0 bits", 0, 3, 0, 0);
+    try_numbers(b"tags of 1 bit", 1, 3, 0, 0);
+    try_numbers(b"tags of 16 bits", 16, 3, 0, 0);
     try_numbers(b"tags of 17 bits", 17, 3, 0, 0);
+    try_numbers(b"a crew of 0", 4, 0, 0, 0);
+    try_numbers(b"a crew of 1", 4, 1, 0, 0);
+    try_numbers(b"a crew of 8", 4, 8, 0, 0);
     try_numbers(b"a crew of 9", 4, 9, 0, 0);
+}
+
+fn foreign_counters() {
+    try_numbers(b"65535 put numbers used", 4, 3, 65535, 0);
     try_numbers(b"65536 put numbers used", 4, 3, 65536, 0);
-    try_numbers(b"12 words written in a log of 8", 4, 3, 0, 12);
+    try_numbers(b"8 words written in a log of 8", 4, 3, 0, 8);
+    try_numbers(b"9 words written in a log of 8", 4, 3, 0, 9);
 }
 
 // A directory while the owner is idle.
 fn try_directory(tried: &[u8], place: usize, offset: u32, length: u32, published: u32, claimed: u32)
     requires { ⌜ place < 11 ⌝ }
 {
-    try_pair(tried, place, offset, length, published, claimed, Line::Idle);
+    try_pair(
+        tried,
+        1,
+        place,
+        offset,
+        length,
+        published,
+        claimed,
+        Line::Idle,
+    );
 }
 
 fn foreign_directories() {
@@ -351,114 +375,233 @@ fn foreign_directories() {
     try_directory(b"twelve arrays claimed", 0, 0, 4, 12, 12);
     try_directory(b"an array claimed and the owner idle", 1, 4, 8, 1, 2);
     let note = Line::Note { task: task(1) };
-    try_pair(b"the owner at X2 and no array claimed", 0, 0, 4, 1, 1, note);
-    try_directory(b"a first array at word 1", 0, 1, 4, 1, 1);
-    try_directory(b"a first array of 3 words", 0, 0, 3, 1, 1);
-    try_directory(b"a first array of 3 slots", 0, 0, 6, 1, 1);
-    try_directory(b"a gap between two arrays", 1, 5, 8, 2, 2);
-    try_directory(b"an array as long as the one before", 1, 4, 4, 2, 2);
-    try_directory(b"a directory longer than the store", 0, 0, 32, 1, 1);
+    try_pair(
+        b"the owner at X2 and no array claimed",
+        1,
+        0,
+        0,
+        4,
+        1,
+        1,
+        note,
+    );
 }
 
-fn foreign_anchors() {
+fn foreign_pairs() {
+    try_directory(b"a first array at word 1", 0, 1, 4, 1, 1);
+    try_directory(b"a first array of 2 words", 0, 0, 2, 1, 1);
+    try_directory(b"a first array of 3 words", 0, 0, 3, 1, 1);
+    try_directory(b"a first array of 3 slots", 0, 0, 6, 1, 1);
+    try_directory(b"an array behind the first", 1, 4, 8, 2, 2);
+    try_directory(b"a gap between two arrays", 1, 5, 8, 2, 2);
+    try_directory(b"two arrays that overlap", 1, 3, 8, 2, 2);
+    try_directory(b"an array as long as the one before", 1, 4, 4, 2, 2);
+}
+
+// A first array of so many words, on a store of its own.
+fn try_store(tried: &[u8], length: u32, store: &[u32]) {
+    let state = with_pair(base(1), 0, 0, length, 1, 1);
+    let answer = begun_on(state, 0, Operation::Take, store);
+    report(tried, answer);
+}
+
+fn foreign_stores() {
+    let even = [0u32; 2048];
+    let short = [0u32; 2047];
+    let large = [0u32; 4096];
+    try_store(b"1024 slots on 2048 words", 2048, &even);
+    try_store(b"1024 slots on 2047 words", 2048, &short);
+    try_store(b"2048 slots on 4096 words", 4096, &large);
+}
+
+fn foreign_lifo() {
+    try_anchor(b"LIFO, t the size, a tag of 4 bits", 1, 0, 2, 15);
     try_anchor(b"LIFO, t above the size", 1, 0, 3, 0);
     try_anchor(b"LIFO, a tag of 5 bits", 1, 0, 2, 16);
     try_anchor(b"LIFO, a head", 1, 1, 2, 0);
-    try_anchor(b"FIFO, head above tail", 2, 2, 1, 0);
-    try_anchor(b"FIFO, tail 3 ahead of head", 2, 1, 4, 0);
-    try_anchor(b"FIFO, tail 65536", 2, 65535, 65536, 0);
-    try_anchor(b"FIFO, a tag", 2, 1, 2, 1);
-    try_anchor(b"double-ended, head 2048", 3, 2048, 1, 0);
-    try_anchor(b"double-ended, s above the size", 3, 0, 3, 0);
 }
 
-// The owner at a line of its own with values that do not fit.
+fn foreign_fifo() {
+    try_anchor(b"FIFO, head at tail", 2, 2, 2, 0);
+    try_anchor(b"FIFO, head above tail", 2, 2, 1, 0);
+    try_anchor(b"FIFO, tail 2 ahead of head", 2, 1, 3, 0);
+    try_anchor(b"FIFO, tail 3 ahead of head", 2, 1, 4, 0);
+    try_anchor(b"FIFO, tail 65535", 2, 65534, 65535, 0);
+    try_anchor(b"FIFO, tail 65536", 2, 65535, 65536, 0);
+    try_anchor(b"FIFO, a tag", 2, 1, 2, 1);
+}
+
+fn foreign_deque() {
+    try_anchor(
+        b"double-ended, head 2047, s the size, a tag of 4 bits",
+        3,
+        2047,
+        2,
+        15,
+    );
+    try_anchor(b"double-ended, head 2048", 3, 2048, 1, 0);
+    try_anchor(b"double-ended, s above the size", 3, 0, 3, 0);
+    try_anchor(b"double-ended, a tag of 5 bits", 3, 0, 1, 16);
+}
+
+// The owner at a line of put or take, with what it has read.
 fn try_owner(tried: &[u8], kind: u32, line: Line) {
     try_line(tried, kind, 0, line);
 }
 
-fn put_test(count: u32) -> Line {
-    Line::PutTest {
-        task: task(1),
-        read: anchor(0, count, 0),
-    }
+fn try_put_read(tried: &[u8], number: u32) {
+    try_owner(tried, 1, Line::PutRead { task: task(number) });
 }
 
-fn put_number(head: u32, count: u32) -> Line {
-    Line::PutNumber {
-        task: task(1),
-        read: anchor(head, count, 0),
-    }
+fn try_put_test(tried: &[u8], count: u32, tag: u32) {
+    let read = anchor(0, count, tag);
+    try_owner(
+        tried,
+        1,
+        Line::PutTest {
+            task: task(1),
+            read,
+        },
+    );
 }
 
-fn take_number(count: u32) -> Line {
-    Line::TakeNumber {
-        read: anchor(0, count, 0),
-    }
+fn try_put_number(tried: &[u8], kind: u32, head: u32, count: u32) {
+    let read = anchor(head, count, 0);
+    try_owner(
+        tried,
+        kind,
+        Line::PutNumber {
+            task: task(1),
+            read,
+        },
+    );
+}
+
+fn try_take_tail(tried: &[u8], kind: u32, head: u32) {
+    try_owner(tried, kind, Line::TakeTail { head });
+}
+
+fn try_take_payload(tried: &[u8], count: u32, number: u32) {
+    let read = anchor(0, count, 0);
+    try_owner(tried, 1, Line::TakePayload { read, number });
 }
 
 fn foreign_owners() {
+    try_owner(b"the owner at a line of take", 1, Line::TakeRead);
     try_owner(b"the owner at a line of steal", 1, Line::StealRead);
-    try_owner(
-        b"a put numbered 65536",
-        1,
-        Line::PutRead { task: task(65536) },
-    );
-    try_owner(b"a t read above the size", 1, put_test(3));
-    try_owner(b"a full array past a put's test", 1, put_number(0, 2));
-    try_owner(
-        b"FIFO, tail 65535 past a put's test",
-        2,
-        put_number(65535, 65535),
-    );
-    try_owner(b"LIFO at FIFO's take 2", 1, Line::TakeTail { head: 0 });
-    try_owner(b"t read 0 past a test for EMPTY", 1, take_number(0));
 }
 
-// The owner at X3, a second array claimed, with `noted` indices to copy and `copied` of them done.
-fn try_copy(tried: &[u8], noted: u32, copied: u32) {
+fn foreign_puts() {
+    try_put_read(b"a put numbered 65535", 65535);
+    try_put_read(b"a put numbered 65536", 65536);
+    try_put_test(b"a t read of the size", 2, 0);
+    try_put_test(b"a t read above the size", 3, 0);
+    try_put_test(b"a tag read of 15", 0, 15);
+    try_put_test(b"a tag read of 16", 0, 16);
+    try_put_number(b"a slot left past a put's test", 1, 0, 1);
+    try_put_number(b"a full array past a put's test", 1, 0, 2);
+    try_put_number(b"FIFO, tail 65534 past a put's test", 2, 65534, 65534);
+    try_put_number(b"FIFO, tail 65535 past a put's test", 2, 65535, 65535);
+}
+
+fn foreign_takes() {
+    try_take_tail(b"LIFO at FIFO's take 2", 1, 0);
+    try_take_tail(b"FIFO, a head read of 65535", 2, 65535);
+    try_take_tail(b"FIFO, a head read of 65536", 2, 65536);
+    try_take_payload(b"t read 0 past a test for EMPTY", 0, 1);
+    try_take_payload(b"a number read of 65535", 1, 65535);
+    try_take_payload(b"a number read of 65536", 1, 65536);
+}
+
+// The owner at X3, a second array claimed, with `noted` indices from `head` on to copy and `copied` of them done.
+fn try_copy(tried: &[u8], kind: u32, head: u32, noted: u32, copied: u32) {
     let line = Line::Copy {
         task: task(1),
-        head: 0,
+        head: head,
         noted: noted,
         copied: copied,
     };
-    try_pair(tried, 1, 4, 8, 1, 2, line);
+    try_pair(tried, kind, 1, 4, 8, 1, 2, line);
 }
 
 fn foreign_copies() {
-    try_copy(b"the owner at X3", 2, 1);
-    try_copy(b"X3 past the last index", 2, 2);
-    try_copy(b"X3 with more indices than slots", 3, 1);
+    try_copy(b"the owner at X3", 1, 0, 2, 1);
+    try_copy(b"X3 past the last index", 1, 0, 2, 2);
+    try_copy(b"X3 with more indices than slots", 1, 0, 3, 1);
+    try_copy(b"X3 from index 1 on, LIFO", 1, 1, 2, 1);
+    try_copy(b"X3 to index 65534, FIFO", 2, 65533, 2, 1);
+    try_copy(b"X3 to index 65535, FIFO", 2, 65534, 2, 1);
+    try_copy(b"X3 from index 2047 on, double-ended", 3, 2047, 2, 1);
+    try_copy(b"X3 from index 2048 on, double-ended", 3, 2048, 2, 1);
+}
+
+// A thief at a line of steal, with what it has read. Two arrays are published, of 2 slots and of 4.
+fn try_stealing(tried: &[u8], kind: u32, line: Line) {
+    let state = with_pair(base(kind), 1, 4, 8, 2, 2);
+    try_state(tried, with_line(state, 2, line));
+}
+
+fn try_steal_test(tried: &[u8], kind: u32, head: u32, count: u32, tag: u32) {
+    let read = anchor(head, count, tag);
+    try_stealing(tried, kind, Line::StealTest { read });
+}
+
+fn try_steal_number(tried: &[u8], count: u32, place: u32) {
+    let read = anchor(0, count, 0);
+    try_stealing(tried, 1, Line::StealNumber { read, place });
+}
+
+fn try_steal_payload(tried: &[u8], number: u32) {
+    let read = anchor(0, 1, 0);
+    try_stealing(
+        tried,
+        1,
+        Line::StealPayload {
+            read,
+            place: 0,
+            number,
+        },
+    );
+}
+
+fn try_steal_next(tried: &[u8], kind: u32) {
+    let read = anchor(0, 1, 0);
+    let task = task(1);
+    try_stealing(tried, kind, Line::StealNext { read, task });
+}
+
+fn try_compare(tried: &[u8], next: u32) {
+    let read = anchor(0, 1, 0);
+    let task = task(1);
+    try_stealing(tried, 3, Line::StealCompare { read, next, task });
 }
 
 fn foreign_thieves() {
-    let read = anchor(0, 1, 0);
-    let task = task(1);
     try_line(b"a thief at a line of take", 1, 1, Line::TakeRead);
+    try_line(b"the last of the crew busy", 1, 2, Line::StealRead);
     try_line(b"a busy worker outside the crew", 1, 3, Line::StealRead);
-    try_line(
-        b"a noted array that is not published",
-        1,
-        2,
-        Line::StealNumber { read, place: 1 },
-    );
-    try_line(
-        b"double-ended, h2 2048",
-        3,
-        2,
-        Line::StealCompare {
-            read,
-            next: 2048,
-            task,
-        },
-    );
-    try_line(
-        b"LIFO at figure 3's steal 5",
-        1,
-        2,
-        Line::StealNext { read, task },
-    );
+}
+
+fn foreign_reads() {
+    try_steal_test(b"a thief's tag read of 15", 1, 0, 4, 15);
+    try_steal_test(b"a thief's tag read of 16", 1, 0, 4, 16);
+    try_steal_test(b"FIFO, a thief's head at its tail", 2, 2, 2, 0);
+    try_steal_test(b"FIFO, a thief's head above its tail", 2, 2, 1, 0);
+    try_steal_test(b"FIFO, a thief's tail 5 ahead of its head", 2, 1, 6, 0);
+}
+
+fn foreign_steals() {
+    try_steal_number(b"a thief's t read 0 past its test for EMPTY", 0, 1);
+    try_steal_number(b"the last slot of the noted array", 2, 0);
+    try_steal_number(b"a slot past the noted array", 3, 0);
+    try_steal_number(b"a noted array that is published", 4, 1);
+    try_steal_number(b"a noted array that is not published", 1, 2);
+    try_steal_payload(b"a thief's number read of 65535", 65535);
+    try_steal_payload(b"a thief's number read of 65536", 65536);
+    try_steal_next(b"double-ended at figure 3's steal 5", 3);
+    try_steal_next(b"LIFO at figure 3's steal 5", 1);
+    try_compare(b"double-ended, h2 2047", 2047);
+    try_compare(b"double-ended, h2 2048", 2048);
 }
 
 fn main() {
@@ -469,9 +612,18 @@ fn main() {
     log_room();
     short_front();
     foreign_numbers();
+    foreign_counters();
     foreign_directories();
-    foreign_anchors();
+    foreign_pairs();
+    foreign_stores();
+    foreign_lifo();
+    foreign_fifo();
+    foreign_deque();
     foreign_owners();
+    foreign_puts();
+    foreign_takes();
     foreign_copies();
     foreign_thieves();
+    foreign_reads();
+    foreign_steals();
 }

@@ -4,7 +4,7 @@
 ghost use mathlib.Core.Path.{_≡_};
 ghost use Prim.Native.Nat.{ℕ, _*_, _≤_};
 ghost use lib.ListN.{length, getD};
-ghost use Rattle.judgement.specs.Judgement.{wordsOf, judgedWords, judged, numberOf};
+ghost use Rattle.judgement.specs.Judgement.{wordsOf, judgedWords, judged, verdictNumber};
 use judgement::Verdict;
 
 // The judgement of a log of so many entries and a list of so many numbers; `puts`, `hints` and `seen` are its tables, `seen` all 0.
@@ -72,8 +72,8 @@ pub fn judge(log: &[u8], list: &[u8]) -> Verdict
 }
 
 // A verdict as one number: the refusal, 0 for no, else 2^32 plus 65,536 times the hand-outs plus the repeats.
-fn number_of(verdict: Verdict) -> u64
-    ensures { λ r. ⌜ r ≡ numberOf verdict ⌝ }
+fn verdict_number(verdict: Verdict) -> u64
+    ensures { λ r. ⌜ r ≡ verdictNumber verdict ⌝ }
 {
     match verdict {
         Verdict::TooLong => 15,
@@ -88,7 +88,7 @@ fn number_of(verdict: Verdict) -> u64
 // For callers in C and C++: see include/bomqelir.h.
 #[no_mangle]
 pub extern "C" fn bomqelir_judge(log: &[u8], list: &[u8]) -> u64
-    ensures { λ r. ⌜ r ≡ numberOf (judged (now (log .entry)) (now (list .entry))) ⌝ }
+    ensures { λ r. ⌜ r ≡ verdictNumber (judged (now (log .entry)) (now (list .entry))) ⌝ }
 {
-    number_of(judge(log, list))
+    verdict_number(judge(log, list))
 }

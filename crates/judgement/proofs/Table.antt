@@ -8,7 +8,7 @@ use Rattle.model.specs.Tests.{if_then_else_, _and_, _or_}
 use Rattle.model.specs.Counts.{someBelow, countBelow}
 use Rattle.judgement.specs.declared.Verdict.{Verdict}
 use Rattle.judgement.specs.declared.Verdict.the-variants.{TooLong, BadLength, No, Accepted}
-use Rattle.judgement.specs.Judgement.{wordsOf, allBelow, judged, numberOf}
+use Rattle.judgement.specs.Judgement.{wordsOf, allBelow, judged, verdictNumber, countsIn}
 
 abbrev pub bytesOf : List ℕ → List ℕ
 bytesOf [] = []
@@ -86,6 +86,18 @@ unfolding judged if_then_else_ _and_
 lengths = refl
 
 pub numbers :
-    map numberOf (TooLong ∷ BadLength ∷ No ∷ Accepted 0 0 ∷ Accepted 3 1 ∷ Accepted 4096 4095 ∷ [])
+    map verdictNumber (TooLong ∷ BadLength ∷ No ∷ Accepted 0 0 ∷ Accepted 3 1 ∷ Accepted 4096 4095 ∷ [])
     ≡ 15 ∷ 14 ∷ 0 ∷ 4294967296 ∷ 4295163905 ∷ 4563406847 ∷ []
 numbers = refl
+
+-- the counts of a log that is accepted, of one that is not though it has a hand-out, and of bytes that are not judged
+pub counts :
+    map countsIn
+    (judged (bytesOf (put 1 65 ++ out 0 1 65 ++ out 2 1 65)) []
+    ∷ judged (bytesOf (put 1 65 ++ out 0 1 65 ++ out 2 1 66)) []
+    ∷ judged (replicate 15 1) []
+    ∷ judged (replicate 65537 0) []
+    ∷ [])
+    ≡ (2, 1) ∷ (0, 0) ∷ (0, 0) ∷ (0, 0) ∷ []
+unfolding judged wordsOf allBelow someBelow countBelow if_then_else_ _and_ _or_
+counts = refl

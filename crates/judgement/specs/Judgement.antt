@@ -38,8 +38,8 @@ rises l j = not (numbered l j) or allBelow (λ i. not (numbered l i) or ltb (ent
 abbrev pub finishedAs : List ℕ → ℕ → ℕ → Bool
 finishedAs l j i = isKind l 1 i and sameTask (taskAt l i) (taskAt l j)
 
-abbrev pub honest : List ℕ → ℕ → Bool
-honest l j = not (isKind l 2 j) or someBelow (finishedAs l j) j
+abbrev pub justified : List ℕ → ℕ → Bool
+justified l j = not (isKind l 2 j) or someBelow (finishedAs l j) j
 
 -- 'each finished put is handed out or listed', in a log of n entries and a list of m numbers
 abbrev pub listed : List ℕ → ℕ → ℕ → Bool
@@ -52,7 +52,7 @@ kept l n stored m j =
 -- what is accepted; nothing else is judged
 abbrev pub accepts : List ℕ → ℕ → List ℕ → ℕ → Bool
 accepts l n stored m =
-    allBelow (known l) n and allBelow (rises l) n and allBelow (honest l) n and allBelow (kept l n stored m) n
+    allBelow (known l) n and allBelow (rises l) n and allBelow (justified l) n and allBelow (kept l n stored m) n
 
 -- hand-outs, and the repeats: 'hand-outs less different numbers'
 abbrev pub handouts : List ℕ → ℕ → ℕ
@@ -73,8 +73,16 @@ judged log list =
     judgedWords (wordsOf log) (length log / 16) (wordsOf list) (length list / 4)
 
 -- the one number that a caller in C gets
-abbrev pub numberOf : Verdict → ℕ
-numberOf TooLong = 15
-numberOf BadLength = 14
-numberOf No = 0
-numberOf (Accepted h r) = 4294967296 + 65536 * h + r
+abbrev pub verdictNumber : Verdict → ℕ
+verdictNumber TooLong = 15
+verdictNumber BadLength = 14
+verdictNumber No = 0
+verdictNumber (Accepted h r) = 4294967296 + 65536 * h + r
+
+-- the hand-outs and the repeats of a verdict: 'An accepting answer carries' them, and 'A log not accepted answers no, with both
+-- counts 0'. The enum's case for no has no fields; its two zeros stand here
+abbrev pub countsIn : Verdict → ℕ × ℕ
+countsIn TooLong = (0, 0)
+countsIn BadLength = (0, 0)
+countsIn No = (0, 0)
+countsIn (Accepted h r) = (h, r)

@@ -69,7 +69,7 @@ use Rattle.model.specs.Limits.{
 }
 use Rattle.figures.specs.Bounds.{Ordered}
 use Rattle.slots.specs.Bounds.{Inside}
-use Rattle.lines.specs.Deeds.{Ground, Ready, Range, Lies, Free}
+use Rattle.lines.specs.Actions.{Ground, Ready, Range, Lies, Free}
 use Rattle.model.proofs.Tests.{and-left, and-right, if-true}
 use Rattle.lines.proofs.Directory.{Laid, Arrays, arrays-of}
 

@@ -8,7 +8,7 @@ use native.Mathlib.Omega.{arith}
 use borrow.Author.Tests.{leb-true}
 use Rattle.model.specs.declared.Queue.{Queue}
 use Rattle.model.specs.Lines.{off, size, fits}
-use Rattle.lines.specs.Deeds.{Free}
+use Rattle.lines.specs.Actions.{Free}
 use Rattle.model.proofs.Tests.{and-left, and-right}
 
 pub in-room : (q : Queue) (m : List ℕ) {z a : ℕ}

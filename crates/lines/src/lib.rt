@@ -1,18 +1,19 @@
 // What one line of figures 1, 2 and 3 does, as two pure functions: the line that its worker comes to (next_line), and what it does
-// beside, a deed (decide). Doing the deed is another crate's.
-// Uses `model`, `anchors`, `figures` and `slots`. It is used by `machine`, `queues`, `replies` and `listing`.
+// beside, an action (decide). Carrying the action out is another crate's.
+// Uses `model`, `anchors`, `figures` and `slots`. It is used by `machine`.
 ghost use mathlib.Core.Path.{_≡_};
-ghost use mathlib.Core.Bool.{true};
+ghost use mathlib.Core.Bool.{true, false, not};
 ghost use mathlib.Core.List.{List};
 ghost use Prim.Native.Nat.{ℕ, _-_, _≤_, _<_};
 ghost use lib.ListN.{length};
 ghost use Rattle.model.specs.declared.Line.{Line};
 ghost use Rattle.model.specs.declared.Queue.{Queue};
 ghost use Rattle.model.specs.Memory.{sizeAt};
-ghost use Rattle.model.specs.Lines.{unlessEmpty, compares, claims, lineStep};
+ghost use Rattle.model.specs.Lines.{unlessEmpty, compares, claims, lineStep, failsCompare};
+ghost use Rattle.model.specs.Figures.{isSame};
 ghost use Rattle.model.specs.Limits.{someOk};
 ghost use Rattle.slots.specs.Bounds.{Small};
-ghost use Rattle.lines.specs.Deeds.{enact, InStore, Ground, Ready, Range, Free};
+ghost use Rattle.lines.specs.Actions.{effectBy, failsBy, Doable, Ground, Ready, Range, Free};
 use model::Anchor;
 use model::Answer;
 use model::Kind;
@@ -20,11 +21,12 @@ use model::Line;
 use model::Queue;
 use model::Task;
 
-// What a line does beside moving its worker on: nothing; it writes a word of the store, or a task's two from word `place` on;
-// it claims a range and zeroes it, or publishes the claimed array; or it ends its operation, with the anchor as it is or another
-// one. No line is in it: the prover writes out a type wherever a value of it is in reach, and `Line` has 25 cases.
-pub enum Deed {
+// What a line does beside moving its worker on: nothing; it is a compare that fails; it writes a word of the store, or a task's
+// two from word `place` on; it claims a range and zeroes it, or publishes the claimed array; or it ends its operation, with the
+// anchor as it is or another one. No line is in it: the prover writes out a type wherever a value of it is in reach, and `Line` has 25 cases.
+pub enum Action {
     Nothing,
+    Fails,
     Word { place: usize, value: u32 },
     Copies { place: usize, task: Task },
     Claims { offset: u32, length: u32 },
@@ -42,17 +44,18 @@ fn past_empty(kind: Kind, read: Anchor, next: Line) -> Line
 }
 
 // The test for EMPTY: the operation ends, or nothing.
-fn stop_empty(kind: Kind, worker: u32, read: Anchor) -> Deed
-    ensures { λ r. ⌜ ((q : Queue) (m : List ℕ) (l : Line) → enact q m (unlessEmpty kind q m worker read l .line) r ≡ unlessEmpty kind q m worker read l) ⌝ }
-    ensures { λ r. ⌜ ((q : Queue) (n : ℕ) → InStore q n r) ⌝ }
+fn stop_empty(kind: Kind, worker: u32, read: Anchor) -> Action
+    ensures { λ r. ⌜ ((q : Queue) (m : List ℕ) (l : Line) → effectBy q m (unlessEmpty kind q m worker read l .line) r ≡ unlessEmpty kind q m worker read l) ⌝ }
+    ensures { λ r. ⌜ ((q : Queue) (n : ℕ) → Doable q n r) ⌝ }
+    ensures { λ r. ⌜ failsBy r ≡ false ⌝ }
 {
     let empty = anchors::is_empty(kind, read);
     if empty {
-        Deed::Stops {
+        Action::Stops {
             answer: Answer::Empty { worker },
         }
     } else {
-        Deed::Nothing
+        Action::Nothing
     }
 }
 
@@ -64,23 +67,24 @@ fn past_compare(kind: Kind, anchor: Anchor, read: Anchor) -> Line
     if same { Line::Idle } else { Line::StealRead }
 }
 
-// The compare: the task is handed out, or nothing.
-fn compare(kind: Kind, queue: Queue, worker: u32, read: Anchor, next: u32, task: Task) -> Deed
+// The compare: the task is handed out, or it fails.
+fn compare(kind: Kind, queue: Queue, worker: u32, read: Anchor, next: u32, task: Task) -> Action
     requires { ⌜ Range read ⌝ }
     requires { ⌜ someOk kind read ≡ true ⌝ }
-    ensures { λ r. ⌜ ((m : List ℕ) → enact queue m (compares kind queue m worker read next task .line) r ≡ compares kind queue m worker read next task) ⌝ }
-    ensures { λ r. ⌜ ((n : ℕ) → InStore queue n r) ⌝ }
+    ensures { λ r. ⌜ ((m : List ℕ) → effectBy queue m (compares kind queue m worker read next task .line) r ≡ compares kind queue m worker read next task) ⌝ }
+    ensures { λ r. ⌜ ((n : ℕ) → Doable queue n r) ⌝ }
+    ensures { λ r. ⌜ failsBy r ≡ not (isSame kind (queue .anchor) read) ⌝ }
 {
     let anchor = queue.anchor;
     let same = anchors::is_same(kind, anchor, read);
     if same {
         let left = anchors::after_steal(kind, anchor, read, next);
-        Deed::Ends {
+        Action::Ends {
             anchor: left,
             answer: Answer::HandedOut { worker, task },
         }
     } else {
-        Deed::Nothing
+        Action::Fails
     }
 }
 
@@ -99,25 +103,26 @@ fn past_claim(queue: Queue, store: &[u32], task: Task) -> Line
 }
 
 // X1, where `size` is the current array's: an array of twice the size behind it; where that does not fit, FULL.
-fn claim(queue: Queue, size: u32, store: &[u32], worker: u32, task: Task) -> Deed
+fn claim(queue: Queue, size: u32, store: &[u32], worker: u32, task: Task) -> Action
     requires { ⌜ (0 < queue .published) × (queue .published ≤ 11) ⌝ }
     requires { ⌜ Small queue (queue .published - 1) ⌝ }
     requires { ⌜ Free queue ⌝ }
     requires { ⌜ size ≡ sizeAt (queue .arrays) (queue .published - 1) ⌝ }
-    ensures { λ r. ⌜ enact queue (now (store .entry)) (claims queue (now (store .entry)) worker task .line) r ≡ claims queue (now (store .entry)) worker task ⌝ }
-    ensures { λ r. ⌜ InStore queue (length (now (store .entry))) r ⌝ }
+    ensures { λ r. ⌜ effectBy queue (now (store .entry)) (claims queue (now (store .entry)) worker task .line) r ≡ claims queue (now (store .entry)) worker task ⌝ }
+    ensures { λ r. ⌜ Doable queue (length (now (store .entry))) r ⌝ }
+    ensures { λ r. ⌜ failsBy r ≡ false ⌝ }
 {
     let room = slots::has_room(queue, store);
     if room {
         let here = queue.published - 1;
         let from = slots::end_of(queue, here as usize);
         let words = 2 * (2 * size);
-        Deed::Claims {
+        Action::Claims {
             offset: from,
             length: words,
         }
     } else {
-        Deed::Stops {
+        Action::Stops {
             answer: Answer::Full { worker, task },
         }
     }
@@ -241,25 +246,33 @@ pub fn next_line(kind: Kind, queue: Queue, store: &[u32], line: Line) -> Line
 }
 
 // What worker `worker` does by `line` beside coming to the next one. Most lines only read.
-pub fn decide(kind: Kind, width: u32, queue: Queue, store: &[u32], worker: u32, line: Line) -> Deed
+pub fn decide(
+    kind: Kind,
+    width: u32,
+    queue: Queue,
+    store: &[u32],
+    worker: u32,
+    line: Line,
+) -> Action
     requires { ⌜ width ≤ 16 ⌝ }
     requires { ⌜ Ground queue (length (now store)) ⌝ }
     requires { ⌜ Ready kind queue (length (now store)) line ⌝ }
-    ensures { λ r. ⌜ enact queue (now (store .entry)) (lineStep kind width queue (now (store .entry)) worker line .line) r ≡ lineStep kind width queue (now (store .entry)) worker line ⌝ }
-    ensures { λ r. ⌜ InStore queue (length (now (store .entry))) r ⌝ }
+    ensures { λ r. ⌜ effectBy queue (now (store .entry)) (lineStep kind width queue (now (store .entry)) worker line .line) r ≡ lineStep kind width queue (now (store .entry)) worker line ⌝ }
+    ensures { λ r. ⌜ Doable queue (length (now (store .entry))) r ⌝ }
+    ensures { λ r. ⌜ failsBy r ≡ failsCompare kind (queue .anchor) line ⌝ }
 {
     let anchor = queue.anchor;
     let here = queue.published - 1;
     let at = here as usize;
     match line {
-        Line::Idle => Deed::Nothing,
-        Line::PutRead { task: _ } => Deed::Nothing,
-        Line::PutTail { task: _, head: _ } => Deed::Nothing,
-        Line::PutTest { task: _, read: _ } => Deed::Nothing,
+        Line::Idle => Action::Nothing,
+        Line::PutRead { task: _ } => Action::Nothing,
+        Line::PutTail { task: _, head: _ } => Action::Nothing,
+        Line::PutTest { task: _, read: _ } => Action::Nothing,
         // put 3a; 4a
         Line::PutNumber { task, read } => {
             let place = slots::put_place(kind, queue, at, read, 0);
-            Deed::Word {
+            Action::Word {
                 place,
                 value: task.number,
             }
@@ -267,7 +280,7 @@ pub fn decide(kind: Kind, width: u32, queue: Queue, store: &[u32], worker: u32, 
         // put 3b; 4b
         Line::PutPayload { task, read } => {
             let place = slots::put_place(kind, queue, at, read, 1);
-            Deed::Word {
+            Action::Word {
                 place,
                 value: task.payload,
             }
@@ -275,7 +288,7 @@ pub fn decide(kind: Kind, width: u32, queue: Queue, store: &[u32], worker: u32, 
         // put 4; 5
         Line::PutFinish { task, read } => {
             let left = anchors::after_put(kind, width, anchor, read);
-            Deed::Ends {
+            Action::Ends {
                 anchor: left,
                 answer: Answer::Finished { worker, task },
             }
@@ -285,7 +298,7 @@ pub fn decide(kind: Kind, width: u32, queue: Queue, store: &[u32], worker: u32, 
             let size = slots::size_at(queue, at);
             claim(queue, size, store, worker, task)
         }
-        Line::Note { task: _ } => Deed::Nothing,
+        Line::Note { task: _ } => Action::Nothing,
         // X3
         Line::Copy {
             task: _,
@@ -298,39 +311,39 @@ pub fn decide(kind: Kind, width: u32, queue: Queue, store: &[u32], worker: u32, 
             let payload = slots::read_word(kind, queue, at, index, 1, store);
             let claimed = queue.published as usize;
             let place = slots::place(kind, queue, claimed, index, 0);
-            Deed::Copies {
+            Action::Copies {
                 place,
                 task: Task { number, payload },
             }
         }
         // X4
-        Line::Publish { task: _ } => Deed::Publishes,
-        Line::TakeRead => Deed::Nothing,
-        Line::TakeTail { head: _ } => Deed::Nothing,
+        Line::Publish { task: _ } => Action::Publishes,
+        Line::TakeRead => Action::Nothing,
+        Line::TakeTail { head: _ } => Action::Nothing,
         // take 2; 3
         Line::TakeTest { read } => stop_empty(kind, worker, read),
-        Line::TakeNumber { read: _ } => Deed::Nothing,
-        Line::TakePayload { read: _, number: _ } => Deed::Nothing,
+        Line::TakeNumber { read: _ } => Action::Nothing,
+        Line::TakePayload { read: _, number: _ } => Action::Nothing,
         // take 4; 5
         Line::TakeFinish { read, task } => {
             let left = anchors::after_take(kind, anchor, read);
-            Deed::Ends {
+            Action::Ends {
                 anchor: left,
                 answer: Answer::HandedOut { worker, task },
             }
         }
-        Line::StealRead => Deed::Nothing,
-        Line::StealTail { head: _ } => Deed::Nothing,
+        Line::StealRead => Action::Nothing,
+        Line::StealTail { head: _ } => Action::Nothing,
         // steal 2; 3
         Line::StealTest { read } => stop_empty(kind, worker, read),
-        Line::StealNote { read: _ } => Deed::Nothing,
-        Line::StealNumber { read: _, place: _ } => Deed::Nothing,
+        Line::StealNote { read: _ } => Action::Nothing,
+        Line::StealNumber { read: _, place: _ } => Action::Nothing,
         Line::StealPayload {
             read: _,
             place: _,
             number: _,
-        } => Deed::Nothing,
-        Line::StealNext { read: _, task: _ } => Deed::Nothing,
+        } => Action::Nothing,
+        Line::StealNext { read: _, task: _ } => Action::Nothing,
         // steal 5, in figure 3 steal 6; 6
         Line::StealCompare { read, next, task } => compare(kind, queue, worker, read, next, task),
     }

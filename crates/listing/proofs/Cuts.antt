@@ -16,16 +16,16 @@ use Rattle.model.specs.Listing.{Program, ended, respond, listingFrom}
 use Rattle.text.specs.Words.{lines, head, tail}
 use Rattle.text.specs.Commands.{commandOf}
 use Rattle.text.proofs.Long.{line-long}
-use Rattle.listing.specs.declared.Fed.{Fed}
 use Rattle.replies.specs.Shown.{shownAll}
-use Rattle.listing.specs.Listing.{listingOf, front, Open}
-use Rattle.replies.specs.Sessions.{programOf, leftBy}
-use Rattle.listing.specs.Feeding.{FedBy, CarriedBy}
+use Rattle.listing.specs.Listing.{listingOf, untilNewline, Open}
+use Rattle.replies.specs.Sessions.{leftBy}
+use Rattle.listing.specs.Consuming.{CarriedBy}
+use Rattle.listing.specs.Streams.{Stream, reads, consumes, stops, carries, closes, over, whole}
 use Rattle.text.proofs.Lists.{done}
 use Rattle.listing.proofs.Lines.{decide, front-newline, front-more, open-line, open-take}
 use Rattle.replies.proofs.Shows.{show-none}
 use Rattle.replies.proofs.Fronts.{lent-front}
-use Rattle.listing.proofs.Feeding.{listing-one, heard-line}
+use Rattle.listing.proofs.Consuming.{listing-one, shows-line}
 use Rattle.replies.proofs.Replies.{left-on}
 
 pub listing-none : (P : Program) → listingOf P [] ≡ []
@@ -84,7 +84,7 @@ cut P (b ∷ s) z h = go (ltb 60 (length (b ∷ s))) refl
         ∙ sym (ap (λ (ls : List (List ℕ)). shownAll (listingFrom P (map commandOf ls))) (open-line b (take 60 s) z (open-take 61 (b ∷ s) h))))
 
 -- a line that has begun, with a newline behind it
-front-closed : (s : List ℕ) → Open s → front (s ++ 10 ∷ []) ≡ s
+front-closed : (s : List ℕ) → Open s → untilNewline (s ++ 10 ∷ []) ≡ s
 front-closed [] h = front-newline 10 [] refl
 front-closed (b ∷ s) h = decide b
     (λ e. absurd (let z : ⊥ = omega (arith, ap length (front-newline b s e)) in z))
@@ -94,14 +94,14 @@ front-closed (b ∷ s) h = decide b
 pub closed : (P : Program) (buf : List ℕ) → (length buf ≡ 0 → ⊥) → Open buf → listingOf P buf ≡ listingOf P (buf ++ 10 ∷ [])
 closed P buf n h = listing-last P buf n h ∙ sym (ap (listingOf P) (sym (append-nil _)) ∙ one)
   where
-    whole-line : length (front (buf ++ 10 ∷ [])) < length (buf ++ 10 ∷ [])
+    whole-line : length (untilNewline (buf ++ 10 ∷ [])) < length (buf ++ 10 ∷ [])
     whole-line = rw (front-closed buf h, length-append buf (10 ∷ [])) (omega arith)
 
-    none : drop (length (front (buf ++ 10 ∷ [])) + 1) (buf ++ 10 ∷ []) ≡ []
-    none = done (buf ++ 10 ∷ []) (length (front (buf ++ 10 ∷ [])) + 1) (rw (front-closed buf h, length-append buf (10 ∷ [])) (omega arith))
+    none : drop (length (untilNewline (buf ++ 10 ∷ [])) + 1) (buf ++ 10 ∷ []) ≡ []
+    none = done (buf ++ 10 ∷ []) (length (untilNewline (buf ++ 10 ∷ [])) + 1) (rw (front-closed buf h, length-append buf (10 ∷ [])) (omega arith))
 
     one : listingOf P ((buf ++ 10 ∷ []) ++ []) ≡ shownAll (respond P (commandOf buf) .output)
-    one = heard-line P (buf ++ 10 ∷ []) [] P (buf ++ 10 ∷ []) (λ z. refl) whole-line []
+    one = shows-line P (buf ++ 10 ∷ []) [] P (buf ++ 10 ∷ []) (λ z. refl) whole-line []
         ∙ ap (λ (l : List ℕ). shownAll (respond P (commandOf l) .output) ++ listingOf (respond P (commandOf l) .program) (drop (length l + 1) (buf ++ 10 ∷ []) ++ [])) (front-closed buf h)
         ∙ ap (λ (l : List ℕ). shownAll (respond P (commandOf buf) .output) ++ listingOf (respond P (commandOf buf) .program) (l ++ [])) (ap (λ (l : List ℕ). drop (length l + 1) (buf ++ 10 ∷ [])) (sym (front-closed buf h)) ∙ none)
         ∙ ap (λ (l : List ℕ). shownAll (respond P (commandOf buf) .output) ++ l) (listing-none _) ∙ append-nil _
@@ -145,29 +145,14 @@ carried buf from n to r after e f g = record { count = sym (ap length (sym same)
     long : length (take r (drop from buf)) ≡ r
     long = length-take r (drop from buf) ∙ (let z : min r (length (drop from buf)) ≡ r = omega (arith, length-drop from buf, e, f) in z)
 
--- What a program does with an input that comes in chunks: it reads one behind what it has, feeds what it has, drops what it need not keep, until
--- an `end` is accepted or the input is over; a last line without a newline gets one. P is where it stands, buf what it has, the chunks are still to come; the last argument is what it
--- writes.
-pub data Stream : Program → List ℕ → List (List ℕ) → List ℕ → Type 0 where
-  reads : {P : Program} {buf c text : List ℕ} {cs : List (List ℕ)} → Stream P (buf ++ c) cs text → Stream P buf (c ∷ cs) text
-  feeds : {P : Program} {buf text : List ℕ} {cs : List (List ℕ)} (f : Fed) (m l out : List ℕ) → FedBy P buf f m l out → f .stops ≡ false → Stream (programOf (f .session) m l) (drop (f .used) buf) cs text → Stream P buf cs (take (f .wrote) out ++ text)
-  stops : {P : Program} {buf : List ℕ} {cs : List (List ℕ)} (f : Fed) (m l out : List ℕ) → FedBy P buf f m l out → f .stops ≡ true → Stream P buf cs (take (f .wrote) out)
-  carries : {P : Program} {buf text : List ℕ} {cs : List (List ℕ)} → Open buf → Stream P (take 61 buf) cs text → Stream P buf cs text
-  closes : {P : Program} {buf text : List ℕ} → (length buf ≡ 0 → ⊥) → Open buf → Stream P (buf ++ 10 ∷ []) [] text → Stream P buf [] text
-  over : {P : Program} → Stream P [] [] []
-
-unfoldable pub whole : List (List ℕ) → List ℕ
-whole [] = []
-whole (c ∷ cs) = c ++ whole cs
-
 -- Whatever the chunks are, what is written is the listing of the whole input.
 pub any-cut : {P : Program} {buf text : List ℕ} {cs : List (List ℕ)} → Stream P buf cs text → listingOf P (buf ++ whole cs) ≡ text
 unfolding whole if_then_else_
 any-cut {P} {buf} (reads {c = c} {cs = cs} s) = ap (listingOf P) (sym (append-assoc buf c (whole cs))) ∙ any-cut s
-any-cut (feeds {buf = buf} {cs = cs} f m l out by e s) =
-    by .heard (whole cs) ∙ ap (λ (Q : Program). take (f .wrote) out ++ listingOf Q (drop (f .used) buf ++ whole cs)) (left-on (f .stops) (f .session) m l e) ∙ ap (λ (t : List ℕ). take (f .wrote) out ++ t) (any-cut s)
+any-cut (consumes {buf = buf} {cs = cs} f m l out by e s) =
+    by .shows (whole cs) ∙ ap (λ (Q : Program). take (f .wrote) out ++ listingOf Q (drop (f .used) buf ++ whole cs)) (left-on (f .stops) (f .session) m l e) ∙ ap (λ (t : List ℕ). take (f .wrote) out ++ t) (any-cut s)
 any-cut (stops {buf = buf} {cs = cs} f m l out by e) =
-    by .heard (whole cs) ∙ ap (λ (b : Bool). take (f .wrote) out ++ listingOf (leftBy b (f .session) m l) (drop (f .used) buf ++ whole cs)) e
+    by .shows (whole cs) ∙ ap (λ (b : Bool). take (f .wrote) out ++ listingOf (leftBy b (f .session) m l) (drop (f .used) buf ++ whole cs)) e
     ∙ ap (λ (t : List ℕ). take (f .wrote) out ++ t) (listing-ended (drop (f .used) buf ++ whole cs)) ∙ append-nil _
 any-cut (carries {P = P} {buf = buf} {cs = cs} o s) = cut P buf (whole cs) o ∙ any-cut s
 any-cut (closes {P = P} {buf = buf} n o s) = ap (listingOf P) (append-nil buf) ∙ closed P buf n o ∙ ap (listingOf P) (sym (append-nil (buf ++ 10 ∷ []))) ∙ any-cut s

@@ -10,7 +10,7 @@ use lib.Dec.{eqb}
 use borrow.Author.Tests.{eq-eqb, ne-eqb, eqb-true, eqb-false}
 use Rattle.model.specs.Tests.{if_then_else_}
 use Rattle.text.specs.Words.{onto, lines, head, tail}
-use Rattle.listing.specs.Listing.{front, Open}
+use Rattle.listing.specs.Listing.{untilNewline, Open}
 
 pub decide : (b : ℕ) {C : Type 0} → (b ≡ 10 → C) → ((b ≡ 10 → ⊥) → C) → C
 decide b {C} f g = go (eqb b 10) refl
@@ -19,16 +19,16 @@ decide b {C} f g = go (eqb b 10) refl
     go true e = f (eqb-true b 10 e)
     go false e = g (eqb-false b 10 e)
 
-pub front-none : front [] ≡ []
-unfolding front
+pub front-none : untilNewline [] ≡ []
+unfolding untilNewline
 front-none = refl
 
-pub front-newline : (b : ℕ) (s : List ℕ) → b ≡ 10 → front (b ∷ s) ≡ []
-unfolding front if_then_else_
+pub front-newline : (b : ℕ) (s : List ℕ) → b ≡ 10 → untilNewline (b ∷ s) ≡ []
+unfolding untilNewline if_then_else_
 front-newline b s e = rw (eq-eqb b 10 e)
 
-pub front-more : (b : ℕ) (s : List ℕ) → (b ≡ 10 → ⊥) → front (b ∷ s) ≡ b ∷ front s
-unfolding front if_then_else_
+pub front-more : (b : ℕ) (s : List ℕ) → (b ≡ 10 → ⊥) → untilNewline (b ∷ s) ≡ b ∷ untilNewline s
+unfolding untilNewline if_then_else_
 front-more b s h = rw (ne-eqb b 10 h)
 
 lines-newline : (b : ℕ) (s : List ℕ) → b ≡ 10 → lines (b ∷ s) ≡ [] ∷ lines s
@@ -39,27 +39,27 @@ lines-more : (b : ℕ) (s : List ℕ) → (b ≡ 10 → ⊥) → lines (b ∷ s)
 unfolding lines if_then_else_
 lines-more b s h = rw (ne-eqb b 10 h)
 
-pub front-take : (s : List ℕ) → take (length (front s)) s ≡ front s
+pub front-take : (s : List ℕ) → take (length (untilNewline s)) s ≡ untilNewline s
 front-take [] = rw front-none
 front-take (b ∷ s) = decide b
     (λ e. rw (front-newline b s e))
     (λ h. rw (front-more b s h) (ap (λ (l : List ℕ). b ∷ l) (front-take s)))
 
-pub front-fits : (s : List ℕ) → length (front s) ≤ length s
+pub front-fits : (s : List ℕ) → length (untilNewline s) ≤ length s
 front-fits [] = rw front-none (omega arith)
 front-fits (b ∷ s) = decide b
     (λ e. rw (front-newline b s e) (omega arith))
     (λ h. rw (front-more b s h) (let k = front-fits s in omega arith))
 
 -- a line that ends in a newline, whatever comes after
-pub first-line : (s z : List ℕ) → length (front s) < length s → lines (s ++ z) ≡ front s ∷ lines (drop (length (front s) + 1) s ++ z)
+pub first-line : (s z : List ℕ) → length (untilNewline s) < length s → lines (s ++ z) ≡ untilNewline s ∷ lines (drop (length (untilNewline s) + 1) s ++ z)
 first-line [] z = λ h. absurd (let k : ⊥ = omega arith in k)
 first-line (b ∷ s) z = decide b
     (λ e h. rw (front-newline b s e) (lines-newline b (s ++ z) e))
     (λ n h. rw (front-more b s n, add-one)
-    (lines-more b (s ++ z) n ∙ step b s z (first-line s z (let k : length (front s) < length s = omega (arith, ap length (front-more b s n)) in k))))
+    (lines-more b (s ++ z) n ∙ step b s z (first-line s z (let k : length (untilNewline s) < length s = omega (arith, ap length (front-more b s n)) in k))))
   where
-    step : (x : ℕ) (t y : List ℕ) → lines (t ++ y) ≡ front t ∷ lines (drop (length (front t) + 1) t ++ y) → onto x (lines (t ++ y)) ≡ (x ∷ front t) ∷ lines (drop (suc (length (front t))) t ++ y)
+    step : (x : ℕ) (t y : List ℕ) → lines (t ++ y) ≡ untilNewline t ∷ lines (drop (length (untilNewline t) + 1) t ++ y) → onto x (lines (t ++ y)) ≡ (x ∷ untilNewline t) ∷ lines (drop (suc (length (untilNewline t))) t ++ y)
     step x t y e = unfold onto in rw (e, add-one)
 
 onto-split : (b : ℕ) (ps : List (List ℕ)) → onto b ps ≡ (b ∷ head ps) ∷ tail ps

@@ -11,10 +11,10 @@ use Rattle.model.specs.declared.Answer.the-variants.{Accepted}
 use Rattle.model.specs.Tests.{if_then_else_}
 use Rattle.model.specs.World.{World, Outcome}
 use Rattle.model.specs.Calls.{freshOf, begin, step, stepOf}
-use Rattle.model.specs.Listing.{Program, waiting, playing, ended, Reply, isRefused, opened, respond, stepsOf}
+use Rattle.model.specs.Listing.{Program, waiting, playing, ended, Response, isRefused, opened, respond, stepsOf}
 use Rattle.theorems.specs.Reached.{Reached}
 use Rattle.theorems.proofs.Reached.{reached-fresh, reached-call}
-use Rattle.listing.specs.Feeding.{Reachable}
+use Rattle.listing.specs.Consuming.{Reachable}
 use Rattle.replies.proofs.Ways.{either, never}
 
 -- a fresh that is not refused is accepted
@@ -40,7 +40,7 @@ unfolding stepsOf
 steps-reach zero W i r = r
 steps-reach (suc m) W i r =
     let next : Reached (stepOf W i .world) = reached-call r (step i) in
-    either (λ (x : Reply). Reachable (x .program)) (isRefused (stepOf W i .answer)) _ _ next (steps-reach m (stepOf W i .world) i next)
+    either (λ (x : Response). Reachable (x .program)) (isRefused (stepOf W i .answer)) _ _ next (steps-reach m (stepOf W i .world) i next)
 
 pub respond-reach : (P : Program) (c : Command) → Reachable P → Reachable (respond P c .program)
 unfolding respond

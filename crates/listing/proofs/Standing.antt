@@ -1,12 +1,11 @@
--- Where feeding stands between two lines, and what each way to play a line makes of it.
+-- Where consuming stands between two lines, and what each way to play a line makes of it.
 use Prim.Native.Nat.{ℕ, _+_, _-_, _≤_, min}
 use native.Mathlib.Omega.{arith}
 use mathlib.Core.Path.{_≡_, refl, ap, sym, subst, _∙_}
 use mathlib.Core.Bool.{Bool, true, false}
-use mathlib.Core.List.{List}
+use mathlib.Core.List.{List, _++_}
 use lib.ListN.{length, take, drop}
 use Rattle.model.specs.declared.Line.{Line}
-use Rattle.model.specs.declared.Queue.{Queue}
 use Rattle.model.specs.declared.Bench.{Bench}
 use Rattle.model.specs.declared.Refusal.{Refusal}
 use Rattle.model.specs.declared.Command.{Command}
@@ -14,36 +13,35 @@ use Rattle.model.specs.declared.Command.the-variants.{Open, BeginPut, BeginTake
 use Rattle.model.specs.declared.Answer.{Answer}
 use Rattle.model.specs.declared.Answer.the-variants.{Refused}
 use Rattle.model.specs.Tests.{if_then_else_}
-use Rattle.model.specs.World.{World, Outcome, lineAt}
-use Rattle.model.specs.Lines.{lineStep}
+use Rattle.model.specs.World.{World, Outcome}
 use Rattle.model.specs.Limits.{validOf}
-use Rattle.model.specs.Calls.{lent, step, commit, nextEffect, stepOf}
-use Rattle.model.specs.Listing.{Program, playing, printed, respond, stepsOf, Reply}
+use Rattle.model.specs.Calls.{lent, step, stepIn, stepOf}
+use Rattle.model.specs.Listing.{Program, playing, printed, respond, stepsOf, Response}
 use Rattle.theorems.specs.Reached.{Reached}
 use Rattle.theorems.proofs.Reached.{reached-call, reached-valid}
 use Rattle.state.specs.declared.Stop.the-variants.{Why}
-use Rattle.lines.specs.declared.Deed.{Deed}
-use Rattle.lines.specs.Deeds.{enact, InStore}
-use Rattle.machine.proofs.Commits as commits
+use Rattle.model.proofs.Tests.{if-true}
+use Rattle.machine.specs.declared.Made.{Made}
+use Rattle.machine.specs.Steps.{movedBy}
 use Rattle.limits.proofs.Bounds.{bounds-of}
 use Rattle.text.specs.Numbers.{Placed}
 use Rattle.text.specs.Commands.{commandOf}
 use Rattle.replies.specs.declared.Session.{Session}
 use Rattle.replies.specs.declared.Asked.the-variants.{Step}
-use Rattle.replies.specs.declared.Played.{Played}
+use Rattle.replies.specs.declared.Answered.{Answered}
 use Rattle.replies.specs.Shown.{shownAll}
-use Rattle.listing.specs.Listing.{front}
+use Rattle.listing.specs.Listing.{untilNewline}
 use Rattle.listing.specs.Listing as spec
-use Rattle.replies.specs.Sessions.{worldOf, programOf, leftBy, PlayedBy}
+use Rattle.replies.specs.Sessions.{worldOf, programOf, leftBy, AnsweredBy}
 use Rattle.replies.specs.Choices.{askedOf, RefusedAtOnce}
-use Rattle.listing.specs.Feeding.{Reachable, FedBy}
-use Rattle.replies.proofs.Fronts.{lent-front}
+use Rattle.listing.specs.Consuming.{Reachable, ConsumedBy}
+use Rattle.replies.proofs.Fronts.{lent-front, given-back}
 use Rattle.replies.proofs.Shows.{answer-most}
 use Rattle.replies.proofs.Replies.{played, program-live, left-on, played-as}
-use Rattle.listing.proofs.Feeding.{Heard, Onward, line-on, heard-next, fed-on, fed-over}
+use Rattle.listing.proofs.Consuming.{Yields, Onward, line-on, shows-next, consumed-on, consumed-over}
 use Rattle.listing.proofs.Reaching.{respond-reach}
 
--- what `feed` keeps of a session in place
+-- what `consume` keeps of a session in place
 abbrev pub sessionOf : Bool → ℕ → Bench → Session
 sessionOf v w b = record { live = v; words = w; bench = b }
 
@@ -51,22 +49,22 @@ sessionOf v w b = record { live = v; words = w; bench = b }
 pub record Standing (P : Program) (buf : List ℕ) (s : Session) (m l out : List ℕ) (used wrote : ℕ) : Type 0 where
   pub within : used ≤ length buf
   pub fits : wrote ≤ length out
-  pub heard : Heard P buf (take wrote out) (programOf s m l) (drop used buf)
+  pub shows : Yields P buf (take wrote out) (programOf s m l) (drop used buf)
   pub reach : Reachable (programOf s m l)
 
 pub standing-start : (s : Session) (buf m l out : List ℕ) → Reachable (programOf s m l) → Standing (programOf s m l) buf s m l out 0 0
-standing-start s buf m l out r = record { within = omega arith; fits = omega arith; heard = λ z. refl; reach = r }
+standing-start s buf m l out r = record { within = omega arith; fits = omega arith; shows = λ z. refl; reach = r }
 
 pub reach-over : (s : Session) (m l : List ℕ) → Reachable (leftBy true s m l)
 unfolding if_then_else_
 reach-over s m l = tt
 
 -- a line was played, and did not end the program, or did
-module _ (P : Program) (buf : List ℕ) (s : Session) (m l out : List ℕ) (used wrote end : ℕ) (c : Command) (p : Played) (m′ l′ out′ : List ℕ)
-    (h : Standing P buf s m l out used wrote) (e : end ≡ used + length (front (drop used buf))) (n : end ≡ length buf → ⊥) (room : wrote + 72 ≤ length out)
-    (says : c ≡ commandOf (take (end - used) (drop used buf))) (by : PlayedBy (respond (programOf s m l) c) p m′ l′ out wrote out′) where
+module _ (P : Program) (buf : List ℕ) (s : Session) (m l out : List ℕ) (used wrote end : ℕ) (c : Command) (p : Answered) (m′ l′ out′ : List ℕ)
+    (h : Standing P buf s m l out used wrote) (e : end ≡ used + length (untilNewline (drop used buf))) (n : end ≡ length buf → ⊥) (room : wrote + 72 ≤ length out)
+    (says : c ≡ commandOf (take (end - used) (drop used buf))) (by : AnsweredBy (respond (programOf s m l) c) p m′ l′ out wrote out′) where
   on : Onward P buf (end + 1) p m′ l′ out′
-  on = line-on P buf out (programOf s m l) used wrote end c p m′ l′ out′ (h .heard) (h .within) e n room says by
+  on = line-on P buf out (programOf s m l) used wrote end c p m′ l′ out′ (h .shows) (h .within) e n room says by
 
   reaches : Reachable (leftBy (p .stops) (p .session) m′ l′)
   reaches = subst Reachable (sym (by .program)) (respond-reach (programOf s m l) c (h .reach))
@@ -75,20 +73,20 @@ module _ (P : Program) (buf : List ℕ) (s : Session) (m l out : List ℕ) (used
   standing-on q = record {
     within = on .within;
     fits = on .fits;
-    heard = heard-next P buf (take (p .end) out′) (p .session) m′ l′ (drop (end + 1) buf) (p .stops) q (on .heard);
+    shows = shows-next P buf (take (p .end) out′) (p .session) m′ l′ (drop (end + 1) buf) (p .stops) q (on .shows);
     reach = subst Reachable (left-on (p .stops) (p .session) m′ l′ q) reaches;
   }
 
-  pub standing-over : p .stops ≡ true → FedBy P buf (record { session = p .session; used = end + 1; wrote = p .end; stops = true }) m′ l′ out′
-  standing-over q = fed-over P buf (p .session) m′ l′ out′ (end + 1) (p .end) (on .within) (on .fits) (p .stops) q (on .heard)
+  pub standing-over : p .stops ≡ true → ConsumedBy P buf (record { session = p .session; used = end + 1; wrote = p .end; stops = true }) m′ l′ out′
+  standing-over q = consumed-over P buf (p .session) m′ l′ out′ (end + 1) (p .end) (on .within) (on .fits) (p .stops) q (on .shows)
 
 -- a line refused at once
 pub at-once-by : (s : Session) (m l : List ℕ) (c : Command) (r : Refusal) (before : List ℕ) (at e : ℕ) (after : List ℕ) → RefusedAtOnce (s .live) (worldOf s m l) c (Why r) → Placed before at (shownAll (printed (Refused r))) e after →
-    PlayedBy (respond (programOf s m l) c) (played s e) m l before at after
+    AnsweredBy (respond (programOf s m l) c) (played s e) m l before at after
 at-once-by s m l c r before at e after (v, q) t =
     let known : respond (programOf s m l) c ≡ record { program = playing (worldOf s m l); output = printed (Refused r) } = ap (λ (P : Program). respond P c) (program-live s m l v) ∙ q in record {
-      program = left-on false s m l refl ∙ program-live s m l v ∙ ap (λ (x : Reply). x .program) (sym known);
-      text = subst (λ (x : Reply). Placed before at (shownAll (x .output)) e after) (sym known) t;
+      program = left-on false s m l refl ∙ program-live s m l v ∙ ap (λ (x : Response). x .program) (sym known);
+      text = subst (λ (x : Response). Placed before at (shownAll (x .output)) e after) (sym known) t;
     }
 
 -- a refusal's text fits where a line's does
@@ -110,8 +108,8 @@ asked-steps v Bad i n e = absurd (let z : _≡_ {A = ℕ} 0 1 = cc in let y : �
 pub asked-live : (v : Bool) (c : Command) (i n : ℕ) → askedOf v c ≡ Step i n → v ≡ true
 asked-live v c i n e = asked-steps v c i n e .0
 
-pub steps-by : (s : Session) (m l : List ℕ) (c : Command) (i n : ℕ) (p : Played) (m′ l′ before : List ℕ) (at : ℕ) (after : List ℕ) → askedOf (s .live) c ≡ Step i n →
-    PlayedBy (stepsOf (worldOf s m l) i n) p m′ l′ before at after → PlayedBy (respond (programOf s m l) c) p m′ l′ before at after
+pub steps-by : (s : Session) (m l : List ℕ) (c : Command) (i n : ℕ) (p : Answered) (m′ l′ before : List ℕ) (at : ℕ) (after : List ℕ) → askedOf (s .live) c ≡ Step i n →
+    AnsweredBy (stepsOf (worldOf s m l) i n) p m′ l′ before at after → AnsweredBy (respond (programOf s m l) c) p m′ l′ before at after
 unfolding respond
 steps-by s m l c i n p m′ l′ before at after e by =
     let a = asked-steps (s .live) c i n e in
@@ -131,28 +129,20 @@ crew-of s m l r v = bounds-of (worldOf s m l) (valid-of s m l r v) .crew
 pub valid-front : (b : Bench) (w n : ℕ) (m l : List ℕ) → n ≡ min w (length m) → Reached (lent b (take w m) l) → validOf (lent b (take n m) l) ≡ true
 valid-front b w n m l e r = subst (λ (x : List ℕ). validOf (lent b x l) ≡ true) (sym (lent-front w n m e)) (reached-valid r)
 
--- a step on the words that were lent: worker i, at the line y, comes to the line x by the deed d
-pub made-front : (b : Bench) (w n : ℕ) (m l : List ℕ) (i : ℕ) (x y : Line) (d : Deed) → n ≡ min w (length m) → y ≡ lineAt (b .workers) i
-    → ((v j : ℕ) → x ≡ lineStep (b .kind) v (b .queue) (take n m) j y .line)
-    → enact (b .queue) (take n m) (lineStep (b .kind) (b .width) (b .queue) (take n m) i y .line) d ≡ lineStep (b .kind) (b .width) (b .queue) (take n m) i y
-    → stepOf (lent b (take w m) l) i ≡ commit (lent b (take w m) l) i (nextEffect (lent b (take w m) l) i)
-    → stepOf (lent b (take w m) l) i ≡ commit (lent b (take w m) l) i (enact (b .queue) (take w m) x d)
-made-front b w n m l i x y d e f g h o =
-    let s = lent-front w n m e in
-    commits.steps-by (lent b (take w m) l) i x y d f
-    (subst (λ (z : List ℕ). (v j : ℕ) → x ≡ lineStep (b .kind) v (b .queue) z j y .line) s g)
-    (subst (λ (z : List ℕ). enact (b .queue) z (lineStep (b .kind) (b .width) (b .queue) z i y .line) d ≡ lineStep (b .kind) (b .width) (b .queue) z i y) s h)
-    o
+-- a step on the words that were lent, p as it leaves them
+pub stepped-front : (b : Bench) (w n : ℕ) (m l p l′ : List ℕ) (i k : ℕ) (x : Line) (d : Made) → n ≡ min w (length m) → length p ≡ length (take n m)
+    → Reached (lent b (take w m) l) → movedBy b k x d p l′ ≡ stepIn (lent b (take n m) l) i
+    → movedBy b k x d (take w (p ++ drop n m)) l′ ≡ stepOf (lent b (take w m) l) i
+unfolding stepOf
+stepped-front b w n m l p l′ i k x d e f r o =
+    ap (λ (y : List ℕ). movedBy b k x d y l′) (given-back w n m e p f) ∙ o ∙ ap (λ (y : List ℕ). stepIn (lent b y l) i) (lent-front w n m e)
+    ∙ sym (if-true _ (reached-valid r))
 
--- and its deed can be done there
-pub in-front : (q : Queue) (w n : ℕ) (m : List ℕ) (d : Deed) → n ≡ min w (length m) → InStore q (length (take n m)) d → InStore q (length (take w m)) d
-in-front q w n m d e h = subst (λ (z : List ℕ). InStore q (length z) d) (lent-front w n m e) h
-
--- feeding stops between two lines, the program not being over
-pub fed-so-far : {P : Program} {buf m l out : List ℕ} {s : Session} {used wrote : ℕ} {b : Bool} → Standing P buf s m l out used wrote → b ≡ false → (wrote + 72 ≤ length out → spec.Open (drop used buf)) →
-    FedBy P buf (record { session = s; used = used; wrote = wrote; stops = b }) m l out × Reachable (leftBy b s m l)
-fed-so-far {P} {buf} {m} {l} {out} {s} {used} {wrote} h e rest = (
-  subst (λ (x : Bool). FedBy P buf (record { session = s; used = used; wrote = wrote; stops = x }) m l out) (sym e) (fed-on P buf s m l out used wrote (h .within) (h .fits) (h .heard) rest),
+-- consuming stops between two lines, the program not being over
+pub consumed-so-far : {P : Program} {buf m l out : List ℕ} {s : Session} {used wrote : ℕ} {b : Bool} → Standing P buf s m l out used wrote → b ≡ false → (wrote + 72 ≤ length out → spec.Open (drop used buf)) →
+    ConsumedBy P buf (record { session = s; used = used; wrote = wrote; stops = b }) m l out × Reachable (leftBy b s m l)
+consumed-so-far {P} {buf} {m} {l} {out} {s} {used} {wrote} h e rest = (
+  subst (λ (x : Bool). ConsumedBy P buf (record { session = s; used = used; wrote = wrote; stops = x }) m l out) (sym e) (consumed-on P buf s m l out used wrote (h .within) (h .fits) (h .shows) rest),
   subst Reachable (sym (left-on _ s m l e)) (h .reach),
 )
 

@@ -8,22 +8,22 @@ use lib.ListN.{length, length-append}
 use Rattle.model.specs.declared.Answer.{Answer}
 use Rattle.model.specs.World.{World, Outcome}
 use Rattle.model.specs.Calls.{stepOf}
-use Rattle.model.specs.Listing.{playing, Reply, printed, isRefused, stepsOf}
+use Rattle.model.specs.Listing.{playing, Response, printed, isRefused, stepsOf}
 use Rattle.text.specs.Numbers.{Placed}
 use Rattle.text.proofs.Spell.{placed-more, placed-length}
 use Rattle.replies.specs.declared.Session.{Session}
 use Rattle.replies.specs.Shown.{shownAll}
-use Rattle.replies.specs.Sessions.{worldOf, PlayedBy}
+use Rattle.replies.specs.Sessions.{worldOf, AnsweredBy}
 use Rattle.replies.proofs.Shows.{show-none, show-append}
 use Rattle.listing.proofs.TwoLines.{steps-refused, steps-made, steps-most}
 use Rattle.replies.proofs.Replies.{played, program-live, left-on}
 
 -- what is left to do after some of the steps, from where the session stands
-abbrev toDo : Session → List ℕ → List ℕ → ℕ → ℕ → Reply
+abbrev toDo : Session → List ℕ → List ℕ → ℕ → ℕ → Response
 toDo s m l i left = stepsOf (worldOf s m l) i left
 
--- R is the line's whole reply: `text` of it stands in the output, and the steps left do the rest
-pub record Stepping (R : Reply) (s : Session) (m l : List ℕ) (i left : ℕ) (before : List ℕ) (at end : ℕ) (out : List ℕ) : Type 0 where
+-- R is the line's whole response: `text` of it stands in the output, and the steps left do the rest
+pub record Stepping (R : Response) (s : Session) (m l : List ℕ) (i left : ℕ) (before : List ℕ) (at end : ℕ) (out : List ℕ) : Type 0 where
   pub text : List ℕ
   pub placed : Placed before at text end out
   pub rest : shownAll (R .output) ≡ text ++ shownAll (toDo s m l i left .output)
@@ -70,13 +70,13 @@ module _ (W : World) (times : ℕ) (s : Session) (m l : List ℕ) (i left : ℕ)
       omega (arith, steps-most times W i, σ .placed .ends, placed-length before at (σ .text) end out (σ .placed), fits, whole)
 
   -- no step is left
-  pub stepping-over : left ≡ 0 → PlayedBy (stepsOf W i times) (played s end) m l before at out
+  pub stepping-over : left ≡ 0 → AnsweredBy (stepsOf W i times) (played s end) m l before at out
   stepping-over e =
       let none : toDo s m l i left ≡ record { program = playing (worldOf s m l); output = [] } = steps-none (worldOf s m l) i left e in record {
-        program = left-on false s m l refl ∙ program-live s m l (σ .live) ∙ sym (σ .program ∙ ap (λ (r : Reply). r .program) none);
+        program = left-on false s m l refl ∙ program-live s m l (σ .live) ∙ sym (σ .program ∙ ap (λ (r : Response). r .program) none);
         text =
             subst (λ (t : List ℕ). Placed before at t end out)
-            (sym (σ .rest ∙ ap (λ (r : Reply). σ .text ++ shownAll (r .output)) none ∙ ap (λ (t : List ℕ). σ .text ++ t) show-none ∙ append-nil (σ .text)))
+            (sym (σ .rest ∙ ap (λ (r : Response). σ .text ++ shownAll (r .output)) none ∙ ap (λ (t : List ℕ). σ .text ++ t) show-none ∙ append-nil (σ .text)))
             (σ .placed);
       }
 
@@ -91,16 +91,16 @@ module _ (W : World) (times : ℕ) (s : Session) (m l : List ℕ) (i left : ℕ)
     behind = placed-more before at (σ .text) end out (shownAll (printed a)) end′ out′ (σ .placed) shows
 
     -- the step was refused: the line ends here
-    pub stepping-stops : isRefused a ≡ true → PlayedBy (stepsOf W i times) (played t end′) m′ l′ before at out′
+    pub stepping-stops : isRefused a ≡ true → AnsweredBy (stepsOf W i times) (played t end′) m′ l′ before at out′
     stepping-stops e =
         let now : toDo s m l i left ≡ record { program = playing (stepOf (worldOf s m l) i .world); output = printed (stepOf (worldOf s m l) i .answer) } =
         refused-now (worldOf s m l) i left h (ap isRefused answered ∙ e) in record {
           program =
               left-on false t m′ l′ refl ∙ program-live t m′ l′ (lives)
-              ∙ sym (σ .program ∙ ap (λ (x : Reply). x .program) now ∙ ap playing left-at);
+              ∙ sym (σ .program ∙ ap (λ (x : Response). x .program) now ∙ ap playing left-at);
           text =
               subst (λ (t : List ℕ). Placed before at t end′ out′)
-              (sym (σ .rest ∙ ap (λ (x : Reply). σ .text ++ shownAll (x .output)) now ∙ ap (λ (y : Answer). σ .text ++ shownAll (printed y)) answered)) behind;
+              (sym (σ .rest ∙ ap (λ (x : Response). σ .text ++ shownAll (x .output)) now ∙ ap (λ (y : Answer). σ .text ++ shownAll (printed y)) answered)) behind;
         }
 
     -- the step was made: one fewer is left
@@ -111,11 +111,11 @@ module _ (W : World) (times : ℕ) (s : Session) (m l : List ℕ) (i left : ℕ)
           text = σ .text ++ shownAll (printed a);
           placed = behind;
           rest =
-              σ .rest ∙ ap (λ (x : Reply). σ .text ++ shownAll (x .output)) now
+              σ .rest ∙ ap (λ (x : Response). σ .text ++ shownAll (x .output)) now
               ∙ ap (λ (t : List ℕ). σ .text ++ t) (show-append (printed (stepOf (worldOf s m l) i .answer)) (stepsOf (stepOf (worldOf s m l) i .world) i (left - 1) .output))
               ∙ sym (append-assoc (σ .text) _ _)
               ∙ ap (λ (a : Answer). (σ .text ++ shownAll (printed a)) ++ shownAll (stepsOf (stepOf (worldOf s m l) i .world) i (left - 1) .output)) answered
               ∙ ap (λ (X : World). (σ .text ++ shownAll (printed a)) ++ shownAll (stepsOf X i (left - 1) .output)) left-at;
-          program = σ .program ∙ ap (λ (x : Reply). x .program) now ∙ ap (λ (X : World). stepsOf X i (left - 1) .program) left-at;
+          program = σ .program ∙ ap (λ (x : Response). x .program) now ∙ ap (λ (X : World). stepsOf X i (left - 1) .program) left-at;
           live = lives;
         }

@@ -23,7 +23,7 @@ use Rattle.model.specs.Figures.{isEmpty, isSame}
 use Rattle.model.specs.World.{World, Outcome, lineAt, isIdle, resting, refuse}
 use Rattle.model.specs.Limits.{validOf}
 use Rattle.model.specs.Calls.{stepOf, stepped, commit, noRoom, nextEffect}
-use Rattle.model.specs.Listing.{Print, printed, isRefused, reply, told, stepsOf}
+use Rattle.model.specs.Listing.{Print, printed, isRefused, response, showing, stepsOf}
 use Rattle.replies.specs.Shown.{shownAll}
 use Rattle.replies.proofs.Ways.{either, never}
 use Rattle.replies.proofs.Shows.{answer-lines, answer-most, show-none, show-append}
@@ -117,12 +117,12 @@ idle-refused W i e =
     refl)
     refl
 
-pub steps-refused : (W : World) (i m : ℕ) → isRefused (stepOf W i .answer) ≡ true → stepsOf W i (suc m) ≡ told (stepOf W i)
+pub steps-refused : (W : World) (i m : ℕ) → isRefused (stepOf W i .answer) ≡ true → stepsOf W i (suc m) ≡ showing (stepOf W i)
 unfolding stepsOf if_then_else_
 steps-refused W i m e = rw e
 
 pub steps-made : (W : World) (i m : ℕ) → isRefused (stepOf W i .answer) ≡ false →
-    stepsOf W i (suc m) ≡ reply (stepsOf (stepOf W i .world) i m .program) (printed (stepOf W i .answer) ++ stepsOf (stepOf W i .world) i m .output)
+    stepsOf W i (suc m) ≡ response (stepsOf (stepOf W i .world) i m .program) (printed (stepOf W i .answer) ++ stepsOf (stepOf W i .world) i m .output)
 unfolding stepsOf if_then_else_
 steps-made W i m e = rw e
 

@@ -1,2 +1,3 @@
 pub mod Listing
-pub mod Feeding
+pub mod Consuming
+pub mod Streams

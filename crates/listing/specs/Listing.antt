@@ -19,10 +19,10 @@ abbrev pub wholeListing : List ℕ → List ℕ
 wholeListing input = listingOf (waiting programStore programLog) input
 
 -- the bytes before the first newline
-unfoldable pub front : List ℕ → List ℕ
-front [] = []
-front (b ∷ s) = if eqb b 10 then [] else b ∷ front s
+unfoldable pub untilNewline : List ℕ → List ℕ
+untilNewline [] = []
+untilNewline (b ∷ s) = if eqb b 10 then [] else b ∷ untilNewline s
 
 -- no newline
 abbrev pub Open : List ℕ → Type 0
-Open s = length (front s) ≡ length s
+Open s = length (untilNewline s) ≡ length s

@@ -1,24 +1,22 @@
 // Lines of input played one after the other, and what they print, however the input is cut into buffers.
-// Uses `model`, `theorems`, `stages`, `lines`, `limits`, `state`, `opening`, `machine`, `text` and `replies`. It is used by `bench`.
+// Uses `model`, `theorems`, `limits`, `state`, `machine`, `text` and `replies`. It is used by `bench`.
 ghost use mathlib.Core.Path.{_≡_};
 ghost use Prim.Native.Nat.{_+_, _-_, _≤_, min};
 ghost use lib.ListN.{length, drop};
 ghost use Rattle.replies.specs.Sessions.{programOf, leftBy};
-ghost use Rattle.listing.specs.Listing.{front};
-ghost use Rattle.listing.specs.Feeding.{Reachable, FedBy, CarriedBy};
-use lines::Deed;
+ghost use Rattle.listing.specs.Listing.{untilNewline};
+ghost use Rattle.listing.specs.Consuming.{Reachable, ConsumedBy, CarriedBy};
+use machine::Made;
 use model::Answer;
-use model::Bench;
 use model::Worker;
 use replies::Asked;
-use replies::Judged;
 use replies::LONGEST;
 use replies::Session;
 use state::Stop;
 
-// What feeding a buffer left: the session, how many bytes were played and how many written, and whether an accepted `end` was
+// What consuming a buffer left: the session, how many bytes were played and how many written, and whether an accepted `end` was
 // among them.
-pub struct Fed {
+pub struct Consumed {
     pub session: Session,
     pub used: usize,
     pub wrote: usize,
@@ -28,7 +26,7 @@ pub struct Fed {
 // Where the line that starts at `at` ends: at a newline byte or at the buffer's end.
 fn line_end(buf: &[u8], at: usize) -> usize
     requires { ⌜ at ≤ length (now buf) ⌝ }
-    ensures { λ r. ⌜ r ≡ at + length (front (drop at (now (buf .entry)))) ⌝ }
+    ensures { λ r. ⌜ r ≡ at + length (untilNewline (drop at (now (buf .entry)))) ⌝ }
 {
     let mut i = at;
     while i < buf.len() {
@@ -41,14 +39,20 @@ fn line_end(buf: &[u8], at: usize) -> usize
 }
 
 // Plays the lines of the buffer that end in a newline, as long as the output has room for another line's text. `step I M` is
-// M steps, stopping at the first refusal. The bench stays in place where it can: a step that changes a worker's record alone
-// replaces that record, and a line refused at once leaves it alone. A bench that a `queue` of this program made is never
+// M steps, stopping at the first refusal. The bench stays in place where it can: a step that changes its worker's record alone
+// replaces that record, and what is refused leaves it alone. A bench that a `queue` of this program made is never
 // foreign, so the limits are not tested at each step.
-pub fn feed(session: Session, buf: &[u8], store: &mut [u32], log: &mut [u32], out: &mut [u8]) -> Fed
+pub fn consume(
+    session: Session,
+    buf: &[u8],
+    store: &mut [u32],
+    log: &mut [u32],
+    out: &mut [u8],
+) -> Consumed
     requires { ⌜ Reachable (programOf session (now store) (now log)) ⌝ }
     ensures { λ f.
         ⌜
-        FedBy (programOf session (now (store .entry)) (now (log .entry))) (now (buf .entry)) f (now (store .exit)) (now (log .exit)) (now (out .exit))
+        ConsumedBy (programOf session (now (store .entry)) (now (log .entry))) (now (buf .entry)) f (now (store .exit)) (now (log .exit)) (now (out .exit))
         ⌝ }
     ensures { λ f. ⌜ Reachable (leftBy (f .stops) (f .session) (now (store .exit)) (now (log .exit))) ⌝ }
 {
@@ -101,33 +105,38 @@ pub fn feed(session: Session, buf: &[u8], store: &mut [u32], log: &mut [u32], ou
         while 0 < left {
             let own = bench.workers[i];
             let line = own.line;
-            let stop = machine::step_stop(bench.crew, worker, line);
-            let Stop::No = stop else {
-                let answer = replies::refusal_of(stop);
-                wrote = replies::show(answer, out, wrote);
-                continue 'lines;
-            };
             let kind = bench.kind;
             let queue = bench.queue;
-            let next = lines::next_line(kind, queue, &store[..n], line);
-            let deed = lines::decide(kind, bench.width, queue, &store[..n], worker, line);
-            let Deed::Nothing = deed else {
-                let done = replies::do_deed(words, bench, worker, next, deed, store, log);
+            let moved = machine::step_in(
+                kind,
+                bench.width,
+                bench.crew,
+                queue,
+                bench.written,
+                worker,
+                line,
+                &mut store[..n],
+                log,
+            );
+            let to = moved.line;
+            let made = moved.made;
+            left -= 1;
+            let Made::Nothing = made else {
+                if let Made::Refused { why } = made {
+                    let answer = Answer::Refused { why };
+                    wrote = replies::show(answer, out, wrote);
+                    continue 'lines;
+                }
+                let done = machine::settled(bench, i, to, made);
                 let answer = done.answer;
                 bench = done.bench;
                 wrote = replies::show(answer, out, wrote);
-                let Judged::Made = replies::judge(answer) else {
-                    continue 'lines;
-                };
-                left -= 1;
                 continue;
             };
-            bench.restarts = stages::count_restart(bench.restarts, next);
-            bench.workers[i] = Worker { line: next };
-            left -= 1;
+            bench.workers[i] = Worker { line: to };
         }
     }
-    Fed {
+    Consumed {
         session: Session { live, words, bench },
         used,
         wrote,

@@ -1,3 +1,3 @@
-pub mod Commits
-pub mod Deeds
-pub mod Steps
+pub mod Logged
+pub mod Moves
+pub mod Stepping

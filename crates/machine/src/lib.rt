@@ -1,26 +1,158 @@
-// A step, but for the line itself: whether it is refused before (step_stop), and doing the line's deed (apply), which writes only
-// once the whole outcome of the step is known.
-// Uses `model`, `stages`, `lines`, `limits`, `memory` and `state`. It is used by `queues`, `replies` and `listing`.
+// A step past the test of the limits. `step_in` is handed what a step reads of the state, writes the store and the log, and answers
+// what the step leaves of the state: the line that its worker is at, and what it did beside. A caller that keeps its bench in a
+// local can so replace the one record that most steps change; `settled` has the other steps.
+// Uses `model`, `answers`, `stages`, `lines`, `limits`, `memory` and `state`. It is used by `queues` and `listing`.
 ghost use mathlib.Core.Path.{_≡_};
-ghost use mathlib.Core.Bool.{true};
+ghost use mathlib.Core.Bool.{not};
 ghost use mathlib.Core.List.{List};
 ghost use Prim.Native.Nat.{ℕ, _≤_, _<_};
 ghost use lib.ListN.{length};
-ghost use Rattle.model.specs.Answers.{ends};
-ghost use Rattle.model.specs.Lines.{eff};
-ghost use Rattle.model.specs.Calls.{lent, commit};
-ghost use Rattle.lines.specs.Deeds.{withArray, queueBy, storeBy, answerBy, enact, InStore};
-ghost use Rattle.state.specs.Left.{left};
-ghost use Rattle.machine.specs.Steps.{stopOf};
-use lines::Deed;
+ghost use Rattle.model.specs.declared.Worker.{Worker};
+ghost use Rattle.model.specs.World.{lineAt};
+ghost use Rattle.model.specs.Calls.{lent, logFull, stepIn};
+ghost use Rattle.lines.specs.Actions.{withArray, storeBy};
+ghost use Rattle.machine.specs.Steps.{
+  benchOf,
+  moves,
+  benchAfter,
+  answerAfter,
+  movedBy,
+  logBy,
+  actedBy,
+  logAfter,
+  Writable,
+  Fits,
+  Steppable,
+};
+use lines::Action;
+use model::Anchor;
 use model::Answer;
 use model::Bench;
+use model::Kind;
 use model::Line;
 use model::Queue;
 use model::Refusal;
 use model::Region;
-use state::Reply;
-use state::Stop;
+use model::Worker;
+use state::Returned;
+
+// What a step did beside moving its worker on: nothing that changes the state; it was refused; its compare failed; it claimed an
+// array or published it; or it ended its operation, with the anchor as it is or another one, and logged its entry.
+pub enum Made {
+    Nothing,
+    Refused { why: Refusal },
+    Fails,
+    Claims { offset: u32, length: u32 },
+    Publishes,
+    Stops { answer: Answer },
+    Ends { anchor: Anchor, answer: Answer },
+}
+
+// What a step leaves: the line that its worker is at, and what it did beside.
+pub struct Moved {
+    pub line: Line,
+    pub made: Made,
+}
+
+// Logs an answer's entry behind `written` words, and answers whether the log had room for it.
+fn log_answer(written: u32, answer: Answer, log: &mut [u32]) -> bool
+    ensures { λ r. ⌜ r ≡ not (logFull (now (log .entry)) written) ⌝ }
+    ensures { λ r. ⌜ now (log .exit) ≡ logBy written (now (log .entry)) answer ⌝ }
+{
+    if !memory::has_room(written, log) {
+        return false;
+    }
+    let entry = answers::entry_of(answer);
+    memory::write_entry(log, written as usize, entry);
+    true
+}
+
+// Carries an action out.
+fn act(written: u32, action: Action, store: &mut [u32], log: &mut [u32]) -> Made
+    requires { ⌜ Writable (length (now store)) action ⌝ }
+    ensures { λ r. ⌜ r ≡ actedBy written (now (log .entry)) action ⌝ }
+    ensures { λ r. ⌜ now (store .exit) ≡ storeBy (now (store .entry)) action ⌝ }
+    ensures { λ r. ⌜ now (log .exit) ≡ logAfter written (now (log .entry)) action ⌝ }
+{
+    match action {
+        Action::Nothing => Made::Nothing,
+        Action::Fails => Made::Fails,
+        Action::Word { place, value } => {
+            store[place] = value;
+            Made::Nothing
+        }
+        Action::Copies { place, task } => {
+            let next = place + 1;
+            store[place] = task.number;
+            store[next] = task.payload;
+            Made::Nothing
+        }
+        Action::Claims { offset, length } => {
+            memory::zero(store, offset as usize, length as usize);
+            Made::Claims { offset, length }
+        }
+        Action::Publishes => Made::Publishes,
+        Action::Stops { answer } => {
+            if log_answer(written, answer, log) {
+                Made::Stops { answer }
+            } else {
+                Made::Refused {
+                    why: Refusal::LogFull,
+                }
+            }
+        }
+        Action::Ends { anchor, answer } => {
+            if log_answer(written, answer, log) {
+                Made::Ends { anchor, answer }
+            } else {
+                Made::Refused {
+                    why: Refusal::LogFull,
+                }
+            }
+        }
+    }
+}
+
+// A step of a worker that is at `line`, past the test of the limits: refusals 6 and 8, then the line, committed or refused 11.
+pub fn step_in(
+    kind: Kind,
+    width: u32,
+    crew: u32,
+    queue: Queue,
+    written: u32,
+    worker: u32,
+    line: Line,
+    store: &mut [u32],
+    log: &mut [u32],
+) -> Moved
+    requires { ⌜ Steppable kind width crew queue (length (now store)) worker line ⌝ }
+    ensures { λ r. ⌜ Fits queue written (r .made) ⌝ }
+    ensures { λ r.
+        ⌜
+        ((u n k : ℕ) (ws : List Worker) → (worker < 8 → k ≡ worker) → lineAt ws k ≡ line
+        → movedBy (benchOf kind width crew queue written u n ws) k (r .line) (r .made) (now (store .exit)) (now (log .exit))
+        ≡ stepIn (lent (benchOf kind width crew queue written u n ws) (now (store .entry)) (now (log .entry))) worker)
+        ⌝ }
+{
+    if crew <= worker {
+        let why = Refusal::NoSuchWorker;
+        return Moved {
+            line,
+            made: Made::Refused { why },
+        };
+    }
+    if stages::is_idle(line) {
+        let why = Refusal::IdleWorker;
+        return Moved {
+            line,
+            made: Made::Refused { why },
+        };
+    }
+    let to = lines::next_line(kind, queue, store, line);
+    let action = lines::decide(kind, width, queue, store, worker, line);
+    let made = act(written, action, store, log);
+    Moved { line: to, made }
+}
 
 // X1: a pair behind the published ones.
 fn with_array(queue: Queue, offset: u32, length: u32) -> Queue
@@ -30,116 +162,83 @@ fn with_array(queue: Queue, offset: u32, length: u32) -> Queue
     let published = queue.published;
     let place = published as usize;
     let mut next = queue;
-    next.arrays[place] = Region {
-        offset: offset,
-        length: length,
-    };
+    next.arrays[place] = Region { offset, length };
     next.claimed = published + 1;
     next
 }
 
-// The step that left the worker at `line` and answers `answer`: an answer that ends the operation logs its entry, and is refused
-// where the log has no room for it.
-fn committed(
+// The state with a worker at another line, and another queue, other counts of restarts and of words written.
+fn replaced(
     bench: Bench,
-    worker: u32,
+    place: usize,
+    line: Line,
     queue: Queue,
-    line: Line,
-    answer: Answer,
-    log: &mut [u32],
-) -> Reply
-    requires { ⌜ worker < 8 ⌝ }
-    ensures { λ r.
-        ⌜
-        ((m n : List ℕ) → (ends answer ≡ true → n ≡ m)
-        → left r n (now (log .exit)) ≡ commit (lent bench m (now (log .entry))) worker (eff queue n line answer))
-        ⌝ }
+    restarts: u32,
+    written: u32,
+) -> Bench
+    requires { ⌜ place < 8 ⌝ }
+    ensures { λ r. ⌜ r ≡ moves bench place line queue restarts written ⌝ }
 {
-    let i = worker as usize;
-    let written = bench.written;
-    let entry = memory::entry_of(answer);
-    if entry.kind == 0 {
-        return Reply {
-            bench: state::moves(bench, i, queue, line, written),
-            answer: answer,
-        };
-    }
-    if !memory::has_room(written, log) {
-        return state::refused(bench, Refusal::LogFull);
-    }
-    let at = written as usize;
-    memory::write_entry(log, at, entry);
-    Reply {
-        bench: state::moves(bench, i, queue, line, written + 4),
-        answer: answer,
-    }
+    let mut next = bench;
+    next.queue = queue;
+    next.restarts = restarts;
+    next.written = written;
+    next.workers[place] = Worker { line };
+    next
 }
 
-// What a deed writes to the store; and the queue that it leaves.
-fn changed(queue: Queue, deed: Deed, store: &mut [u32]) -> Queue
-    requires { ⌜ queue .published ≤ 11 ⌝ }
-    requires { ⌜ InStore queue (length (now store)) deed ⌝ }
-    ensures { λ r. ⌜ r ≡ queueBy queue deed ⌝ }
-    ensures { λ r. ⌜ now (store .exit) ≡ storeBy (now (store .entry)) deed ⌝ }
-{
-    match deed {
-        Deed::Nothing => queue,
-        Deed::Word { place, value } => {
-            store[place] = value;
-            queue
-        }
-        Deed::Copies { place, task } => {
-            let next = place + 1;
-            store[place] = task.number;
-            store[next] = task.payload;
-            queue
-        }
-        Deed::Claims { offset, length } => {
-            memory::zero(store, offset as usize, length as usize);
-            with_array(queue, offset, length)
-        }
-        Deed::Publishes => state::publish(queue),
-        Deed::Stops { answer: _ } => queue,
-        Deed::Ends { anchor, answer: _ } => state::with_anchor(queue, anchor),
-    }
-}
-
-// What the step of a deed answers.
-fn answer_of(deed: Deed) -> Answer
-    ensures { λ r. ⌜ r ≡ answerBy deed ⌝ }
-{
-    match deed {
-        Deed::Nothing => Answer::GoesOn,
-        Deed::Word { place: _, value: _ } => Answer::GoesOn,
-        Deed::Copies { place: _, task: _ } => Answer::GoesOn,
-        Deed::Claims {
-            offset: _,
-            length: _,
-        } => Answer::GoesOn,
-        Deed::Publishes => Answer::GoesOn,
-        Deed::Stops { answer } => answer,
-        Deed::Ends { anchor: _, answer } => answer,
-    }
-}
-
-// Does a deed; its worker comes to `line`.
-pub fn apply(
-    bench: Bench,
-    worker: u32,
-    line: Line,
-    deed: Deed,
-    store: &mut [u32],
-    log: &mut [u32],
-) -> Reply
-    requires { ⌜ worker < 8 ⌝ }
-    requires { ⌜ bench .queue .published ≤ 11 ⌝ }
-    requires { ⌜ InStore (bench .queue) (length (now store)) deed ⌝ }
-    ensures { λ r. ⌜ left r (now (store .exit)) (now (log .exit)) ≡ commit (lent bench (now (store .entry)) (now (log .entry))) worker (enact (bench .queue) (now (store .entry)) line deed) ⌝ }
+// The state after a step that left the worker at `place` at `line`, and the answer.
+pub fn settled(bench: Bench, place: usize, line: Line, made: Made) -> Returned
+    requires { ⌜ place < 8 ⌝ }
+    requires { ⌜ Fits (bench .queue) (bench .written) made ⌝ }
+    ensures { λ r. ⌜ r ≡ record { bench = benchAfter bench place line made; answer = answerAfter made } ⌝ }
 {
     let queue = bench.queue;
-    let next = changed(queue, deed, store);
-    let answer = answer_of(deed);
-    committed(bench, worker, next, line, answer, log)
+    let restarts = bench.restarts;
+    let written = bench.written;
+    match made {
+        Made::Nothing => Returned {
+            bench: replaced(bench, place, line, queue, restarts, written),
+            answer: Answer::GoesOn,
+        },
+        Made::Refused { why } => state::refused(bench, why),
+        Made::Fails => {
+            let count = stages::one_more(restarts);
+            Returned {
+                bench: replaced(bench, place, line, queue, count, written),
+                answer: Answer::GoesOn,
+            }
+        }
+        Made::Claims { offset, length } => {
+            let grown = with_array(queue, offset, length);
+            Returned {
+                bench: replaced(bench, place, line, grown, restarts, written),
+                answer: Answer::GoesOn,
+            }
+        }
+        Made::Publishes => {
+            let current = state::publish(queue);
+            Returned {
+                bench: replaced(bench, place, line, current, restarts, written),
+                answer: Answer::GoesOn,
+            }
+        }
+        Made::Stops { answer } => {
+            let length = written + 4;
+            Returned {
+                bench: replaced(bench, place, line, queue, restarts, length),
+                answer,
+            }
+        }
+        Made::Ends { anchor, answer } => {
+            let left = state::with_anchor(queue, anchor);
+            let length = written + 4;
+            Returned {
+                bench: replaced(bench, place, line, left, restarts, length),
+                answer,
+            }
+        }
+    }
 }
 
 // A worker's place among the eight records; of a number that no worker has, the last.
@@ -150,23 +249,4 @@ pub fn place_of(worker: u32) -> usize
         return worker as usize;
     }
     7
-}
-
-// step's refusals 6 and 8, of a worker that is at `line`, in a state within the limits. If there is none, `lines` has what the
-// line does. A caller that keeps its bench in place can so make a step that leaves all but the worker's record as it was by
-// replacing that record.
-pub fn step_stop(crew: u32, worker: u32, line: Line) -> Stop
-    ensures { λ r. ⌜ r ≡ stopOf crew worker line ⌝ }
-{
-    if crew <= worker {
-        return Stop::Why {
-            why: Refusal::NoSuchWorker,
-        };
-    }
-    if stages::is_idle(line) {
-        return Stop::Why {
-            why: Refusal::IdleWorker,
-        };
-    }
-    Stop::No
 }

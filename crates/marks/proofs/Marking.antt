@@ -13,7 +13,7 @@ use Rattle.model.specs.Tests.{if_then_else_, _and_, _or_}
 use Rattle.model.specs.Counts.{entryAt, taskAt, isKind, someBelow, countBelow, outAs, outWhole, outFirst}
 use Rattle.model.proofs.Tests.{holds, fails, and-left, and-right, and-both, and-false}
 use Rattle.model.proofs.Below.{some-at, up-miss, some-same}
-use Rattle.judgement.specs.Judgement.{allBelow, finishedAs, honest, listed}
+use Rattle.judgement.specs.Judgement.{allBelow, finishedAs, justified, listed}
 use Rattle.puts.specs.Puts.{numberOfPut, Rising, Gathered, RepeatsPut}
 use Rattle.marks.specs.Marks.{Marked, OutsBy}
 use Rattle.judgement.proofs.All.{all-at, all-next, all-fails, some-found}
@@ -23,10 +23,10 @@ pub mark-start : (l stored puts : List ℕ) (c : ℕ) (seen : List ℕ) → ((k 
 unfolding someBelow _or_
 mark-start l stored puts c seen z k h = eq-eqb (getD seen k 0) 0 (z k)
 
--- what is known after j entries: all hand-outs honest, so many of them, of so many puts, and these marked
+-- what is known after j entries: all hand-outs justified, so many of them, of so many puts, and these marked
 module _ (l puts : List ℕ) (c : ℕ) where
   pub record Told (j outs firsts : ℕ) (seen : List ℕ) : Type 0 where
-    pub fine : allBelow (honest l) j ≡ true
+    pub fine : allBelow (justified l) j ≡ true
     pub outs-are : outs ≡ countBelow (isKind l 2) j
     pub firsts-are : firsts ≡ countBelow (outFirst l) j
     pub marks : (stored : List ℕ) → Marked l j stored 0 puts c seen
@@ -45,28 +45,28 @@ module _ (l : List ℕ) (n : ℕ) (puts : List ℕ) (c : ℕ) (G : Gathered l n 
       let s = same-put l n puts c G R (g .0) k (let z = g .1 in omega (arith, z, h)) (and-left _ _ p) b (a ∙ q) in
       eq-eqb _ _ (sym d ∙ ap (λ (x : ℕ). entryAt l x .payload) s)
 
-  honest-out : (i : ℕ) → isKind l 2 i ≡ true → honest l i ≡ true → someBelow (finishedAs l i) i ≡ true
+  justified-out : (i : ℕ) → isKind l 2 i ≡ true → justified l i ≡ true → someBelow (finishedAs l i) i ≡ true
   unfolding _or_
-  honest-out i e h = rw e at h
+  justified-out i e h = rw e at h
 
-  by-number : (i k : ℕ) (y z : Bool) → isKind l 2 i ≡ y → eqb (entryAt l i .number) (numberOfPut l puts k) ≡ z → i < n → k < c → honest l i ≡ true
+  by-number : (i k : ℕ) (y z : Bool) → isKind l 2 i ≡ y → eqb (entryAt l i .number) (numberOfPut l puts k) ≡ z → i < n → k < c → justified l i ≡ true
       → outAs l (numberOfPut l puts k) i ≡ outWhole l (taskAt l (getD puts k 0)) i
   by-number i k false z e f h b o = fails _ e ∙ sym (fails _ e)
   by-number i k true false e f h b o = ap (λ (y : Bool). isKind l 2 i and y) (f ∙ sym (fails _ f))
   by-number i k true true e f h b o =
       ap (λ (y : Bool). isKind l 2 i and y)
-      (f ∙ sym (and-both _ _ f (same-payload i k h b (eqb-true _ _ f) (honest-out i e o))))
+      (f ∙ sym (and-both _ _ f (same-payload i k h b (eqb-true _ _ f) (justified-out i e o))))
 
-  same-outs : (j k : ℕ) → j ≤ n → k < c → allBelow (honest l) j ≡ true → someBelow (outAs l (numberOfPut l puts k)) j ≡ someBelow (outWhole l (taskAt l (getD puts k 0))) j
+  same-outs : (j k : ℕ) → j ≤ n → k < c → allBelow (justified l) j ≡ true → someBelow (outAs l (numberOfPut l puts k)) j ≡ someBelow (outWhole l (taskAt l (getD puts k 0))) j
   same-outs j k h b o =
       some-same _ _ j
-      (λ i g. by-number i k (isKind l 2 i) (eqb (entryAt l i .number) (numberOfPut l puts k)) refl refl (omega (arith, g, h)) b (all-at (honest l) j i o g))
+      (λ i g. by-number i k (isKind l 2 i) (eqb (entryAt l i .number) (numberOfPut l puts k)) refl refl (omega (arith, g, h)) b (all-at (justified l) j i o g))
 
   -- an entry that hands nothing out
   module _ (j : ℕ) (e : isKind l 2 j ≡ false) where
-    pub still-honest : honest l j ≡ true
+    pub still-justified : justified l j ≡ true
     unfolding _or_
-    still-honest = rw e
+    still-justified = rw e
 
     pub no-first : outFirst l j ≡ false
     no-first = fails _ e
@@ -87,9 +87,9 @@ module _ (l : List ℕ) (n : ℕ) (puts : List ℕ) (c : ℕ) (G : Gathered l n 
     payload-is : entryAt l (getD puts k 0) .payload ≡ entryAt l j .payload
     payload-is = eqb-true _ _ (and-right _ _ (and-right _ _ (at-put .1)))
 
-    pub repeats-honest : honest l j ≡ true
+    pub repeats-justified : justified l j ≡ true
     unfolding _or_
-    repeats-honest = rw (e, sym (some-at (finishedAs l j) j (getD puts k 0) (at-put .0) refl (at-put .1)))
+    repeats-justified = rw (e, sym (some-at (finishedAs l j) j (getD puts k 0) (at-put .0) refl (at-put .1)))
 
     hands-it-out : outWhole l (taskAt l (getD puts k 0)) j ≡ true
     hands-it-out = and-both _ _ e (and-both _ _ (eq-eqb _ _ (sym number-is)) (eq-eqb _ _ (sym payload-is)))
@@ -117,7 +117,7 @@ module _ (l : List ℕ) (n : ℕ) (puts : List ℕ) (c : ℕ) (G : Gathered l n 
     unfolding _or_
     marked-now stored i = rw out-now
 
-    first-by : (o : allBelow (honest l) j ≡ true) (y : Bool) → someBelow (outWhole l (taskAt l (getD puts k 0))) j ≡ y → outFirst l j ≡ not y
+    first-by : (o : allBelow (justified l) j ≡ true) (y : Bool) → someBelow (outWhole l (taskAt l (getD puts k 0))) j ≡ y → outFirst l j ≡ not y
     first-by o y q =
         holds e ∙ ap not (ap (λ (x : ℕ). someBelow (outAs l x) j) (sym number-is) ∙ same-outs j k (omega (arith, within)) b o ∙ q)
 
@@ -139,7 +139,7 @@ module _ (l : List ℕ) (n : ℕ) (puts : List ℕ) (c : ℕ) (G : Gathered l n 
     pub told-skip : isKind l 2 j ≡ false → Told l puts c (j + 1) outs firsts seen
     told-skip e =
         record {
-          fine = all-next (honest l) j (T .fine) (still-honest j e);
+          fine = all-next (justified l) j (T .fine) (still-justified j e);
           outs-are = count-same (isKind l 2) j outs (T .outs-are) e;
           firsts-are = count-same (outFirst l) j firsts (T .firsts-are) (no-first j e);
           marks = λ stored. still-marked j e stored seen 0 (T .marks stored);
@@ -156,7 +156,7 @@ module _ (l : List ℕ) (n : ℕ) (puts : List ℕ) (c : ℕ) (G : Gathered l n 
       pub told-again : eqb (getD seen k 0) 0 ≡ false → Told l puts c (j + 1) (outs + 1) firsts seen
       told-again s =
           record {
-            fine = all-next (honest l) j (T .fine) (repeats-honest j k within e P b);
+            fine = all-next (justified l) j (T .fine) (repeats-justified j k within e P b);
             outs-are = count-more (isKind l 2) j outs (T .outs-are) e;
             firsts-are =
                 count-same (outFirst l) j firsts (T .firsts-are)
@@ -176,7 +176,7 @@ module _ (l : List ℕ) (n : ℕ) (puts : List ℕ) (c : ℕ) (G : Gathered l n 
       pub told-first : eqb (getD seen k 0) 0 ≡ true → k < length seen → Told l puts c (j + 1) (outs + 1) (firsts + 1) (set seen k 1)
       told-first s r =
           record {
-            fine = all-next (honest l) j (T .fine) (repeats-honest j k within e P b);
+            fine = all-next (justified l) j (T .fine) (repeats-justified j k within e P b);
             outs-are = count-more (isKind l 2) j outs (T .outs-are) e;
             firsts-are =
                 count-more (outFirst l) j firsts (T .firsts-are)
@@ -185,12 +185,12 @@ module _ (l : List ℕ) (n : ℕ) (puts : List ℕ) (c : ℕ) (G : Gathered l n 
           }
 
   -- a hand-out that repeats no put
-  dishonest : (j : ℕ) → isKind l 2 j ≡ true → someBelow (finishedAs l j) j ≡ false → honest l j ≡ false
+  unjustified : (j : ℕ) → isKind l 2 j ≡ true → someBelow (finishedAs l j) j ≡ false → justified l j ≡ false
   unfolding _or_
-  dishonest j e h = rw (e, h)
+  unjustified j e h = rw (e, h)
 
-  pub not-honest : (j : ℕ) → j < n → isKind l 2 j ≡ true → RepeatsPut l puts c j c → false ≡ allBelow (honest l) n
-  not-honest j h e P = sym (all-fails (honest l) n j h (dishonest j e (P .none refl)))
+  pub not-justified : (j : ℕ) → j < n → isKind l 2 j ≡ true → RepeatsPut l puts c j c → false ≡ allBelow (justified l) n
+  not-justified j h e P = sym (all-fails (justified l) n j h (unjustified j e (P .none refl)))
 
 -- after the last entry
 pub outs-told : (l : List ℕ) (n : ℕ) (puts : List ℕ) (c j outs firsts : ℕ) (seen : List ℕ) → j ≡ n → Told l puts c j outs firsts seen

@@ -7,7 +7,7 @@ use lib.Dec.{eqb}
 use lib.ListN.{getD}
 use Rattle.model.specs.Tests.{_or_}
 use Rattle.model.specs.Counts.{taskAt, isKind, someBelow, countBelow, outWhole, outFirst}
-use Rattle.judgement.specs.Judgement.{allBelow, honest, listed}
+use Rattle.judgement.specs.Judgement.{allBelow, justified, listed}
 use Rattle.puts.specs.Puts.{numberOfPut}
 use Rattle.marks.specs.declared.Outs.{Outs}
 
@@ -17,9 +17,9 @@ Marked l j stored i puts c seen =
     (k : ℕ) → k < c → eqb (getD seen k 0) 0
     ≡ not (someBelow (outWhole l (taskAt l (getD puts k 0))) j or someBelow (listed stored (numberOfPut l puts k)) i)
 
--- the hand-outs were judged: where all are honest, their counts, and each put that one of them hands out is marked
+-- the hand-outs were judged: where all are justified, their counts, and each put that one of them hands out is marked
 pub record OutsBy (l : List ℕ) (n : ℕ) (puts : List ℕ) (c : ℕ) (r : Outs) (seen : List ℕ) : Type 0 where
-  pub fine : r .fine ≡ allBelow (honest l) n
+  pub fine : r .fine ≡ allBelow (justified l) n
   pub handouts : r .fine ≡ true → r .handouts ≡ countBelow (isKind l 2) n
   pub different : r .fine ≡ true → r .different ≡ countBelow (outFirst l) n
   pub marked : r .fine ≡ true → (stored : List ℕ) → Marked l n stored 0 puts c seen

@@ -1,25 +1,17 @@
-// The caller's memory: a log entry and where it goes, the log's written front, a zeroed range of the store. Each is a definition's
+// The caller's memory: where a log entry goes, the log's written front, a zeroed range of the store. Each is a definition's
 // short name, as code.
-// Uses `model`. It is used by `opening`, `machine` and `queues`.
+// Uses `model` and `answers`. It is used by `opening`, `machine` and `queues`.
 ghost use mathlib.Core.Path.{_≡_};
 ghost use Prim.Native.Nat.{_+_, _≤_};
 ghost use lib.Dec.{leb};
 ghost use lib.ListN.{length, replicate};
 ghost use Rattle.model.specs.Tests.{_and_};
 ghost use Rattle.model.specs.Memory.{zeros};
-ghost use Rattle.model.specs.Answers.{entryOf, writeEntry};
+ghost use Rattle.model.specs.Answers.{writeEntry};
 ghost use Rattle.model.specs.Calls.{frontOf};
-ghost use Rattle.memory.specs.Entries.{words};
-use model::Answer;
+ghost use Rattle.answers.specs.Entries.{words};
+use answers::Entry;
 use model::Bench;
-
-// An entry of the log.
-pub struct Entry {
-    pub kind: u32,
-    pub worker: u32,
-    pub number: u32,
-    pub payload: u32,
-}
 
 fn clear(words: &mut [u32])
     ensures { λ _. ⌜ now (words .exit) ≡ replicate (length (now (words .entry))) 0 ⌝ }
@@ -47,33 +39,6 @@ pub fn front(bench: Bench, log: &[u32]) -> &[u32]
     let written = bench.written as usize;
     let all = log.len();
     if written < all { &log[..written] } else { log }
-}
-
-// The entry of an answer; kind 0 where the answer ends no operation.
-pub fn entry_of(answer: Answer) -> Entry
-    ensures { λ r. ⌜ words r ≡ entryOf answer ⌝ }
-{
-    match answer {
-        Answer::Accepted => entry_with(0, 0, 0, 0),
-        Answer::Numbered { number: _ } => entry_with(0, 0, 0, 0),
-        Answer::GoesOn => entry_with(0, 0, 0, 0),
-        Answer::Finished { worker, task } => entry_with(1, worker, task.number, task.payload),
-        Answer::HandedOut { worker, task } => entry_with(2, worker, task.number, task.payload),
-        Answer::Empty { worker } => entry_with(3, worker, 0, 0),
-        Answer::Full { worker, task } => entry_with(4, worker, task.number, task.payload),
-        Answer::Refused { why: _ } => entry_with(0, 0, 0, 0),
-    }
-}
-
-fn entry_with(kind: u32, worker: u32, number: u32, payload: u32) -> Entry
-    ensures { λ r. ⌜ r ≡ record { kind = kind; worker = worker; number = number; payload = payload } ⌝ }
-{
-    Entry {
-        kind: kind,
-        worker: worker,
-        number: number,
-        payload: payload,
-    }
 }
 
 // The entry's four words, from word `at` of the log on.

@@ -2,6 +2,7 @@ pub mod Tests
 pub mod Runs
 pub mod Table
 pub mod Mistakes
+pub mod Entries
 pub mod Limits
 pub mod Arrays
 pub mod Directory

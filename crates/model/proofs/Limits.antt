@@ -75,6 +75,12 @@ state κ w n a d p c u e l ms ls =
 abbrev two : List Region
 two = pair 0 4 ∷ pair 4 8 ∷ replicate 9 nowhere
 
+-- arrays of every size, 1 to 1,024 tasks
+abbrev eleven : List Region
+eleven =
+    pair 0 2 ∷ pair 2 4 ∷ pair 6 8 ∷ pair 14 16 ∷ pair 30 32 ∷ pair 62 64 ∷ pair 126 128 ∷ pair 254 256 ∷ pair 510 512
+    ∷ pair 1022 1024 ∷ pair 2046 2048 ∷ []
+
 -- both published, the workers at these lines, a crew of 2
 abbrev busy : Kind → Anchor → Line → Line → World
 busy κ a o t = state κ 2 2 a two 2 2 9 0 (at o t Idle) 12 8
@@ -82,6 +88,10 @@ busy κ a o t = state κ 2 2 a two 2 2 9 0 (at o t Idle) 12 8
 -- the second one claimed and not yet published
 abbrev growing : Kind → Anchor → Line → World
 growing κ a o = state κ 2 2 a two 1 2 9 0 (at o Idle Idle) 12 8
+
+-- worker 7 at this line, in a crew of n
+abbrev last : ℕ → Line → World
+last n l = state Lifo 2 n (anchor 0 0 0) two 2 2 9 0 (replicate 7 resting ++ record { line = l } ∷ []) 12 8
 
 -- fresh's ranges, the directory, the log's length, the anchor, put numbers, workers outside the crew
 abbrev still : Kind → ℕ → ℕ → Anchor → ℕ → ℕ → World
@@ -99,6 +109,8 @@ admitted =
     ∷ directory (pair 0 2 ∷ replicate 10 nowhere) 1 1 2
     ∷ directory (pair 0 2048 ∷ replicate 10 nowhere) 1 1 2048
     ∷ directory two 2 2 12
+    ∷ directory (pair 0 1024 ∷ pair 1024 2048 ∷ replicate 9 nowhere) 2 2 3072
+    ∷ directory eleven 11 11 4094
     -- pairs past the claimed ones are not looked at
     ∷ directory two 1 1 4
     -- log length within the slice
@@ -137,6 +149,9 @@ admitted =
     ∷ busy Deque (anchor 0 0 0) Idle (StealPayload (anchor 2047 4 0) 0 65535)
     ∷ busy Deque (anchor 0 0 0) Idle (StealNext (anchor 0 1 0) (task 65535 7))
     ∷ busy Deque (anchor 0 0 0) Idle (StealCompare (anchor 0 1 0) 2047 (task 65535 7))
+    -- the last of eight workers too
+    ∷ last 8 StealRead
+    ∷ last 7 Idle
     ∷ []
 
 abbrev foreign : List World
@@ -145,13 +160,16 @@ foreign =
     ∷ still Lifo 17 1 (anchor 0 0 0) 0 0
     ∷ still Lifo 1 0 (anchor 0 0 0) 0 0
     ∷ still Lifo 1 9 (anchor 0 0 0) 0 0
-    -- no array; not from offset 0; a gap; an overlap; not twice; an odd length; no power of two; above 1,024; short of words
+    -- no array; not from offset 0, once with an array behind; a gap; an overlap; not twice; an odd length; no slots; no power of two;
+    -- above 1,024; short of words
     ∷ directory two 0 0 12
     ∷ directory (pair 1 2 ∷ replicate 10 nowhere) 1 1 12
+    ∷ directory (pair 1 4 ∷ pair 5 8 ∷ replicate 9 nowhere) 2 2 16
     ∷ directory (pair 0 4 ∷ pair 5 8 ∷ replicate 9 nowhere) 2 2 16
     ∷ directory (pair 0 4 ∷ pair 3 8 ∷ replicate 9 nowhere) 2 2 16
     ∷ directory (pair 0 4 ∷ pair 4 4 ∷ replicate 9 nowhere) 2 2 16
     ∷ directory (pair 0 5 ∷ replicate 10 nowhere) 1 1 12
+    ∷ directory (replicate 11 nowhere) 1 1 12
     ∷ directory (pair 0 6 ∷ replicate 10 nowhere) 1 1 12
     ∷ directory (pair 0 4096 ∷ replicate 10 nowhere) 1 1 4096
     ∷ directory (pair 0 2048 ∷ pair 2048 4096 ∷ replicate 9 nowhere) 2 2 6144
@@ -183,7 +201,10 @@ foreign =
     ∷ busy Deque (anchor 0 0 0) (TakeTail 0) Idle
     ∷ busy Deque (anchor 0 0 0) Idle (StealTail 0)
     ∷ busy Lifo (anchor 0 0 0) Idle (StealNext (anchor 0 1 0) (task 1 7))
+    ∷ busy Fifo (anchor 0 0 0) Idle (StealNext (anchor 0 1 0) (task 1 7))
     ∷ state Lifo 2 2 (anchor 0 0 0) two 2 2 9 0 (at Idle Idle StealRead) 12 8
+    ∷ last 7 StealRead
+    ∷ last 8 TakeRead
     -- values out of these ranges
     ∷ busy Lifo (anchor 0 0 0) (PutRead (task 65536 7)) Idle
     ∷ busy Fifo (anchor 0 0 0) (PutTail (task 1 7) 65536) Idle
@@ -209,6 +230,42 @@ foreign =
     ∷ busy Deque (anchor 0 0 0) Idle (StealCompare (anchor 0 1 0) 2048 (task 1 7))
     ∷ busy Lifo (anchor 0 0 0) Idle (StealCompare (anchor 0 1 0) 1 (task 1 7))
     ∷ busy Lifo (anchor 0 0 0) Idle (StealCompare (anchor 0 0 0) 0 (task 1 7))
+    -- each of these in each line that has it: the put number, of the put and as it was read
+    ∷ busy Fifo (anchor 0 0 0) (PutTail (task 65536 7) 0) Idle
+    ∷ busy Lifo (anchor 0 0 0) (PutTest (task 65536 7) (anchor 0 0 0)) Idle
+    ∷ busy Lifo (anchor 0 0 0) (PutNumber (task 65536 7) (anchor 0 0 0)) Idle
+    ∷ busy Lifo (anchor 0 0 0) (PutPayload (task 65536 7) (anchor 0 0 0)) Idle
+    ∷ busy Lifo (anchor 0 0 0) (PutFinish (task 65536 7) (anchor 0 0 0)) Idle
+    ∷ busy Lifo (anchor 0 0 0) (Claim (task 65536 7)) Idle
+    ∷ growing Lifo (anchor 0 0 0) (Note (task 65536 7))
+    ∷ growing Lifo (anchor 0 0 0) (Copy (task 65536 7) 0 2 1)
+    ∷ growing Lifo (anchor 0 0 0) (Publish (task 65536 7))
+    ∷ busy Deque (anchor 0 0 0) Idle (StealNext (anchor 0 1 0) (task 65536 7))
+    ∷ busy Lifo (anchor 0 0 0) Idle (StealCompare (anchor 0 1 0) 0 (task 65536 7))
+    -- the anchor read: here its tag is 2^w
+    ∷ busy Lifo (anchor 0 0 0) (PutNumber (task 1 7) (anchor 0 0 4)) Idle
+    ∷ busy Lifo (anchor 0 0 0) (PutPayload (task 1 7) (anchor 0 0 4)) Idle
+    ∷ busy Lifo (anchor 0 0 0) (PutFinish (task 1 7) (anchor 0 0 4)) Idle
+    ∷ busy Lifo (anchor 0 0 0) (TakeNumber (anchor 0 1 4)) Idle
+    ∷ busy Lifo (anchor 0 0 0) (TakePayload (anchor 0 1 4) 1) Idle
+    ∷ busy Lifo (anchor 0 0 0) (TakeFinish (anchor 0 1 4) (task 1 7)) Idle
+    ∷ busy Lifo (anchor 0 0 0) Idle (StealTest (anchor 0 1 4))
+    ∷ busy Lifo (anchor 0 0 0) Idle (StealNote (anchor 0 1 4))
+    ∷ busy Lifo (anchor 0 0 0) Idle (StealNumber (anchor 0 1 4) 0)
+    ∷ busy Lifo (anchor 0 0 0) Idle (StealPayload (anchor 0 1 4) 0 1)
+    ∷ busy Deque (anchor 0 0 0) Idle (StealNext (anchor 0 1 4) (task 1 7))
+    ∷ busy Lifo (anchor 0 0 0) Idle (StealCompare (anchor 0 1 4) 0 (task 1 7))
+    -- t below the size past a put's test, at least 1 past a test for EMPTY
+    ∷ busy Lifo (anchor 0 0 0) (PutPayload (task 1 7) (anchor 0 4 0)) Idle
+    ∷ busy Lifo (anchor 0 0 0) (TakeFinish (anchor 0 0 0) (task 1 7)) Idle
+    ∷ busy Lifo (anchor 0 0 0) Idle (StealNumber (anchor 0 0 0) 0)
+    ∷ busy Lifo (anchor 0 0 0) Idle (StealPayload (anchor 0 0 0) 0 1)
+    ∷ busy Deque (anchor 0 0 0) Idle (StealNext (anchor 0 0 0) (task 1 7))
+    -- the noted array, once claimed and not yet published; the slot in it; an h2 that is not figure 3's
+    ∷ busy Deque (anchor 0 0 0) Idle (StealNumber (anchor 0 1 0) 2)
+    ∷ state Deque 2 2 (anchor 0 0 0) two 1 2 9 0 (at (Note (task 1 7)) (StealNumber (anchor 0 1 0) 1) Idle) 12 8
+    ∷ busy Lifo (anchor 0 0 0) Idle (StealPayload (anchor 0 3 0) 0 1)
+    ∷ busy Fifo (anchor 0 0 0) Idle (StealCompare (anchor 0 1 0) 1 (task 1 7))
     ∷ []
 
 pub limits : map validOf (admitted ++ foreign) ≡ map (λ W. true) admitted ++ map (λ W. false) foreign

@@ -1,20 +1,27 @@
 -- Rows of our own: each shows a difference that one of document 01's 'Mistakes to shut out', or a bench of its section
 -- 'Agreement', would make. The edits in must-fail/ make them.
 use mathlib.Core.Path.{_≡_, refl}
-use mathlib.Core.List.{List, [], _∷_, map}
+use mathlib.Core.List.{List, [], _∷_, _++_, map}
 use Prim.Native.Nat.{ℕ}
-use Rattle.model.specs.declared.Line.the-variants.{Idle, PutRead, StealRead}
+use lib.ListN.{replicate}
+use Rattle.model.specs.declared.Kind.the-variants.{Lifo}
+use Rattle.model.specs.declared.Line.{Line}
+use Rattle.model.specs.declared.Line.the-variants.{Publish, StealCompare}
+use Rattle.model.specs.declared.Operation.the-variants.{Put}
+use Rattle.model.specs.declared.Refusal.the-variants.{LogFull}
+use Rattle.model.specs.declared.Answer.the-variants.{Accepted, Numbered, GoesOn, Finished, Refused}
 use Rattle.model.specs.declared.Command.the-variants.{Open, BeginPut, BeginTake, BeginSteal, Steps, End, Bad}
 use Rattle.model.specs.Tests.{if_then_else_, _and_, _or_}
 use Rattle.model.specs.Memory.{zeros, wordAt, setWord, offsetAt, sizeAt}
 use Rattle.model.specs.Answers.{task}
+use Rattle.model.specs.Figures.{anchor}
 use Rattle.model.specs.Lines.{lineStep}
 use Rattle.model.specs.Limits.{validOf}
-use Rattle.model.specs.Calls.{freshOf, beginOf, restarted, stepOf}
+use Rattle.model.specs.Calls.{freshOf, beginOf, restarted, stepOf, begin, step}
 use Rattle.model.specs.Run.{played}
 use Rattle.model.specs.Counts.{someBelow, countBelow, countsOf}
 use Rattle.model.specs.Listing.{D, H, E, F, R, T, stepsOf, respond, listingFrom}
-use Rattle.model.proofs.Runs.{Row, lines, prints, _shows_, show}
+use Rattle.model.proofs.Runs.{Row, lines, calls, prints, answers, _shows_, show}
 
 abbrev pub mistakes : List Row
 mistakes =
@@ -61,6 +68,12 @@ mistakes =
     (Open 1 1 2 2 4 ∷ BeginTake ∷ Steps 0 2 ∷ BeginSteal 1 ∷ Steps 1 2 ∷ BeginPut 3 ∷ BeginTake ∷ Steps 0 6 ∷ BeginPut 4 ∷ Steps 0 5 ∷ BeginTake ∷ Steps 0 5
     ∷ BeginTake ∷ Steps 0 5 ∷ Bad ∷ BeginTake ∷ Steps 0 2 ∷ End ∷ [])
     shows prints (E 0 ∷ E 1 ∷ R 7 ∷ D 1 ∷ R 8 ∷ D 2 ∷ H 0 2 4 ∷ H 0 1 3 ∷ R 13 ∷ E 0 ∷ T 2 2 2 0 0 0 ∷ []))
+    -- `step I M` stops at the first refusal: the thief's second step of five is refused, and no third is tried
+    ∷ (lines (Open 1 1 1 2 2 ∷ BeginSteal 1 ∷ Steps 1 1 ∷ Steps 1 5 ∷ End ∷ []) shows prints (E 1 ∷ R 8 ∷ T 0 0 0 0 0 0 ∷ []))
+    -- a refused step changes nothing: the end of a put with 3 words left in the log is refused as often as it is tried
+    ∷ (calls 1 1 2 1 4 7 (begin 0 (Put 7) ∷ replicate 5 (step 0) ++ begin 0 (Put 8) ∷ replicate 6 (step 0))
+    shows answers
+    (Accepted ∷ Numbered 1 ∷ replicate 4 GoesOn ++ Finished 0 (task 1 7) ∷ Numbered 2 ∷ replicate 4 GoesOn ++ Refused LogFull ∷ Refused LogFull ∷ []))
     -- FULL only where X1 says so: 5 words do not hold a second array, 6 do (P5)
     ∷ (lines (Open 2 1 1 1 5 ∷ BeginPut 7 ∷ Steps 0 6 ∷ BeginPut 8 ∷ Steps 0 4 ∷ End ∷ []) shows prints (D 1 ∷ F 2 ∷ T 1 0 0 0 1 0 ∷ []))
     -- lost goes by both words: thief 2 gets number 3 with the payload of put 5, and put 3 stays lost
@@ -75,12 +88,12 @@ pub mistakes-shut-out : map (λ r. show (r .run)) mistakes ≡ map (λ r. r .sho
 unfolding show played listingFrom respond stepsOf countsOf someBelow countBelow freshOf beginOf stepOf validOf lineStep zeros wordAt setWord offsetAt sizeAt if_then_else_ _and_ _or_
 mistakes-shut-out = refl
 
--- the counter of restarts: a compare that failed, the ceiling and one below it; a compare that succeeded; X4
+-- the counter of restarts: a compare that fails, at the ceiling and one below it; a compare that succeeds; X4
 abbrev pub counted : List ℕ
 counted =
-    restarted 4 StealRead ∷ restarted 4294967294 StealRead ∷ restarted 4294967295 StealRead ∷ restarted 4 Idle
-    ∷ restarted 4 (PutRead (task 1 7)) ∷ []
+    map (restarted Lifo (anchor 0 1 0) (StealCompare (anchor 0 1 1) 0 (task 1 7))) (4 ∷ 4294967294 ∷ 4294967295 ∷ [])
+    ++ map (λ (l : Line). restarted Lifo (anchor 0 1 0) l 4) (StealCompare (anchor 0 1 0) 0 (task 1 7) ∷ Publish (task 1 7) ∷ [])
 
 pub counter : counted ≡ (5 ∷ 4294967295 ∷ 4294967295 ∷ 4 ∷ 4 ∷ [])
-unfolding if_then_else_
+unfolding if_then_else_ _and_
 counter = refl

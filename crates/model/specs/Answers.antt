@@ -1,6 +1,6 @@
 -- Document 01's number of each refusal, and the log entry of each answer.
 use mathlib.Core.Bool.{Bool}
-use mathlib.Core.List.{List}
+use mathlib.Core.List.{List, [], _∷_}
 use Prim.Native.Nat.{ℕ, _+_}
 use lib.Dec.{ltb}
 use lib.ListN.{set}
@@ -78,7 +78,11 @@ entryOf (Refused r) = entry 0 0 (task 0 0)
 abbrev pub ends : Answer → Bool
 ends a = ltb 0 (entryOf a .kind)
 
--- the entry's words, from word `at` of the log on
+-- the entry's words
+abbrev pub entryWords : Entry → List ℕ
+entryWords e = e .kind ∷ e .worker ∷ e .number ∷ e .payload ∷ []
+
+-- they stand from word `at` of the log on
 abbrev pub writeEntry : List ℕ → ℕ → Entry → List ℕ
 writeEntry l at e =
     set (set (set (set l at (e .kind)) (at + 1) (e .worker)) (at + 2) (e .number)) (at + 3) (e .payload)

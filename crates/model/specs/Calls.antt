@@ -6,6 +6,7 @@ use lib.Dec.{eqb, ltb, leb}
 use lib.ListN.{length, set, replicate, take}
 use Rattle.model.specs.declared.Kind.{Kind}
 use Rattle.model.specs.declared.Kind.the-variants.{Lifo, Fifo, Deque}
+use Rattle.model.specs.declared.Anchor.{Anchor}
 use Rattle.model.specs.declared.Line.{Line}
 use Rattle.model.specs.declared.Line.the-variants.{PutRead, TakeRead, StealRead}
 use Rattle.model.specs.declared.Bench.{Bench}
@@ -31,8 +32,8 @@ use Rattle.model.specs.Tests.{if_then_else_, unless_then_else_, _and_, _
 use Rattle.model.specs.Memory.{zeros, nowhere}
 use Rattle.model.specs.Answers.{task, ends, logged}
 use Rattle.model.specs.Figures.{anchor}
-use Rattle.model.specs.Lines.{Effect, lineStep}
-use Rattle.model.specs.World.{World, Outcome, refuse, resting, lineAt, isIdle, isSteal1}
+use Rattle.model.specs.Lines.{Effect, lineStep, failsCompare}
+use Rattle.model.specs.World.{World, Outcome, refuse, resting, lineAt, isIdle}
 use Rattle.model.specs.Limits.{isSize, widthOk, crewOk, validOf}
 
 -- FRESH. A bench with no operation open, an array of c tasks, and all counters 0
@@ -126,23 +127,26 @@ begun W i op =
       answer = beginAnswer op (W .bench .used);
     }
 
--- refusals 12, 6, 9, 7, 10
-unfoldable pub beginOf : World → ℕ → Operation → Outcome
-beginOf W i op =
-    unless validOf W then refuse W ForeignState
-    else unless ltb i (W .bench .crew) then refuse W NoSuchWorker
+-- past the test of the limits: refusals 6, 9, 7, 10
+abbrev pub beginIn : World → ℕ → Operation → Outcome
+beginIn W i op =
+    unless ltb i (W .bench .crew) then refuse W NoSuchWorker
     else unless rightHand i op then refuse W WrongHand
     else unless isIdle (lineAt (W .bench .workers) i) then refuse W BusyWorker
     else unless numbersLeft op (W .bench .used) then refuse W NumbersSpent
     else begun W i op
 
--- STEP. A compare that fails is a restart, and the only step that leaves a thief at its line 1 (theorems/specs/Restarts); X4's
--- return to the owner's line 1 is none. The counter has a ceiling
+-- refusal 12 comes first
+unfoldable pub beginOf : World → ℕ → Operation → Outcome
+beginOf W i op = unless validOf W then refuse W ForeignState else beginIn W i op
+
+-- STEP. The restarts are compares that fail, and nothing else; the counter has a ceiling
 abbrev pub oneMore : ℕ → ℕ
 oneMore n = if eqb n 4294967295 then n else n + 1
 
-abbrev pub restarted : ℕ → Line → ℕ
-restarted n l = if isSteal1 l then oneMore n else n
+-- n restarts, after a worker at line l has done it
+abbrev pub restarted : Kind → Anchor → Line → ℕ → ℕ
+restarted κ a l n = if failsCompare κ a l then oneMore n else n
 
 -- worker i's line left E
 abbrev pub stepped : World → ℕ → Effect → Outcome
@@ -157,7 +161,9 @@ stepped W i E =
                   crew = W .bench .crew;
                   queue = E .queue;
                   used = W .bench .used;
-                  restarts = restarted (W .bench .restarts) (E .line);
+                  restarts =
+                      restarted (W .bench .kind) (W .bench .queue .anchor) (lineAt (W .bench .workers) i)
+                      (W .bench .restarts);
                   written = if ends (E .answer) then W .bench .written + 4 else W .bench .written;
                   workers = set (W .bench .workers) i (record { line = E .line });
                 };
@@ -182,13 +188,16 @@ abbrev pub nextEffect : World → ℕ → Effect
 nextEffect W i =
     lineStep (W .bench .kind) (W .bench .width) (W .bench .queue) (W .store) i (lineAt (W .bench .workers) i)
 
--- refusals 12, 6, 8, 11
-unfoldable pub stepOf : World → ℕ → Outcome
-stepOf W i =
-    unless validOf W then refuse W ForeignState
-    else unless ltb i (W .bench .crew) then refuse W NoSuchWorker
+-- past the test of the limits: refusals 6, 8, 11
+abbrev pub stepIn : World → ℕ → Outcome
+stepIn W i =
+    unless ltb i (W .bench .crew) then refuse W NoSuchWorker
     else if isIdle (lineAt (W .bench .workers) i) then refuse W IdleWorker
     else commit W i (nextEffect W i)
+
+-- refusal 12 comes first
+unfoldable pub stepOf : World → ℕ → Outcome
+stepOf W i = unless validOf W then refuse W ForeignState else stepIn W i
 
 -- FRONT. The written front of the log: as many words as its length says, or all if the slice is shorter
 unfoldable pub frontOf : Bench → List ℕ → List ℕ

@@ -1,5 +1,5 @@
 -- One line: the next one of figures 1, 2 and 3, for the worker that is at it.
-use mathlib.Core.Bool.{Bool}
+use mathlib.Core.Bool.{Bool, false, not}
 use mathlib.Core.List.{List}
 use Prim.Native.Nat.{ℕ, _+_, _-_, _*_, _%_}
 use lib.Dec.{eqb, leb}
@@ -170,3 +170,31 @@ lineStep κ w q m i (StealPayload r k n) =
     eff q m (stealLast κ r (task n (wordOf κ q m k (stealIndex κ r) 1))) GoesOn
 lineStep κ w q m i (StealNext r t) = eff q m (StealCompare r ((r .head + 1) % 2048) t) GoesOn
 lineStep κ w q m i (StealCompare r e t) = compares κ q m i r e t
+
+-- a restart: a worker at line l compares, and the anchor a is not the one it read
+abbrev pub failsCompare : Kind → Anchor → Line → Bool
+failsCompare κ a Idle = false
+failsCompare κ a (PutRead t) = false
+failsCompare κ a (PutTail t h) = false
+failsCompare κ a (PutTest t r) = false
+failsCompare κ a (PutNumber t r) = false
+failsCompare κ a (PutPayload t r) = false
+failsCompare κ a (PutFinish t r) = false
+failsCompare κ a (Claim t) = false
+failsCompare κ a (Note t) = false
+failsCompare κ a (Copy t h n k) = false
+failsCompare κ a (Publish t) = false
+failsCompare κ a TakeRead = false
+failsCompare κ a (TakeTail h) = false
+failsCompare κ a (TakeTest r) = false
+failsCompare κ a (TakeNumber r) = false
+failsCompare κ a (TakePayload r n) = false
+failsCompare κ a (TakeFinish r t) = false
+failsCompare κ a StealRead = false
+failsCompare κ a (StealTail h) = false
+failsCompare κ a (StealTest r) = false
+failsCompare κ a (StealNote r) = false
+failsCompare κ a (StealNumber r k) = false
+failsCompare κ a (StealPayload r k n) = false
+failsCompare κ a (StealNext r t) = false
+failsCompare κ a (StealCompare r e t) = not (isSame κ a r)

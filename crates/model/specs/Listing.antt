@@ -65,32 +65,32 @@ pub data Program : Type 0 where
   ended : Program
 
 -- what a line leaves and prints
-pub record Reply : Type 0 where
+pub record Response : Type 0 where
   pub program : Program
   pub output : List Print
 
-abbrev pub reply : Program → List Print → Reply
-reply s o = record { program = s; output = o }
+abbrev pub response : Program → List Print → Response
+response s o = record { program = s; output = o }
 
 -- `queue`: a bench on the first s words of the store m and on the log l; refused, it leaves the program waiting
-abbrev pub opened : Program → Outcome → Reply
-opened P d = reply (if isRefused (d .answer) then P else playing (d .world)) (printed (d .answer))
+abbrev pub opened : Program → Outcome → Response
+opened P d = response (if isRefused (d .answer) then P else playing (d .world)) (printed (d .answer))
 
-abbrev pub told : Outcome → Reply
-told d = reply (playing (d .world)) (printed (d .answer))
+abbrev pub showing : Outcome → Response
+showing d = response (playing (d .world)) (printed (d .answer))
 
 -- `step I M`: M steps, stopping at the first refusal
-unfoldable pub stepsOf : World → ℕ → ℕ → Reply
-stepsOf W i zero = reply (playing W) []
+unfoldable pub stepsOf : World → ℕ → ℕ → Response
+stepsOf W i zero = response (playing W) []
 stepsOf W i (suc m) =
     let d = stepOf W i in
     let rest = stepsOf (d .world) i m in
-    if isRefused (d .answer) then told d else reply (rest .program) (printed (d .answer) ++ rest .output)
+    if isRefused (d .answer) then showing d else response (rest .program) (printed (d .answer) ++ rest .output)
 
-abbrev pub bad : Program → Reply
-bad s = reply s (R (numberOf BadLine) ∷ [])
+abbrev pub bad : Program → Response
+bad s = response s (R (numberOf BadLine) ∷ [])
 
-unfoldable pub respond : Program → Command → Reply
+unfoldable pub respond : Program → Command → Response
 respond (waiting m l) (Open k w c n s) = opened (waiting m l) (freshOf k w c n (take s m) l)
 respond (waiting m l) (BeginPut p) = bad (waiting m l)
 respond (waiting m l) BeginTake = bad (waiting m l)
@@ -99,19 +99,19 @@ respond (waiting m l) (Steps i n) = bad (waiting m l)
 respond (waiting m l) End = bad (waiting m l)
 respond (waiting m l) Bad = bad (waiting m l)
 respond (playing W) (Open k w c n s) = bad (playing W)
-respond (playing W) (BeginPut p) = told (beginOf W 0 (Put p))
-respond (playing W) BeginTake = told (beginOf W 0 Take)
-respond (playing W) (BeginSteal i) = told (beginOf W i Steal)
+respond (playing W) (BeginPut p) = showing (beginOf W 0 (Put p))
+respond (playing W) BeginTake = showing (beginOf W 0 Take)
+respond (playing W) (BeginSteal i) = showing (beginOf W i Steal)
 respond (playing W) (Steps i m) = stepsOf W i m
-respond (playing W) End = reply ended (totals (countsOf W) ∷ [])
+respond (playing W) End = response ended (totals (countsOf W) ∷ [])
 respond (playing W) Bad = bad (playing W)
-respond ended (Open k w c n s) = reply ended []
-respond ended (BeginPut p) = reply ended []
-respond ended BeginTake = reply ended []
-respond ended (BeginSteal i) = reply ended []
-respond ended (Steps i m) = reply ended []
-respond ended End = reply ended []
-respond ended Bad = reply ended []
+respond ended (Open k w c n s) = response ended []
+respond ended (BeginPut p) = response ended []
+respond ended BeginTake = response ended []
+respond ended (BeginSteal i) = response ended []
+respond ended (Steps i m) = response ended []
+respond ended End = response ended []
+respond ended Bad = response ended []
 
 -- the listing of a list of commands
 unfoldable pub listingFrom : Program → List Command → List Print

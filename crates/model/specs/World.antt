@@ -90,10 +90,6 @@ stage (StealCompare r e t) = 5
 abbrev pub isIdle : Line → Bool
 isIdle l = eqb (stage l) 0
 
--- a thief at its line 1
-abbrev pub isSteal1 : Line → Bool
-isSteal1 l = eqb (stage l) 4
-
 abbrev pub isExpanding : Line → Bool
 isExpanding l = eqb (stage l) 2
 

@@ -1,6 +1,6 @@
 // The bench's types: what document 01 names, by value. No code is here: `specs/` says what each
 // call does to them, and every crate above (theorems, code) speaks of these same types.
-// Uses no other crate. Every other crate uses it.
+// Uses no other crate. All others are built on it.
 
 // Figures 1, 2 and 3. The double-ended queue is the field's deque.
 pub enum Kind {
@@ -17,7 +17,8 @@ pub struct Task {
 }
 
 // What line 1 reads whole and a compare (the field's compare-and-swap) compares. Double-ended: (h, s, g). LIFO: (t, g) is `count`
-// and `tag`, `head` is 0. FIFO: head, and the tail in `count`; `tag` is 0.
+// and `tag`, `head` is 0. FIFO: head, and the tail in `count`; `tag` is 0. The tag is there against ABA: each put raises it, so
+// that a compare sees that puts have finished since line 1, unless the tag has come round.
 pub struct Anchor {
     pub head: u32,
     pub count: u32,

@@ -1,6 +1,6 @@
 // The calls that open something: fresh a bench, begin an operation. Fresh zeroes the store's first words once nothing is left to
 // refuse; a begin writes nothing.
-// Uses `model`, `stages`, `admission`, `limits`, `memory` and `state`. It is used by `queues`, `replies` and `listing`.
+// Uses `model`, `stages`, `admission`, `limits`, `memory` and `state`. It is used by `queues` and `replies`.
 ghost use mathlib.Core.Path.{_≡_};
 ghost use mathlib.Core.Bool.{true};
 ghost use mathlib.Core.List.{List};
@@ -8,7 +8,7 @@ ghost use Prim.Native.Nat.{ℕ, _≤_, _<_};
 ghost use Rattle.model.specs.declared.Answer.the-variants.{Refused};
 ghost use Rattle.model.specs.Limits.{validOf};
 ghost use Rattle.model.specs.Calls.{noBench, lent, freshOf, begun, beginOf};
-ghost use Rattle.state.specs.Left.{left};
+ghost use Rattle.state.specs.Outcomes.{returned};
 ghost use Rattle.opening.specs.Begins.{BeginStops};
 use model::Answer;
 use model::Bench;
@@ -16,18 +16,18 @@ use model::Line;
 use model::Operation;
 use model::Refusal;
 use model::Task;
-use state::Reply;
+use state::Returned;
 use state::Stop;
 
 // A refused fresh makes no bench: its state is one that every call refuses.
-fn unmade(why: Refusal) -> Reply
+fn unmade(why: Refusal) -> Returned
     ensures { λ r. ⌜ r ≡ record { bench = noBench; answer = Refused why } ⌝ }
 {
     state::refused(state::none(), why)
 }
 
-pub fn fresh(kind: u32, width: u32, size: u32, crew: u32, store: &mut [u32]) -> Reply
-    ensures { λ r. ⌜ ((l : List ℕ) → left r (now (store .exit)) l ≡ freshOf kind width size crew (now (store .entry)) l) ⌝ }
+pub fn fresh(kind: u32, width: u32, size: u32, crew: u32, store: &mut [u32]) -> Returned
+    ensures { λ r. ⌜ ((l : List ℕ) → returned r (now (store .exit)) l ≡ freshOf kind width size crew (now (store .entry)) l) ⌝ }
 {
     if !admission::kind_ok(kind) {
         return unmade(Refusal::UnknownQueue);
@@ -46,17 +46,17 @@ pub fn fresh(kind: u32, width: u32, size: u32, crew: u32, store: &mut [u32]) -> 
         return unmade(Refusal::ShortStore);
     }
     memory::zero(store, 0, words);
-    Reply {
+    Returned {
         bench: state::made(admission::kind_of(kind), width, size, crew),
         answer: Answer::Accepted,
     }
 }
 
 // An accepted begin: a put uses the next number.
-fn accept(bench: Bench, worker: u32, operation: Operation) -> Reply
+fn accept(bench: Bench, worker: u32, operation: Operation) -> Returned
     requires { ⌜ worker < 8 ⌝ }
     requires { ⌜ bench .used ≤ 65535 ⌝ }
-    ensures { λ r. ⌜ ((m l : List ℕ) → left r m l ≡ begun (lent bench m l) worker operation) ⌝ }
+    ensures { λ r. ⌜ ((m l : List ℕ) → returned r m l ≡ begun (lent bench m l) worker operation) ⌝ }
 {
     let i = worker as usize;
     let used = bench.used;
@@ -67,16 +67,16 @@ fn accept(bench: Bench, worker: u32, operation: Operation) -> Reply
                 number: number,
                 payload: payload,
             };
-            Reply {
+            Returned {
                 bench: state::opens(bench, i, number, Line::PutRead { task: task }),
                 answer: Answer::Numbered { number: number },
             }
         }
-        Operation::Take => Reply {
+        Operation::Take => Returned {
             bench: state::opens(bench, i, used, Line::TakeRead),
             answer: Answer::Accepted,
         },
-        Operation::Steal => Reply {
+        Operation::Steal => Returned {
             bench: state::opens(bench, i, used, Line::StealRead),
             answer: Answer::Accepted,
         },
@@ -114,8 +114,14 @@ pub fn begin_stop(bench: Bench, worker: u32, operation: Operation) -> Stop
     Stop::No
 }
 
-pub fn begin(bench: Bench, worker: u32, operation: Operation, store: &[u32], log: &[u32]) -> Reply
-    ensures { λ r. ⌜ left r (now (store .entry)) (now (log .entry)) ≡ beginOf (lent bench (now (store .entry)) (now (log .entry))) worker operation ⌝ }
+pub fn begin(
+    bench: Bench,
+    worker: u32,
+    operation: Operation,
+    store: &[u32],
+    log: &[u32],
+) -> Returned
+    ensures { λ r. ⌜ returned r (now (store .entry)) (now (log .entry)) ≡ beginOf (lent bench (now (store .entry)) (now (log .entry))) worker operation ⌝ }
 {
     if !limits::valid(bench, store, log) {
         return state::refused(bench, Refusal::ForeignState);

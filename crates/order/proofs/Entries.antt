@@ -12,11 +12,11 @@ use Rattle.model.specs.declared.Task.{Task}
 use Rattle.model.specs.declared.Answer.{Answer}
 use Rattle.model.specs.declared.Answer.the-variants.{Accepted, Numbered, GoesOn, Finished, HandedOut, Empty, Full, Refused}
 use Rattle.model.specs.Tests.{if_then_else_}
-use Rattle.model.specs.Answers.{Entry, entryOf, ends}
+use Rattle.model.specs.Answers.{Entry, entryOf, ends, entryWords}
 use Rattle.model.specs.Run.{Played}
 use Rattle.model.specs.Counts.{entryAt}
 use Rattle.theorems.specs.Demand3.{At}
-use Rattle.order.specs.Order.{entryWords, entries}
+use Rattle.order.specs.Order.{entries}
 use Rattle.theorems.proofs.Remainders.{le-or-lt}
 
 -- AN ANSWER BY ITS ENTRY'S KIND. Kind 1 finishes a put, kind 2 hands out

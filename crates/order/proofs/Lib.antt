@@ -6,3 +6,4 @@ pub mod KeptEntries
 pub mod LogOrder
 pub mod FifoOrder
 pub mod NoneLost
+pub mod Listings

@@ -13,13 +13,13 @@ use Rattle.model.specs.declared.Operation.the-variants.{Put, Take, Steal}
 use Rattle.model.specs.declared.Answer.{Answer}
 use Rattle.model.specs.declared.Answer.the-variants.{Refused}
 use Rattle.model.specs.Tests.{if_then_else_, _and_}
-use Rattle.model.specs.Answers.{Entry, entryOf, ends, writeEntry}
+use Rattle.model.specs.Answers.{Entry, entryOf, ends, writeEntry, entryWords}
 use Rattle.model.specs.World.{World, Outcome}
 use Rattle.model.specs.Calls.{beginAnswer, logFull, frontOf, kindOf, Call, callOf, nextEffect}
 use Rattle.model.specs.Run.{played, after}
 use Rattle.model.proofs.Tests.{or-false}
 use Rattle.theorems.specs.Demand3.{FromFresh}
-use Rattle.order.specs.Order.{entryWords, entries, logFront, LogIsAnswers}
+use Rattle.order.specs.Order.{entries, logFront, LogIsAnswers}
 use Rattle.theorems.proofs.Cases.{call-cases}
 use Rattle.theorems.proofs.WholeRun.{whole-run}
 use Rattle.theorems.proofs.Fresh.{start, fresh-is, fresh-started}

@@ -7,7 +7,7 @@ use Prim.Native.Nat.{ℕ, _<_}
 use Rattle.model.specs.declared.Task.{Task}
 use Rattle.model.specs.declared.Answer.the-variants.{Accepted, HandedOut}
 use Rattle.model.specs.Tests.{if_then_else_}
-use Rattle.model.specs.Answers.{Entry, entryOf, ends}
+use Rattle.model.specs.Answers.{entryOf, entryWords, ends}
 use Rattle.model.specs.World.{World}
 use Rattle.model.specs.Calls.{freshOf, frontOf, Call}
 use Rattle.model.specs.Run.{Played, played, after}
@@ -40,9 +40,6 @@ FifoInOrder = FromFifo (λ W. (cs : List Call) → InOrder (played W cs))
 -- THE LOG. Its written front; the four words of an entry; those of the answers of a list, in order
 abbrev pub logFront : World → List ℕ
 logFront W = frontOf (W .bench) (W .log)
-
-abbrev pub entryWords : Entry → List ℕ
-entryWords e = e .kind ∷ e .worker ∷ e .number ∷ e .payload ∷ []
 
 abbrev pub entries : List Played → List ℕ
 entries [] = []

@@ -1,6 +1,6 @@
 -- One round of take and put while a thief waits at its compare: the states of the tightness list.
 use mathlib.Core.Path.{_≡_, refl, _∙_, ap, subst}
-use mathlib.Core.Bool.{Bool, true, false}
+use mathlib.Core.Bool.{Bool, true, false, not}
 use mathlib.Core.List.{List, [], _∷_, _++_}
 use Prim.Native.Nat.{ℕ, suc, _+_, _%_, _^_}
 use native.Mathlib.Numerals.{add-one}
@@ -15,11 +15,11 @@ use Rattle.model.specs.declared.Line.the-variants.{Idle, PutFinish, TakeFinish,
 use Rattle.model.specs.declared.Operation.the-variants.{Put, Take, Steal}
 use Rattle.model.specs.declared.Answer.{Answer}
 use Rattle.model.specs.declared.Answer.the-variants.{Accepted, Numbered, GoesOn, Finished, HandedOut}
-use Rattle.model.specs.declared.Refusal.the-variants.{NoSuchWorker, BusyWorker, IdleWorker, WrongHand, NumbersSpent, LogFull, ForeignState}
-use Rattle.model.specs.Tests.{if_then_else_, unless_then_else_, _and_, _or_}
+use Rattle.model.specs.declared.Refusal.the-variants.{NumbersSpent, LogFull, ForeignState}
+use Rattle.model.specs.Tests.{if_then_else_, _and_, _or_}
 use Rattle.model.specs.Lines.{Effect, eff, anchored, lineStep}
-use Rattle.model.specs.World.{World, Outcome, refuse, resting, lineAt, isIdle}
-use Rattle.model.specs.Calls.{logFull, rightHand, numbersLeft, begun, beginOf, stepped, commit, nextEffect, stepOf, Call, begin, step, callOf}
+use Rattle.model.specs.World.{World, Outcome, refuse, resting, lineAt}
+use Rattle.model.specs.Calls.{logFull, begun, beginIn, beginOf, oneMore, stepped, noRoom, stepIn, stepOf, Call, begin, step, callOf}
 use Rattle.model.specs.Answers.{entry, writeEntry, task}
 use Rattle.model.specs.Memory.{wordAt, setWord, nowhere, offsetAt, sizeAt}
 use Rattle.model.specs.Run.{Played, played, after}
@@ -30,16 +30,8 @@ use Rattle.theorems.proofs.Events.{is-line-1}
 
 -- the calls without the test of refusal 12
 abbrev pub rawOf : World → Call → Outcome
-rawOf U (begin i op) =
-    unless ltb i (U .bench .crew) then refuse U NoSuchWorker
-    else unless rightHand i op then refuse U WrongHand
-    else unless isIdle (lineAt (U .bench .workers) i) then refuse U BusyWorker
-    else unless numbersLeft op (U .bench .used) then refuse U NumbersSpent
-    else begun U i op
-rawOf U (step i) =
-    unless ltb i (U .bench .crew) then refuse U NoSuchWorker
-    else if isIdle (lineAt (U .bench .workers) i) then refuse U IdleWorker
-    else commit U i (nextEffect U i)
+rawOf U (begin i op) = beginIn U i op
+rawOf U (step i) = stepIn U i
 
 pub raw-is : (U : World) (c : Call) → Whole U → callOf U c ≡ rawOf U c
 unfolding beginOf stepOf if_then_else_
@@ -243,11 +235,40 @@ module _ (w n g wr : ℕ) (θ : Line) (x y : ℕ) (rest lg : List ℕ) (roomy : 
   abbrev found : Tagged → ℕ → Task → Effect
   found κ g′ t = eff (anchored (one κ .bench .queue) (anchor (h2 κ) 0 g′)) (x ∷ y ∷ rest) Idle (HandedOut 1 t)
 
+  abbrev compared : Tagged → ℕ → Task → Bool → Effect
+  compared κ g′ t b = if b then found κ g′ t else eff (one κ .bench .queue) (x ∷ y ∷ rest) StealRead GoesOn
+
+  -- what the step leaves, b if it finds the anchor as read
   abbrev won : Tagged → ℕ → Task → Bool → Outcome
-  won κ g′ t b = commit (comparing κ g′ t) 1 (if b then found κ g′ t else eff (one κ .bench .queue) (x ∷ y ∷ rest) StealRead GoesOn)
+  won κ g′ t b =
+      let W = comparing κ g′ t in
+      let E = compared κ g′ t b in
+      let D = stepped W 1 E in
+      if noRoom W E then refuse W LogFull
+      else record {
+        world =
+            record {
+              bench =
+                  record {
+                    kind = D .world .bench .kind;
+                    width = D .world .bench .width;
+                    crew = D .world .bench .crew;
+                    queue = D .world .bench .queue;
+                    used = D .world .bench .used;
+                    restarts = if not b then oneMore (W .bench .restarts) else W .bench .restarts;
+                    written = D .world .bench .written;
+                    workers = D .world .bench .workers;
+                  };
+              store = D .world .store;
+              log = D .world .log;
+            };
+        answer = D .answer;
+      }
 
   abbrev wonEnd : Tagged → ℕ → Task → Bool → Outcome
-  wonEnd κ g′ t b = if b then refuse (comparing κ g′ t) LogFull else stepped (comparing κ g′ t) 1 (found κ g′ t)
+  wonEnd κ g′ t b =
+      if b then refuse (comparing κ g′ t) LogFull
+      else record { world = here κ w (anchor (h2 κ) 0 g′) n (wr + 4) Idle Idle (x ∷ y ∷ rest) (writeEntry lg wr (entry 2 1 t)); answer = HandedOut 1 t }
 
   pub win-run : (κ : Tagged) (g′ : ℕ) (t : Task) → eqb g g′ ≡ true
       → rawOf (here κ w (anchor 0 1 g) n wr Idle (StealCompare (anchor 0 1 g′) (h2 κ) t) (x ∷ y ∷ rest) lg) (step 1)

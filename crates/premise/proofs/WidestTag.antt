@@ -26,12 +26,12 @@ run-count (c ∷ cs) U H J =
     let M = call-moves H J c in
     omega (arith, next-rises _ _ (callOf U c .answer) (M .1), run-count cs (callOf U c .world) (call-whole H c) (M .0))
 
-puts-drop : (T : List Played) (n : ℕ) → puts (drop n T) ≤ puts T
+pub puts-drop : (T : List Played) (n : ℕ) → puts (drop n T) ≤ puts T
 puts-drop T zero = omega arith
 puts-drop [] (suc n) = omega arith
 puts-drop (s ∷ T) (suc n) = omega (arith, puts-drop T n)
 
-puts-take : (T : List Played) (n : ℕ) → puts (take n T) ≤ puts T
+pub puts-take : (T : List Played) (n : ℕ) → puts (take n T) ≤ puts T
 puts-take T zero = omega arith
 puts-take [] (suc n) = omega arith
 puts-take (s ∷ T) (suc n) = omega (arith, puts-take T n)

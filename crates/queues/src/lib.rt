@@ -2,19 +2,22 @@
 // a time in the order that the caller chooses. A bench is a value; each call takes it and hands the
 // next one back, beside the store and the log that the caller lends. A call may be handed any state,
 // any numbers and any memory: it is refused where document 01 says so, and then changes nothing.
-// Uses `model`, `stages`, `lines`, `limits`, `memory`, `state`, `opening` and `machine`. It is used by `exercise` and `pace`.
+// Uses `model`, `answers`, `limits`, `memory`, `state`, `opening` and `machine`. It is used by `plays`, `calls`, `exercise` and
+// `pace`.
 ghost use mathlib.Core.Path.{_≡_};
 ghost use mathlib.Core.List.{List};
 ghost use Prim.Native.Nat.{ℕ};
 ghost use Rattle.model.specs.declared.Answer.the-variants.{Refused};
+ghost use Rattle.model.specs.Answers.{numberOf, entryOf};
 ghost use Rattle.model.specs.Calls.{lent, freshOf, beginOf, stepOf, frontOf};
+ghost use Rattle.answers.specs.Entries.{words};
 ghost use Rattle.queues.specs.Left.{left};
-use lines::Deed;
+use answers::Entry;
+use machine::Made;
 use model::Answer;
 use model::Operation;
 use model::Refusal;
 use model::Worker;
-use state::Stop;
 
 pub struct Bench {
     pub state: model::Bench,
@@ -26,8 +29,22 @@ pub struct Reply {
     pub answer: Answer,
 }
 
+// A refusal's number in document 01's table.
+pub fn number_of(why: Refusal) -> u32
+    ensures { λ r. ⌜ r ≡ numberOf why ⌝ }
+{
+    answers::number_of(why)
+}
+
+// The log entry of an answer that ends an operation; of another answer kind 0.
+pub fn entry_of(answer: Answer) -> Entry
+    ensures { λ r. ⌜ words r ≡ entryOf answer ⌝ }
+{
+    answers::entry_of(answer)
+}
+
 // What a call hands back, with the bench's methods.
-fn faced(reply: state::Reply) -> Reply
+fn reply_of(reply: state::Returned) -> Reply
     ensures { λ r. ⌜ r ≡ record { bench = record { state = reply .bench }; answer = reply .answer } ⌝ }
 {
     let state = reply.bench;
@@ -56,14 +73,14 @@ impl Bench {
     pub fn fresh(kind: u32, width: u32, size: u32, crew: u32, store: &mut [u32]) -> Reply
         ensures { λ r. ⌜ ((l : List ℕ) → left r (now (store .exit)) l ≡ freshOf kind width size crew (now (store .entry)) l) ⌝ }
     {
-        faced(opening::fresh(kind, width, size, crew, store))
+        reply_of(opening::fresh(kind, width, size, crew, store))
     }
 
     // Gives an idle worker an operation; it does no line.
     pub fn begin(self, worker: u32, operation: Operation, store: &[u32], log: &[u32]) -> Reply
         ensures { λ r. ⌜ left r (now (store .entry)) (now (log .entry)) ≡ beginOf (lent (self .state) (now (store .entry)) (now (log .entry))) worker operation ⌝ }
     {
-        faced(opening::begin(self.state, worker, operation, store, log))
+        reply_of(opening::begin(self.state, worker, operation, store, log))
     }
 
     // One line of a worker's operation.
@@ -77,19 +94,25 @@ impl Bench {
         let i = machine::place_of(worker);
         let own = next.workers[i];
         let line = own.line;
-        let stop = machine::step_stop(next.crew, worker, line);
-        if let Stop::Why { why } = stop {
-            return refused(self, why);
-        }
         let kind = next.kind;
         let queue = next.queue;
-        let to = lines::next_line(kind, queue, store, line);
-        let deed = lines::decide(kind, next.width, queue, store, worker, line);
-        let Deed::Nothing = deed else {
-            return faced(machine::apply(next, worker, to, deed, store, log));
+        let moved = machine::step_in(
+            kind,
+            next.width,
+            next.crew,
+            queue,
+            next.written,
+            worker,
+            line,
+            store,
+            log,
+        );
+        let to = moved.line;
+        let made = moved.made;
+        let Made::Nothing = made else {
+            return reply_of(machine::settled(next, i, to, made));
         };
-        // The commonest step changes the worker's record alone: it is replaced in place.
-        next.restarts = stages::count_restart(next.restarts, to);
+        // Most steps change their worker's record alone: it is replaced in place.
         next.workers[i] = Worker { line: to };
         Reply {
             bench: Bench { state: next },

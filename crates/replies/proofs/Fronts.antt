@@ -1,11 +1,11 @@
 -- The store's front, which a bench is lent.
-use Prim.Native.Nat.{ℕ, _≤_, _<_, min}
+use Prim.Native.Nat.{ℕ, _+_, _≤_, _<_, min}
 use native.Mathlib.Omega.{arith}
 use mathlib.Core.Path.{_≡_, refl, ap, sym, _∙_}
 use mathlib.Core.Bool.{Bool, true, false}
 use mathlib.Core.List.{List, _++_, append-nil}
 use lib.Dec.{ltb}
-use lib.ListN.{length, take, drop, take-append-drop, drop-of-length-le}
+use lib.ListN.{length, length-append, take, drop, take-append-drop, drop-of-length-le}
 use lib.Seq.{take-all, take-at, length-take-le}
 use borrow.Author.Tests.{ltb-true, ltb-false}
 
@@ -37,3 +37,9 @@ module _ (w n : ℕ) (m : List ℕ) (e : n ≡ min w (length m)) where
   -- as they were: nothing is changed
   pub unchanged : (p : List ℕ) → p ≡ take n m → p ++ drop n m ≡ m
   unchanged p f = ap (λ (l : List ℕ). l ++ drop n m) f ∙ take-append-drop n m
+
+-- and are as many
+pub back-length : (n : ℕ) (m p : List ℕ) → length p ≡ length (take n m) → length (p ++ drop n m) ≡ length m
+back-length n m p f =
+    length-append p (drop n m) ∙ ap (λ (k : ℕ). k + length (drop n m)) f
+    ∙ sym (length-append (take n m) (drop n m)) ∙ ap length (take-append-drop n m)

@@ -14,23 +14,20 @@ use Rattle.model.specs.declared.Command.the-variants.{Steps}
 use Rattle.model.specs.declared.Counts.{Counts}
 use Rattle.model.specs.Tests.{if_then_else_}
 use Rattle.model.specs.World.{World, Outcome}
-use Rattle.model.specs.Calls.{lent, freshOf, beginOf, commit}
-use Rattle.model.specs.declared.Line.{Line}
-use Rattle.lines.specs.declared.Deed.{Deed}
-use Rattle.lines.specs.Deeds.{enact}
+use Rattle.model.specs.Calls.{lent, freshOf, beginOf}
 use Rattle.state.specs.declared.Stop.{Stop}
 use Rattle.state.specs.declared.Stop.the-variants.{No, Why}
 use Rattle.opening.specs.Begins.{BeginStops}
 use Rattle.model.specs.Counts.{countsOf}
-use Rattle.model.specs.Listing.{Program, Reply, waiting, playing, ended, printed, isRefused, totals, reply, opened, told, respond}
+use Rattle.model.specs.Listing.{Program, Response, waiting, playing, ended, printed, isRefused, totals, response, opened, showing, respond}
 use Rattle.text.specs.Numbers.{lineOf, Placed}
-use Rattle.replies.specs.declared.Judged.the-variants.{Made, Stopped}
+use Rattle.replies.specs.declared.Progress.the-variants.{Made, Stopped}
 use Rattle.replies.specs.declared.Asked.the-variants.{Other, Step}
 use Rattle.replies.specs.declared.Session.{Session}
-use Rattle.replies.specs.declared.Played.{Played}
+use Rattle.replies.specs.declared.Answered.{Answered}
 use Rattle.replies.specs.Shown.{shown, shownAll}
-use Rattle.replies.specs.Sessions.{worldOf, programOf, leftBy, PlayedBy}
-use Rattle.replies.specs.Choices.{judgedOf, askedOf, RefusedAtOnce}
+use Rattle.replies.specs.Sessions.{worldOf, programOf, leftBy, AnsweredBy}
+use Rattle.replies.specs.Choices.{progressOf, askedOf, RefusedAtOnce}
 use Rattle.replies.proofs.Shows.{shows-one}
 use Rattle.replies.proofs.Fronts.{lent-front, given-back, unchanged}
 use Rattle.replies.proofs.Ways.{either, never}
@@ -39,7 +36,7 @@ use Rattle.replies.proofs.Ways.{either, never}
 abbrev pub live : ℕ → Bench → Session
 live w b = record { live = true; words = w; bench = b }
 
-abbrev pub played : Session → ℕ → Played
+abbrev pub played : Session → ℕ → Answered
 played s e = record { session = s; end = e; stops = false }
 
 pub program-live : (s : Session) (m l : List ℕ) → s .live ≡ true → programOf s m l ≡ playing (worldOf s m l)
@@ -55,9 +52,9 @@ unfolding if_then_else_
 left-on b s m l e = ap (λ (x : Bool). leftBy x s m l) e
 
 -- a begin or a step: the bench and its memory as the outcome has them, and the answer's text
-pub told-by : (d : Outcome) (b : Bench) (a : Answer) (w : ℕ) (m l : List ℕ) (e : ℕ) (before : List ℕ) (at : ℕ) (after : List ℕ) → record { world = lent b (take w m) l; answer = a } ≡ d → Placed before at (shownAll (printed a)) e after →
-    PlayedBy (told d) (played (live w b) e) m l before at after
-told-by d b a w m l e before at after o t = record {
+pub shown-by : (d : Outcome) (b : Bench) (a : Answer) (w : ℕ) (m l : List ℕ) (e : ℕ) (before : List ℕ) (at : ℕ) (after : List ℕ) → record { world = lent b (take w m) l; answer = a } ≡ d → Placed before at (shownAll (printed a)) e after →
+    AnsweredBy (showing d) (played (live w b) e) m l before at after
+shown-by d b a w m l e before at after o t = record {
   program = left-on false (live w b) m l refl ∙ program-live (live w b) m l refl ∙ ap (λ (x : Outcome). playing (x .world)) o;
   text = subst (λ (x : Outcome). Placed before at (shownAll (printed (x .answer))) e after) o t;
 }
@@ -67,16 +64,10 @@ pub begun-by : (s b : Bench) (a : Answer) (i : ℕ) (op : Operation) (w n : ℕ)
     record { world = lent b (take w m) l; answer = a } ≡ beginOf (lent s (take w m) l) i op
 begun-by s b a i op w n m l e o = subst (λ (x : List ℕ). record { world = lent b x l; answer = a } ≡ beginOf (lent s x l) i op) (lent-front w n m e) o
 
--- a deed on the words that were lent, p as it leaves them
-pub acted-by : (s b : Bench) (a : Answer) (x : Line) (d : Deed) (i w n : ℕ) (m l p l′ : List ℕ) → n ≡ min w (length m) → length p ≡ length (take n m) → record { world = lent b p l′; answer = a } ≡ commit (lent s (take n m) l) i (enact (s .queue) (take n m) x d) →
-    record { world = lent b (take w (p ++ drop n m)) l′; answer = a } ≡ commit (lent s (take w m) l) i (enact (s .queue) (take w m) x d)
-acted-by s b a x d i w n m l p l′ e f o =
-    ap (λ (y : List ℕ). record { world = lent b y l′; answer = a }) (given-back w n m e p f) ∙ o ∙ ap (λ (y : List ℕ). commit (lent s y l) i (enact (s .queue) y x d)) (lent-front w n m e)
-
 -- a begin that is refused at once
-pub begin-at-once : (v : Bool) (W : World) (i : ℕ) (op : Operation) (c : Command) (r : Stop) → v ≡ true → BeginStops W i op r → respond (playing W) c ≡ told (beginOf W i op) → RefusedAtOnce v W c r
+pub begin-at-once : (v : Bool) (W : World) (i : ℕ) (op : Operation) (c : Command) (r : Stop) → v ≡ true → BeginStops W i op r → respond (playing W) c ≡ showing (beginOf W i op) → RefusedAtOnce v W c r
 begin-at-once v W i op c No h b e = tt
-begin-at-once v W i op c (Why x) h b e = (h, e ∙ ap told b)
+begin-at-once v W i op c (Why x) h b e = (h, e ∙ ap showing b)
 
 -- a `step` while a bench is played asks for steps
 pub asks-steps : (c : Command) (i n : ℕ) → c ≡ Steps i n → askedOf true c ≡ Other → ⊥
@@ -93,30 +84,30 @@ fresh-leaves k w c n m l =
     either (Leaves m) _ _ _ (either (Leaves m) _ _ _ (either (Leaves m) _ _ _ (either (Leaves m) _ _ _ (either (Leaves m) _ _ _
     (λ e. never (sym e)) (λ e. refl)) (λ e. refl)) (λ e. refl)) (λ e. refl)) (λ e. refl)
 
--- `judge` tells a refusal
-pub judged-made : (a : Answer) → judgedOf a ≡ Made → isRefused a ≡ false
-judged-made Accepted e = refl
-judged-made (Numbered n) e = refl
-judged-made GoesOn e = refl
-judged-made (Finished i t) e = refl
-judged-made (HandedOut i t) e = refl
-judged-made (Empty i) e = refl
-judged-made (Full i t) e = refl
-judged-made (Refused r) e = cc
+-- `progress` tells a refusal
+pub progress-made : (a : Answer) → progressOf a ≡ Made → isRefused a ≡ false
+progress-made Accepted e = refl
+progress-made (Numbered n) e = refl
+progress-made GoesOn e = refl
+progress-made (Finished i t) e = refl
+progress-made (HandedOut i t) e = refl
+progress-made (Empty i) e = refl
+progress-made (Full i t) e = refl
+progress-made (Refused r) e = cc
 
-pub judged-stopped : (a : Answer) → judgedOf a ≡ Stopped → isRefused a ≡ true
-judged-stopped Accepted e = cc
-judged-stopped (Numbered n) e = cc
-judged-stopped GoesOn e = cc
-judged-stopped (Finished i t) e = cc
-judged-stopped (HandedOut i t) e = cc
-judged-stopped (Empty i) e = cc
-judged-stopped (Full i t) e = cc
-judged-stopped (Refused r) e = refl
+pub progress-stopped : (a : Answer) → progressOf a ≡ Stopped → isRefused a ≡ true
+progress-stopped Accepted e = cc
+progress-stopped (Numbered n) e = cc
+progress-stopped GoesOn e = cc
+progress-stopped (Finished i t) e = cc
+progress-stopped (HandedOut i t) e = cc
+progress-stopped (Empty i) e = cc
+progress-stopped (Full i t) e = cc
+progress-stopped (Refused r) e = refl
 
--- a reply under another name
-pub played-as : {R S : Reply} {p : Played} {m l before : List ℕ} {at : ℕ} {after : List ℕ} → S ≡ R → PlayedBy R p m l before at after → PlayedBy S p m l before at after
-played-as {p = p} {m} {l} {before} {at} {after} e by = subst (λ (X : Reply). PlayedBy X p m l before at after) (sym e) by
+-- a response under another name
+pub played-as : {R S : Response} {p : Answered} {m l before : List ℕ} {at : ℕ} {after : List ℕ} → S ≡ R → AnsweredBy R p m l before at after → AnsweredBy S p m l before at after
+played-as {p = p} {m} {l} {before} {at} {after} e by = subst (λ (X : Response). AnsweredBy X p m l before at after) (sym e) by
 
 -- `queue`, on the words that were lent, p as fresh leaves them
 module _ (k v c i w n : ℕ) (m l p : List ℕ) (b : Bench) (a : Answer) (e : ℕ) (before : List ℕ) (at : ℕ) (after : List ℕ)
@@ -134,7 +125,7 @@ module _ (k v c i w n : ℕ) (m l p : List ℕ) (b : Bench) (a : Answer) (e : �
   choose : (x : Bool) (P Q : Program) → isRefused (freshOf k v c i (take w m) l .answer) ≡ x → (if isRefused (freshOf k v c i (take w m) l .answer) then P else Q) ≡ (if x then P else Q)
   choose x P Q h = ap (λ (y : Bool). if y then P else Q) h
 
-  pub opened-by : isRefused a ≡ false → PlayedBy (opened (waiting m l) (freshOf k v c i (take w m) l)) (played (live w b) e) (p ++ drop n m) l before at after
+  pub opened-by : isRefused a ≡ false → AnsweredBy (opened (waiting m l) (freshOf k v c i (take w m) l)) (played (live w b) e) (p ++ drop n m) l before at after
   unfolding if_then_else_
   opened-by h = record {
     program =
@@ -144,7 +135,7 @@ module _ (k v c i w n : ℕ) (m l p : List ℕ) (b : Bench) (a : Answer) (e : �
     text = shows;
   }
 
-  pub refused-by : (s : Session) → s .live ≡ false → isRefused a ≡ true → PlayedBy (opened (waiting m l) (freshOf k v c i (take w m) l)) (played s e) (p ++ drop n m) l before at after
+  pub refused-by : (s : Session) → s .live ≡ false → isRefused a ≡ true → AnsweredBy (opened (waiting m l) (freshOf k v c i (take w m) l)) (played s e) (p ++ drop n m) l before at after
   unfolding if_then_else_
   refused-by s q h =
       let same : p ≡ take n m = ap (λ (x : Outcome). x .world .store) made ∙ fresh-leaves k v c i (take n m) l (ap (λ (d : Outcome). isRefused (d .answer)) (sym made) ∙ h) in record {
@@ -157,7 +148,7 @@ module _ (k v c i w n : ℕ) (m l p : List ℕ) (b : Bench) (a : Answer) (e : �
 -- `end`: the counts of the words that were lent
 pub total-by : (s : Session) (n : ℕ) (m l : List ℕ) (c : Counts) (e : ℕ) (before : List ℕ) (at : ℕ) (after : List ℕ) → n ≡ min (s .words) (length m) → c ≡ countsOf (lent (s .bench) (take n m) l) →
     Placed before at (lineOf 84 (c .finished ∷ c .handouts ∷ c .different ∷ c .restarts ∷ c .window ∷ c .lost ∷ [])) e after →
-    PlayedBy (reply ended (totals (countsOf (worldOf s m l)) ∷ [])) (record { session = s; end = e; stops = true }) m l before at after
+    AnsweredBy (response ended (totals (countsOf (worldOf s m l)) ∷ [])) (record { session = s; end = e; stops = true }) m l before at after
 unfolding if_then_else_ shown
 total-by s n m l c e before at after h f t = record {
   program = refl;

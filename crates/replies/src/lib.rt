@@ -1,14 +1,13 @@
 // One line of the program's input: what it does to the bench that is played, and what it prints. Of `step` only parts are here;
 // `listing` puts it together.
-// Uses `model`, `lines`, `state`, `opening`, `machine`, `text` and `counts`. It is used by `listing` and `bench`.
+// Uses `model`, `answers`, `state`, `opening`, `text` and `counts`. It is used by `listing` and `bench`.
 ghost use mathlib.Core.Path.{_≡_};
 ghost use mathlib.Core.Bool.{true, false};
 ghost use mathlib.Core.List.{List, [], _∷_};
-ghost use Prim.Native.Nat.{ℕ, _+_, _≤_, _<_, min};
+ghost use Prim.Native.Nat.{ℕ, _+_, _≤_, min};
 ghost use lib.ListN.{length, take};
-ghost use Rattle.model.specs.Answers.{numberOf};
 ghost use Rattle.model.specs.Limits.{validOf};
-ghost use Rattle.model.specs.Calls.{lent, freshOf, beginOf, commit};
+ghost use Rattle.model.specs.Calls.{lent, freshOf, beginOf};
 ghost use Rattle.model.specs.Counts.{countsOf};
 ghost use Rattle.model.specs.Listing.{
   waiting,
@@ -16,29 +15,26 @@ ghost use Rattle.model.specs.Listing.{
   ended,
   printed,
   totals,
-  reply,
+  response,
   opened,
-  told,
+  showing,
   bad,
   respond,
 };
-ghost use Rattle.lines.specs.Deeds.{enact, InStore};
-ghost use Rattle.state.specs.Left.{left};
 ghost use Rattle.text.specs.Numbers.{Placed};
 ghost use Rattle.replies.specs.declared.Asked.the-variants.{Other};
 ghost use Rattle.replies.specs.Shown.{shownAll};
-ghost use Rattle.replies.specs.Sessions.{worldOf, programOf, PlayedBy};
-ghost use Rattle.replies.specs.Choices.{judgedOf, refusalOf, askedOf, RefusedAtOnce};
-use lines::Deed;
+ghost use Rattle.replies.specs.Sessions.{worldOf, programOf, AnsweredBy};
+ghost use Rattle.replies.specs.Choices.{progressOf, askedOf, RefusedAtOnce};
 use model::Answer;
 use model::Bench;
 use model::Command;
-use model::Line;
 use model::Operation;
 use model::Refusal;
 use state::Stop;
 
-// The longest text of a line, in bytes: `T` and six counts. A line is played only where the output has room for it.
+// Room enough for the text of any line, in bytes: the longest, `T` and six counts, has 68. A line is played only where the output
+// has room for it.
 pub const LONGEST: usize = 72;
 
 // The program between two lines: whether a `queue` was accepted, and then its bench, on the first `words` words of the store.
@@ -54,14 +50,14 @@ pub enum Asked {
     Step { worker: u32, times: u32 },
 }
 
-// Whether a step was made or refused.
-pub enum Judged {
+// Whether a bench was made or refused.
+enum Progress {
     Made,
     Stopped,
 }
 
 // What a line left: the session, where its text ends in the output, whether it was an accepted `end`.
-pub struct Played {
+pub struct Answered {
     pub session: Session,
     pub end: usize,
     pub stops: bool,
@@ -92,27 +88,6 @@ pub fn span(words: u32, store: &[u32]) -> usize
     store.len()
 }
 
-// A refusal's number in document 01's table.
-fn number_of(why: Refusal) -> u32
-    ensures { λ r. ⌜ r ≡ numberOf why ⌝ }
-{
-    match why {
-        Refusal::UnknownQueue => 1,
-        Refusal::TagWidth => 2,
-        Refusal::ArraySize => 3,
-        Refusal::Crew => 4,
-        Refusal::ShortStore => 5,
-        Refusal::NoSuchWorker => 6,
-        Refusal::BusyWorker => 7,
-        Refusal::IdleWorker => 8,
-        Refusal::WrongHand => 9,
-        Refusal::NumbersSpent => 10,
-        Refusal::LogFull => 11,
-        Refusal::ForeignState => 12,
-        Refusal::BadLine => 13,
-    }
-}
-
 // Puts what an answer prints into the output from `at` on, and answers where it ends.
 pub fn show(answer: Answer, out: &mut [u8], at: usize) -> usize
     requires { ⌜ at + length (shownAll (printed answer)) ≤ length (now out) ⌝ }
@@ -139,46 +114,36 @@ pub fn show(answer: Answer, out: &mut [u8], at: usize) -> usize
             text::print(out, at, b'F', &v)
         }
         Answer::Refused { why } => {
-            let v = [number_of(why)];
+            let v = [answers::number_of(why)];
             text::print(out, at, b'R', &v)
         }
     }
 }
 
-pub fn judge(answer: Answer) -> Judged
-    ensures { λ r. ⌜ r ≡ judgedOf answer ⌝ }
+fn progress_of(answer: Answer) -> Progress
+    ensures { λ r. ⌜ r ≡ progressOf answer ⌝ }
 {
     match answer {
-        Answer::Accepted => Judged::Made,
-        Answer::Numbered { number: _ } => Judged::Made,
-        Answer::GoesOn => Judged::Made,
-        Answer::Finished { worker: _, task: _ } => Judged::Made,
-        Answer::HandedOut { worker: _, task: _ } => Judged::Made,
-        Answer::Empty { worker: _ } => Judged::Made,
-        Answer::Full { worker: _, task: _ } => Judged::Made,
-        Answer::Refused { why: _ } => Judged::Stopped,
-    }
-}
-
-// What a step that is refused answers.
-pub fn refusal_of(stop: Stop) -> Answer
-    ensures { λ r. ⌜ r ≡ refusalOf stop ⌝ }
-{
-    match stop {
-        Stop::No => Answer::GoesOn,
-        Stop::Why { why } => Answer::Refused { why },
+        Answer::Accepted => Progress::Made,
+        Answer::Numbered { number: _ } => Progress::Made,
+        Answer::GoesOn => Progress::Made,
+        Answer::Finished { worker: _, task: _ } => Progress::Made,
+        Answer::HandedOut { worker: _, task: _ } => Progress::Made,
+        Answer::Empty { worker: _ } => Progress::Made,
+        Answer::Full { worker: _, task: _ } => Progress::Made,
+        Answer::Refused { why: _ } => Progress::Stopped,
     }
 }
 
 // A line of no form, or out of place: 13.
-fn refuse(session: Session, out: &mut [u8], at: usize) -> Played
+fn refuse(session: Session, out: &mut [u8], at: usize) -> Answered
     requires { ⌜ at + 72 ≤ length (now out) ⌝ }
-    ensures { λ r. ⌜ ((m l : List ℕ) → PlayedBy (bad (programOf session m l)) r m l (now (out .entry)) at (now (out .exit))) ⌝ }
+    ensures { λ r. ⌜ ((m l : List ℕ) → AnsweredBy (bad (programOf session m l)) r m l (now (out .entry)) at (now (out .exit))) ⌝ }
 {
     let why = Refusal::BadLine;
     let answer = Answer::Refused { why };
     let end = show(answer, out, at);
-    Played {
+    Answered {
         session,
         end,
         stops: false,
@@ -196,12 +161,12 @@ fn open_queue(
     store: &mut [u32],
     out: &mut [u8],
     at: usize,
-) -> Played
+) -> Answered
     requires { ⌜ (at + 72 ≤ length (now out)) × (session .live ≡ false) ⌝ }
     ensures { λ r.
         ⌜
         ((l : List ℕ) →
-        PlayedBy (opened (waiting (now (store .entry)) l) (freshOf kind width size workers (take words (now (store .entry))) l))
+        AnsweredBy (opened (waiting (now (store .entry)) l) (freshOf kind width size workers (take words (now (store .entry))) l))
         r (now (store .exit)) l (now (out .entry)) at (now (out .exit)))
         ⌝ }
 {
@@ -209,8 +174,8 @@ fn open_queue(
     let made = opening::fresh(kind, width, size, workers, &mut store[..n]);
     let answer = made.answer;
     let end = show(answer, out, at);
-    let Judged::Made = judge(answer) else {
-        return Played {
+    let Progress::Made = progress_of(answer) else {
+        return Answered {
             session,
             end,
             stops: false,
@@ -219,7 +184,7 @@ fn open_queue(
     let live = true;
     let bench = made.bench;
     let next = Session { live, words, bench };
-    Played {
+    Answered {
         session: next,
         end,
         stops: false,
@@ -235,11 +200,11 @@ fn begin(
     log: &[u32],
     out: &mut [u8],
     at: usize,
-) -> Played
+) -> Answered
     requires { ⌜ at + 72 ≤ length (now out) ⌝ }
     ensures { λ r.
         ⌜
-        PlayedBy (told (beginOf (worldOf session (now (store .entry)) (now (log .entry))) worker operation))
+        AnsweredBy (showing (beginOf (worldOf session (now (store .entry)) (now (log .entry))) worker operation))
         r (now (store .entry)) (now (log .entry)) (now (out .entry)) at (now (out .exit))
         ⌝ }
 {
@@ -255,42 +220,19 @@ fn begin(
         words,
         bench: next,
     };
-    Played {
+    Answered {
         session: after,
         end,
         stops: false,
     }
 }
 
-// Does a deed on the first `words` words of the store; its worker comes to `line`.
-pub fn do_deed(
-    words: u32,
-    bench: Bench,
-    worker: u32,
-    line: Line,
-    deed: Deed,
-    store: &mut [u32],
-    log: &mut [u32],
-) -> state::Reply
-    requires { ⌜ (worker < 8) × (bench .queue .published ≤ 11) ⌝ }
-    requires { ⌜ InStore (bench .queue) (length (take words (now store))) deed ⌝ }
-    ensures { λ r.
-        ⌜
-        left r (take words (now (store .exit))) (now (log .exit))
-        ≡ commit (lent bench (take words (now (store .entry))) (now (log .entry))) worker
-        (enact (bench .queue) (take words (now (store .entry))) line deed)
-        ⌝ }
-{
-    let n = span(words, store);
-    machine::apply(bench, worker, line, deed, &mut store[..n], log)
-}
-
 // `end`: the six counts.
-fn total(session: Session, store: &[u32], log: &[u32], out: &mut [u8], at: usize) -> Played
+fn total(session: Session, store: &[u32], log: &[u32], out: &mut [u8], at: usize) -> Answered
     requires { ⌜ at + 72 ≤ length (now out) ⌝ }
     ensures { λ r.
         ⌜
-        PlayedBy (reply ended (totals (countsOf (worldOf session (now (store .entry)) (now (log .entry)))) ∷ []))
+        AnsweredBy (response ended (totals (countsOf (worldOf session (now (store .entry)) (now (log .entry)))) ∷ []))
         r (now (store .entry)) (now (log .entry)) (now (out .entry)) at (now (out .exit))
         ⌝ }
 {
@@ -306,7 +248,7 @@ fn total(session: Session, store: &[u32], log: &[u32], out: &mut [u8], at: usize
         c.lost,
     ];
     let end = text::print(out, at, b'T', &v);
-    Played {
+    Answered {
         session,
         end,
         stops: true,
@@ -320,12 +262,12 @@ fn play_waiting(
     store: &mut [u32],
     out: &mut [u8],
     at: usize,
-) -> Played
+) -> Answered
     requires { ⌜ (at + 72 ≤ length (now out)) × (session .live ≡ false) ⌝ }
     ensures { λ r.
         ⌜
         ((l : List ℕ) →
-        PlayedBy (respond (waiting (now (store .entry)) l) command) r (now (store .exit)) l (now (out .entry)) at (now (out .exit)))
+        AnsweredBy (respond (waiting (now (store .entry)) l) command) r (now (store .exit)) l (now (out .entry)) at (now (out .exit)))
         ⌝ }
 {
     let Command::Open {
@@ -349,12 +291,12 @@ fn play_live(
     log: &mut [u32],
     out: &mut [u8],
     at: usize,
-) -> Played
+) -> Answered
     requires { ⌜ (at + 72 ≤ length (now out)) × (session .live ≡ true) ⌝ }
     requires { ⌜ askedOf true command ≡ Other ⌝ }
     ensures { λ r.
         ⌜
-        PlayedBy (respond (playing (worldOf session (now (store .entry)) (now (log .entry)))) command)
+        AnsweredBy (respond (playing (worldOf session (now (store .entry)) (now (log .entry)))) command)
         r (now (store .exit)) (now (log .exit)) (now (out .entry)) at (now (out .exit))
         ⌝ }
 {
@@ -385,12 +327,12 @@ pub fn play(
     log: &mut [u32],
     out: &mut [u8],
     at: usize,
-) -> Played
+) -> Answered
     requires { ⌜ at + 72 ≤ length (now out) ⌝ }
     requires { ⌜ askedOf (session .live) command ≡ Other ⌝ }
     ensures { λ r.
         ⌜
-        PlayedBy (respond (programOf session (now (store .entry)) (now (log .entry))) command)
+        AnsweredBy (respond (programOf session (now (store .entry)) (now (log .entry))) command)
         r (now (store .exit)) (now (log .exit)) (now (out .entry)) at (now (out .exit))
         ⌝ }
 {

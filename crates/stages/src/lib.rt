@@ -1,8 +1,8 @@
-// Where a worker stands in its operation, and whether a line that it comes to counts as a restart.
-// Uses `model`. It is used by `limits`, `state`, `opening`, `machine`, `queues` and `listing`.
+// Where a worker stands in its operation, and the counter of restarts.
+// Uses `model`. It is used by `limits`, `opening` and `machine`.
 ghost use mathlib.Core.Path.{_≡_};
-ghost use Rattle.model.specs.World.{stage, isIdle, isSteal1};
-ghost use Rattle.model.specs.Calls.{restarted};
+ghost use Rattle.model.specs.World.{stage, isIdle};
+ghost use Rattle.model.specs.Calls.{oneMore};
 use model::Line;
 
 // Where a worker stands in its operation: the numbers are those of the definition.
@@ -57,20 +57,10 @@ pub fn is_idle(line: Line) -> bool
     stage(line) == 0
 }
 
-// A thief at its line 1.
-fn is_steal1(line: Line) -> bool
-    ensures { λ r. ⌜ r ≡ isSteal1 line ⌝ }
+// One more restart; the counter stays at its ceiling.
+pub fn one_more(restarts: u32) -> u32
+    ensures { λ r. ⌜ r ≡ oneMore restarts ⌝ }
 {
-    stage(line) == 4
-}
-
-// Only a compare that fails leaves a thief at its line 1: it counts as a restart. The counter stays at its ceiling.
-pub fn count_restart(restarts: u32, line: Line) -> u32
-    ensures { λ r. ⌜ r ≡ restarted restarts line ⌝ }
-{
-    if !is_steal1(line) {
-        return restarts;
-    }
     if restarts == 4294967295 {
         return restarts;
     }

@@ -2,9 +2,7 @@
 use Prim.Native.Nat.{ℕ}
 use lib.ListN.{set}
 use Rattle.model.specs.declared.Line.{Line}
-use Rattle.model.specs.declared.Queue.{Queue}
 use Rattle.model.specs.declared.Bench.{Bench}
-use Rattle.model.specs.Calls.{restarted}
 
 -- worker i begins at the line l; u put numbers are used
 abbrev pub opened : Bench → ℕ → ℕ → Line → Bench
@@ -17,19 +15,5 @@ opened b i u l =
       used = u;
       restarts = b .restarts;
       written = b .written;
-      workers = set (b .workers) i (record { line = l });
-    }
-
--- worker i comes to the line l, and leaves the queue q and n words of the log written
-abbrev pub moved : Bench → ℕ → Queue → Line → ℕ → Bench
-moved b i q l n =
-    record {
-      kind = b .kind;
-      width = b .width;
-      crew = b .crew;
-      queue = q;
-      used = b .used;
-      restarts = restarted (b .restarts) l;
-      written = n;
       workers = set (b .workers) i (record { line = l });
     }

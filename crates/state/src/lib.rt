@@ -1,12 +1,12 @@
 // What a call hands back, and the pieces of a bench that the calls put together: a state made anew or with one worker's record replaced, and the queue with
 // another anchor or one array more. Each is a definition's short name, as code.
-// Uses `model` and `stages`. It is used by `opening`, `machine`, `queues`, `replies` and `listing`.
+// Uses `model`. It is used by `opening`, `machine`, `queues`, `replies` and `listing`.
 ghost use mathlib.Core.Path.{_≡_};
 ghost use Prim.Native.Nat.{_≤_, _<_};
 ghost use Rattle.model.specs.declared.Answer.the-variants.{Refused};
 ghost use Rattle.model.specs.Lines.{anchored, publishing};
 ghost use Rattle.model.specs.Calls.{blank, noBench};
-ghost use Rattle.state.specs.Pieces.{opened, moved};
+ghost use Rattle.state.specs.Pieces.{opened};
 use model::Anchor;
 use model::Answer;
 use model::Bench;
@@ -18,7 +18,7 @@ use model::Region;
 use model::Worker;
 
 // What a call hands back: the next state, and the answer.
-pub struct Reply {
+pub struct Returned {
     pub bench: Bench,
     pub answer: Answer,
 }
@@ -30,11 +30,11 @@ pub enum Stop {
 }
 
 // A refusal hands the state back as it came in.
-pub fn refused(bench: Bench, why: Refusal) -> Reply
+pub fn refused(bench: Bench, why: Refusal) -> Returned
     ensures { λ r. ⌜ r ≡ record { bench = bench; answer = Refused why } ⌝ }
 {
     let answer = Answer::Refused { why: why };
-    Reply {
+    Returned {
         bench: bench,
         answer: answer,
     }
@@ -88,20 +88,6 @@ pub fn opens(bench: Bench, worker: usize, used: u32, line: Line) -> Bench
 {
     let mut next = bench;
     next.used = used;
-    next.workers[worker] = Worker { line: line };
-    next
-}
-
-// The state after a worker's line: its record is replaced, with what the line left.
-pub fn moves(bench: Bench, worker: usize, queue: Queue, line: Line, written: u32) -> Bench
-    requires { ⌜ worker < 8 ⌝ }
-    ensures { λ r. ⌜ r ≡ moved bench worker queue line written ⌝ }
-{
-    let restarts = stages::count_restart(bench.restarts, line);
-    let mut next = bench;
-    next.queue = queue;
-    next.restarts = restarts;
-    next.written = written;
     next.workers[worker] = Worker { line: line };
     next
 }

@@ -3,7 +3,7 @@ use Prim.Native.Nat.{ℕ, suc, _+_, _-_, _*_, _^_, _≤_, _<_}
 use native.Mathlib.Omega.{arith}
 use native.Mathlib.Nat.{pow-suc, pow-le-pow-right, mul-le-mul-right, le-trans, mul-assoc, mul-comm, le-of-eq, lt-of-lt-of-le}
 use mathlib.Core.Path.{_≡_, refl, ap, sym, subst, _∙_}
-use mathlib.Core.Bool.{Bool, true, false, not}
+use mathlib.Core.Bool.{Bool, true, false}
 use mathlib.Core.List.{List, [], _∷_, _++_}
 use lib.ListN.{length, getD}
 use lib.Dec.{T, leb, ltb, eqb}
@@ -12,13 +12,11 @@ use Rattle.model.specs.Tests.{_and_, if_then_else_}
 use Rattle.text.specs.Same.{same}
 use Rattle.text.specs.Numbers.{allDigits, plain, onward, valueOf, decimalOf, spacedOf}
 use Rattle.text.specs.Words.{onto, words, head, tail}
-use Rattle.text.specs.Commands.{Values, wrong, these, joined, values, formed, formedOf, keyOf, commandOf, textOf, InRange}
+use Rattle.text.specs.Commands.{Values, wrong, these, joined, values, formed, formedOf, keyOf, commandOf, textOf, Says}
 use Rattle.text.specs.declared.Value.{Value}
 use Rattle.text.specs.declared.Value.the-variants.{No, Of}
 use Rattle.text.specs.declared.Key as key
 use Rattle.text.specs.declared.Key.{Key}
-use Rattle.model.specs.declared.Command.the-variants.{Bad, BeginPut, BeginSteal, BeginTake, End, Open, Steps}
-use Rattle.model.specs.declared.Command.{Command}
 use Rattle.text.proofs.Lists.{if-true, if-false, and-left, and-right, next, done}
 use Rattle.text.proofs.Split.{split}
 use Rattle.text.proofs.Long.{onward-pow}
@@ -173,16 +171,6 @@ unfolding keyOf
 named w =
     pick (Named w) _ _ _ (same-is w _) (pick (Named w) _ _ _ (same-is w _) (pick (Named w) _ _ _ (same-is w _)
     (pick (Named w) _ _ _ (same-is w _) (pick (Named w) _ _ _ (same-is w _) (pick (Named w) _ _ _ (same-is w _) tt)))))
-
--- a line that says the command, within its ranges
-abbrev pub Says : List ℕ → Command → Type 0
-Says l Bad = Unit {0}
-Says l (Open k w c n s) = (l ≡ textOf (Open k w c n s)) × InRange (Open k w c n s)
-Says l (BeginPut p) = (l ≡ textOf (BeginPut p)) × InRange (BeginPut p)
-Says l BeginTake = (l ≡ textOf BeginTake) × InRange BeginTake
-Says l (BeginSteal i) = (l ≡ textOf (BeginSteal i)) × InRange (BeginSteal i)
-Says l (Steps i m) = (l ≡ textOf (Steps i m)) × InRange (Steps i m)
-Says l End = (l ≡ textOf End) × InRange End
 
 none : (v : List ℕ) → eqb (length v) 0 ≡ true → v ≡ []
 none v e = let q : length v ≡ 0 = eqb-true _ _ e in done v 0 (omega arith)

@@ -1,4 +1,5 @@
 -- What a line of input says.
+use mathlib.Core.Path.{_≡_}
 use Prim.Native.Nat.{ℕ, _≤_}
 use mathlib.Core.List.{List, [], _∷_, _++_}
 use lib.ListN.{length, getD}
@@ -81,3 +82,13 @@ InRange BeginTake = Unit {0}
 InRange (BeginSteal i) = i ≤ 4294967295
 InRange (Steps i m) = (i ≤ 4294967295) × (m ≤ 65535)
 InRange End = Unit {0}
+
+-- the line l says the command; nothing is said of a bad line
+abbrev pub Says : List ℕ → Command → Type 0
+Says l Bad = Unit {0}
+Says l (Open k w c n s) = (l ≡ textOf (Open k w c n s)) × InRange (Open k w c n s)
+Says l (BeginPut p) = (l ≡ textOf (BeginPut p)) × InRange (BeginPut p)
+Says l BeginTake = (l ≡ textOf BeginTake) × InRange BeginTake
+Says l (BeginSteal i) = (l ≡ textOf (BeginSteal i)) × InRange (BeginSteal i)
+Says l (Steps i m) = (l ≡ textOf (Steps i m)) × InRange (Steps i m)
+Says l End = (l ≡ textOf End) × InRange End

@@ -1,5 +1,5 @@
 // Lines of text: a command line's bytes read as a command, and a line of output written.
-// Uses `model`. It is used by `replies` and `listing`.
+// Uses `model`. It is used by `replies`, `listing` and `call_text`.
 ghost use mathlib.Core.Path.{_≡_};
 ghost use Prim.Native.Nat.{_+_, _≤_, _<_};
 ghost use lib.ListN.{length, take, drop};

@@ -111,7 +111,7 @@ History = List Event
 abbrev pub Out : Task → History → Type 0
 Out t h = (i : ℕ) × List·Memᴰ (handed-out i t) h
 
--- puts finished puts-since worker i's newest line 1
+-- puts finished since worker i's newest line 1
 abbrev pub puts-since-event : ℕ → Event → ℕ → ℕ
 puts-since-event i quiet n = n
 puts-since-event i (line-1 j) n = cond (eqb j i) 0 n

@@ -33,7 +33,7 @@ use Rattle.theorems.proofs.Shape.{Bounded, Spent}
 use Rattle.theorems.proofs.Valid.{Whole}
 use Rattle.theorems.proofs.SoundRun.{InvOf}
 
--- what an accepted fresh was handed-out
+-- what an accepted fresh was given
 pub record Given (w c n : ℕ) (m : List ℕ) : Type 0 where
   pub width : (0 < w) × (w ≤ 16)
   pub test : isSize 10 c ≡ true

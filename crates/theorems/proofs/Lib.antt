@@ -25,5 +25,4 @@ pub mod PutNumbers
 pub mod NeverForeign
 pub mod Reached
 pub mod NothingLost
-pub mod Contracts
 pub mod Restarts

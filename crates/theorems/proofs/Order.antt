@@ -38,7 +38,7 @@ pub record Rising (v : View) (lo : ℕ) (h : History) : Type 0 where
   pub given : (i : ℕ) → v .own-lo ≤ i → i < top → Given (word v i 0) h
   pub above : (i n : ℕ) → v .own-lo ≤ i → top ≤ i → i < v .own-hi → Given n h → n < word v i 0
   pub rise : (i j : ℕ) → v .own-lo ≤ i → i < j → j < v .own-hi → word v i 0 < word v j 0
-  pub honest : (n : ℕ) → Given n h → (t : Task) × List·Memᴰ (finished-put t) h × (t .number ≡ n)
+  pub justified : (n : ℕ) → Given n h → (t : Task) × List·Memᴰ (finished-put t) h × (t .number ≡ n)
   pub rises : Rises h
 
 -- only FIFO keeps it
@@ -98,7 +98,7 @@ rising-ev {v} {lo} {h} e c R =
       given = λ i p q. given-later e (R .given i p q);
       above = λ i n p q r g. R .above i n p q r (given-before e c g);
       rise = R .rise;
-      honest = λ n g. let (t, d, q) = R .honest n (given-before e c g) in (t, List·Memᴰ·tail d, q);
+      justified = λ n g. let (t, d, q) = R .justified n (given-before e c g) in (t, List·Memᴰ·tail d, q);
       rises = (in-turn e h c, R .rises);
     }
 
@@ -124,7 +124,7 @@ rising-view {v} {lo} {h} v′ l e same R =
       given = λ i p q. rw (same i p (omega (arith, R .cap))) (R .given i (omega arith) q);
       above = λ i n p q r g. rw (same i p (omega (arith, e))) (R .above i n (omega arith) q (omega (arith, e)) g);
       rise = λ i j p q r. rw (same i p (omega (arith, e)), same j (omega arith) (omega (arith, e))) (R .rise i j (omega arith) q (omega (arith, e)));
-      honest = R .honest;
+      justified = R .justified;
       rises = R .rises;
     }
 
@@ -146,14 +146,14 @@ rising-put {v} {lo} {h} t newer whole is R =
       given = λ i p q. given-later (finished-put t) (R .given i p q);
       above = λ i n p q r g. higher i n p q r (given-before (finished-put t) tt g) (le-or-lt (v .own-hi) i);
       rise = λ i j p q r. climb i j p q r (le-or-lt (v .own-hi) j);
-      honest = λ n g. let (u, d, q) = R .honest n (given-before (finished-put t) tt g) in (u, List·Memᴰ·tail d, q);
+      justified = λ n g. let (u, d, q) = R .justified n (given-before (finished-put t) tt g) in (u, List·Memᴰ·tail d, q);
       rises = (tt, R .rises);
     }
   where
     higher : (i n : ℕ) → v .own-lo ≤ i → R .top ≤ i → i < v .own-hi + 1 → Given n h → (v .own-hi ≤ i) ⊎ (i < v .own-hi) → n < word v i 0
     higher i n p q r g (inr x) = R .above i n p q x g
     higher i n p q r g (inl x) =
-        let (u, d, e) = R .honest n g in
+        let (u, d, e) = R .justified n g in
         subst (λ (k : ℕ). n < word v k 0) {x = v .own-hi} {y = i} (omega arith) (omega (arith, is, newer u d, e))
 
     climb : (i j : ℕ) → v .own-lo ≤ i → i < j → j < v .own-hi + 1 → (v .own-hi ≤ j) ⊎ (j < v .own-hi) → word v i 0 < word v j 0
@@ -186,7 +186,7 @@ rising-out {v} {lo} {h} k n own-lo t l u r up is done R = go (le-or-lt (R .top) 
       where
         by : (t .number ≡ m) ⊎ Given m h → (u : Task) × List·Memᴰ (finished-put u) (e ∷ h) × (u .number ≡ m)
         by (inl q) = (t, List·Memᴰ·tail done, q)
-        by (inr g) = let (u, d, q) = R .honest m g in (u, List·Memᴰ·tail d, q)
+        by (inr g) = let (u, d, q) = R .justified m g in (u, List·Memᴰ·tail d, q)
 
     -- an index above n that was not handed out has a larger number
     over : (i m : ℕ) → own-lo ≤ i → R .top ≤ i → n < i → i < v .own-hi → Given m (e ∷ h) → m < word v i 0
@@ -205,7 +205,7 @@ rising-out {v} {lo} {h} k n own-lo t l u r up is done R = go (le-or-lt (R .top) 
           given = λ i p q. given-later e (R .given i (omega arith) q);
           above = λ i m p q c g. over i m p q (omega arith) c g;
           rise = λ i j p q c. R .rise i j (omega arith) q c;
-          honest = fair;
+          justified = fair;
           rises = (inl (subst (λ (m : ℕ). Given m h) (sym is) (R .given n l b)), R .rises);
         }
     go (inl b) =
@@ -216,7 +216,7 @@ rising-out {v} {lo} {h} k n own-lo t l u r up is done R = go (le-or-lt (R .top) 
           given = λ i p q. reach i p q (le-or-lt n i);
           above = λ i m p q c g. over i m p (omega arith) (omega arith) c g;
           rise = λ i j p q c. R .rise i j (omega arith) q c;
-          honest = fair;
+          justified = fair;
           rises = (inr (λ m g. subst (λ (x : ℕ). m < x) (sym is) (R .above n m l b r g)), R .rises);
         }
       where
@@ -234,7 +234,7 @@ order-fresh Fifo v a b =
       given = λ i p q. absurd (omega arith);
       above = λ i n p q r g. absurd (List·Memᴰ·not-nil (g .2));
       rise = λ i j p q r. absurd (omega (arith, b));
-      honest = λ n g. absurd (List·Memᴰ·not-nil (g .2));
+      justified = λ n g. absurd (List·Memᴰ·not-nil (g .2));
       rises = tt;
     }
 order-fresh Deque v a b = tt

@@ -19,7 +19,7 @@ EventAt [] j e = ⊥
 EventAt (x ∷ l) zero e = x ≡ e
 EventAt (x ∷ l) (suc j) e = EventAt l j e
 
--- place l is that of the newest line 1 of worker i before place j: the attempt that ends or compares at j began-put there
+-- place l is that of the newest line 1 of worker i before place j: the attempt that ends or compares at j began there
 pub record EventLine1 (T : List Event) (i l j : ℕ) : Type 0 where
   pub before : l < j
   pub here : EventAt T l (line-1 i)

@@ -1,7 +1,6 @@
--- Only a compare that fails leaves a thief at its line 1.
-use mathlib.Core.Path.{_≡_, refl, ap}
+-- Restarts are compares that fail; only these leave a thief at its line 1.
+use mathlib.Core.Path.{_≡_, refl}
 use mathlib.Core.Bool.{Bool, true, false, not}
-use mathlib.Core.List.{List}
 use Prim.Native.Nat.{ℕ, _+_, _-_}
 use lib.Dec.{eqb}
 use Rattle.model.specs.declared.Kind.{Kind}
@@ -34,17 +33,16 @@ use Rattle.model.specs.declared.Line.the-variants.{
   StealNext,
   StealCompare,
 }
-use Rattle.model.specs.declared.Queue.{Queue}
 use Rattle.model.specs.declared.Task.{Task}
 use Rattle.model.specs.declared.Anchor.{Anchor}
 use Rattle.model.specs.declared.Refusal.{Refusal}
 use Rattle.model.specs.declared.Answer.the-variants.{Refused}
 use Rattle.model.specs.Tests.{if_then_else_}
 use Rattle.model.specs.Figures.{isFull, isEmpty, isSame, putRead, takeRead, stealRead, note, stealLast}
-use Rattle.model.specs.Lines.{Effect, size, fits, lineStep}
-use Rattle.model.specs.World.{Outcome, lineAt, isSteal1}
+use Rattle.model.specs.Lines.{Effect, size, fits, lineStep, failsCompare}
+use Rattle.model.specs.World.{Outcome, lineAt}
 use Rattle.model.specs.Calls.{oneMore}
-use Rattle.theorems.specs.Restarts.{failsCompare, RestartsAreFailedCompares}
+use Rattle.theorems.specs.Restarts.{RestartsAreFailedCompares, isSteal1, BackToLine1}
 use Rattle.theorems.proofs.Cases.{step-cases}
 
 -- neither of two lines is a thief's line 1
@@ -89,33 +87,33 @@ unfolding if_then_else_
 back true a b e f = e
 back false a b e f = f
 
-pub retries : (κ : Kind) (w : ℕ) (q : Queue) (m : List ℕ) (i : ℕ) (l : Line) → isSteal1 (lineStep κ w q m i l .line) ≡ failsCompare κ (q .anchor) l
+pub back-to-line-1 : BackToLine1
 unfolding lineStep
-retries κ w q m i Idle = refl
-retries κ w q m i (PutRead t) = put-1 κ (q .anchor) t
-retries κ w q m i (PutTail t h) = refl
-retries κ w q m i (PutTest t r) = either (isFull κ (size q) r) (Claim t) (PutNumber t r) refl refl
-retries κ w q m i (PutNumber t r) = refl
-retries κ w q m i (PutPayload t r) = refl
-retries κ w q m i (PutFinish t r) = refl
-retries κ w q m i (Claim t) = either-left (fits q m) _ _ refl refl
-retries κ w q m i (Note t) = noted κ (size q) (q .anchor) t
-retries κ w q m i (Copy t h n k) = either (eqb (k + 1) n) (Publish t) (Copy t h n (k + 1)) refl refl
-retries κ w q m i (Publish t) = refl
-retries κ w q m i TakeRead = take-1 κ (q .anchor)
-retries κ w q m i (TakeTail h) = refl
-retries κ w q m i (TakeTest r) = either-left (isEmpty κ r) _ _ refl refl
-retries κ w q m i (TakeNumber r) = refl
-retries κ w q m i (TakePayload r n) = refl
-retries κ w q m i (TakeFinish r t) = refl
-retries κ w q m i StealRead = steal-1 κ (q .anchor)
-retries κ w q m i (StealTail h) = refl
-retries κ w q m i (StealTest r) = either-left (isEmpty κ r) _ _ refl refl
-retries κ w q m i (StealNote r) = refl
-retries κ w q m i (StealNumber r k) = refl
-retries κ w q m i (StealPayload r k n) = last κ r _
-retries κ w q m i (StealNext r t) = refl
-retries κ w q m i (StealCompare r e t) = back (isSame κ (q .anchor) r) _ _ refl refl
+back-to-line-1 κ w q m i Idle = refl
+back-to-line-1 κ w q m i (PutRead t) = put-1 κ (q .anchor) t
+back-to-line-1 κ w q m i (PutTail t h) = refl
+back-to-line-1 κ w q m i (PutTest t r) = either (isFull κ (size q) r) (Claim t) (PutNumber t r) refl refl
+back-to-line-1 κ w q m i (PutNumber t r) = refl
+back-to-line-1 κ w q m i (PutPayload t r) = refl
+back-to-line-1 κ w q m i (PutFinish t r) = refl
+back-to-line-1 κ w q m i (Claim t) = either-left (fits q m) _ _ refl refl
+back-to-line-1 κ w q m i (Note t) = noted κ (size q) (q .anchor) t
+back-to-line-1 κ w q m i (Copy t h n k) = either (eqb (k + 1) n) (Publish t) (Copy t h n (k + 1)) refl refl
+back-to-line-1 κ w q m i (Publish t) = refl
+back-to-line-1 κ w q m i TakeRead = take-1 κ (q .anchor)
+back-to-line-1 κ w q m i (TakeTail h) = refl
+back-to-line-1 κ w q m i (TakeTest r) = either-left (isEmpty κ r) _ _ refl refl
+back-to-line-1 κ w q m i (TakeNumber r) = refl
+back-to-line-1 κ w q m i (TakePayload r n) = refl
+back-to-line-1 κ w q m i (TakeFinish r t) = refl
+back-to-line-1 κ w q m i StealRead = steal-1 κ (q .anchor)
+back-to-line-1 κ w q m i (StealTail h) = refl
+back-to-line-1 κ w q m i (StealTest r) = either-left (isEmpty κ r) _ _ refl refl
+back-to-line-1 κ w q m i (StealNote r) = refl
+back-to-line-1 κ w q m i (StealNumber r k) = refl
+back-to-line-1 κ w q m i (StealPayload r k n) = last κ r _
+back-to-line-1 κ w q m i (StealNext r t) = refl
+back-to-line-1 κ w q m i (StealCompare r e t) = back (isSame κ (q .anchor) r) _ _ refl refl
 
 pub restarts-are-failed-compares : RestartsAreFailedCompares
 restarts-are-failed-compares W i =
@@ -125,5 +123,4 @@ restarts-are-failed-compares W i =
     → D .world .bench .restarts
     ≡ (if failsCompare (W .bench .kind) (W .bench .queue .anchor) (lineAt (W .bench .workers) i) then oneMore (W .bench .restarts) else W .bench .restarts))
     W (λ r l f. absurd (f r refl)) i
-    (λ M f. ap (λ (x : Bool). if x then oneMore (W .bench .restarts) else W .bench .restarts)
-    (retries (W .bench .kind) (W .bench .width) (W .bench .queue) (W .store) i (lineAt (W .bench .workers) i)))
+    (λ M f. refl)

@@ -15,7 +15,7 @@ use Rattle.theorems.proofs.Window.{View, word}
 abbrev pub Dir : View → ℕ → ℕ → Type 0
 Dir v b z = (0 < z) × (((b ≡ v .base) × (z ≡ v .slots)) ⊎ (b + 2 * z ≤ v .base))
 
--- word j of index i, if i stays in the owner's window; st: what came puts-since that may have broken it
+-- word j of index i, if i stays in the owner's window; st: how many puts since may have broken it
 abbrev pub Got : ℕ → View → ℕ → ℕ → ℕ → Type 0
 Got st v i j x = st ≡ 0 → v .own-lo ≤ i → i < v .own-hi → x ≡ word v i j
 
@@ -36,7 +36,7 @@ pub record Frame (v v′ : View) : Type 0 where
   pub places : Places v v′
   pub dir : ((v′ .base ≡ v .base) × (v′ .slots ≡ v .slots)) ⊎ (v .base + 2 * v .slots ≤ v′ .base)
 
--- the top did not move up, unless something came puts-since
+-- the top did not move up, unless a put came since
 abbrev pub Still : ℕ → ℕ → View → View → ℕ → Type 0
 Still st st′ v v′ i = st′ ≡ 0 → (st ≡ 0) × (i < v′ .own-hi → i < v .own-hi)
 

@@ -77,7 +77,7 @@ pub record Done (T : List Played) (b j : ℕ) (t : Task) : Type 0 where
   pub later : b < j
   pub finished : At T j (Finishes t)
 
--- its task was handed out at place k; it stands whole in a slot of the window
+-- its task was handed out at place k
 abbrev pub Out : List Played → ℕ → Task → Type 0
 Out T k t = At T k (HandsOut t)
 
@@ -89,6 +89,7 @@ FinishedBefore T j t = (b k : ℕ) × (k < j) × Done T b k t
 abbrev pub AllOut : List Played → ℕ → ℕ → Type 0
 AllOut T l j = (b k : ℕ) (t : Task) → Done T b k t → k ≤ l → (o : ℕ) × (o < j) × Out T o t
 
+-- the task stands whole in a slot of the window
 abbrev pub Stands : World → Task → Type 0
 Stands W t = (i : ℕ) × (i < windowSize W) × (windowWord W i 0 ≡ t .number) × (windowWord W i 1 ≡ t .payload)
 

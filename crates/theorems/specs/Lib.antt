@@ -1,5 +1,4 @@
 pub mod Demand3
 pub mod Corollaries
-pub mod Contracts
 pub mod Reached
 pub mod Restarts

@@ -10,10 +10,11 @@
 use std::io::Write;
 use std::process::ExitCode;
 
+use simulator::bench::Shape;
 use simulator::damage;
 use simulator::episodes as act;
 use simulator::random::Random;
-use simulator::script::{Script, Shape};
+use simulator::script::Script;
 
 fn main() -> ExitCode {
     let values: Vec<Option<u64>> = std::env::args().skip(1).map(|text| text.parse().ok()).collect();
@@ -65,18 +66,18 @@ fn run(seed: u64, steps: Option<u64>) -> Vec<u8> {
         45..=48 => Style::Damage,
         _ => Style::Mixed,
     };
-    let shape = shape(&mut random, style);
+    let (shape, words) = shape(&mut random, style);
     let steps = steps.unwrap_or_else(|| u64::from(random.between(1500, 8000)));
-    let mut script = Script::new(random, shape);
+    let mut script = Script::program(random, shape);
 
-    before_the_queue(&mut script);
+    before_the_queue(&mut script, words);
     if script.random.chance(2) {
         // No queue at all: every line is refused.
         act::damaged(&mut script);
         act::refusals(&mut script);
         return script.into_text();
     }
-    let Shape { kind, width, size, crew, words } = shape;
+    let Shape { kind, width, size, crew } = shape;
     script.say(&format!("queue {kind} {width} {size} {crew} {words}"));
 
     if style == Style::LogSoonFull {
@@ -114,7 +115,8 @@ fn over(script: &Script, style: Style, steps: u64) -> bool {
     }
 }
 
-fn shape(random: &mut Random, style: Style) -> Shape {
+/// How the bench is made, and the words of its store.
+fn shape(random: &mut Random, style: Style) -> (Shape, u32) {
     let kind = if style == Style::HeadRound { 3 } else { random.between(1, 3) };
     let width = match random.below(100) {
         0..=24 => 1,
@@ -147,16 +149,16 @@ fn shape(random: &mut Random, style: Style) -> Shape {
         13 | 14 => 8,
         _ => random.between(4, 8),
     };
-    Shape { kind, width, size, crew, words }
+    (Shape { kind, width, size, crew }, words)
 }
 
 /// Lines that are refused because no queue is accepted yet.
-fn before_the_queue(script: &mut Script) {
+fn before_the_queue(script: &mut Script, words: u32) {
     if script.random.chance(50) {
         return;
     }
     for _ in 0..script.random.between(1, 12) {
-        let Shape { kind, width, size, crew, words } = script.shape;
+        let Shape { kind, width, size, crew } = script.shape;
         let large = script.random.between(9, 5000);
         match script.random.below(12) {
             0 => script.say(&format!("queue {} {width} {size} {crew} {words}", large)),
@@ -222,17 +224,7 @@ fn episode(script: &mut Script, style: Style) {
         Style::Tags if draw < 70 => act::tag_comes_round(script),
         Style::Growth if draw < 35 => act::noted_before_growth(script),
         Style::Growth if draw < 60 => act::emptied_before_x2(script),
-        _ => match script.random.below(10) {
-            0 | 1 => act::uniform(script),
-            2 => act::burst(script),
-            3 => act::fill(script),
-            4 => act::drain(script),
-            5 => act::owner_paused(script),
-            6 => act::tag_comes_round(script),
-            7 => act::noted_before_growth(script),
-            8 => act::emptied_before_x2(script),
-            _ => act::race(script),
-        },
+        _ => act::any(script),
     }
 }
 

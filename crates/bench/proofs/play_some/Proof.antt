@@ -4,7 +4,7 @@ use Prim.Native.Nat.{_≤_}
 use mathlib.Core.Path.{_≡_, refl, sym, subst, _∙_}
 use lib.ListN.{length, length-take, length-drop}
 use Rattle.replies.specs.Sessions.{programOf}
-use Rattle.listing.specs.Feeding.{Reachable}
+use Rattle.listing.specs.Consuming.{Reachable}
 use Rattle.replies.proofs.Ways.{never}
 use Rattle.replies.proofs.Replies.{left-on}
 use Rattle.bench.proofs.play_some.Statement.{statement}
@@ -23,32 +23,32 @@ loop-holds c = (omega arith, omega arith, refl, refl, refl, refl, c .before .bef
 sub-turns : tie.Need-sub-turns Inv-loop μ-loop
 sub-turns c = omega arith
 
-sub-feed : tie.Need-sub-feed Inv-loop μ-loop
-sub-feed c = omega arith
+sub-consume : tie.Need-sub-consume Inv-loop μ-loop
+sub-consume c = omega arith
 
-part-feed-start : tie.Need-part-feed-start Inv-loop μ-loop
-part-feed-start c = omega arith
+part-consume-start : tie.Need-part-consume-start Inv-loop μ-loop
+part-consume-start c = omega arith
 
-part-feed-end : tie.Need-part-feed-end Inv-loop μ-loop
-part-feed-end c = omega arith
+part-consume-end : tie.Need-part-consume-end Inv-loop μ-loop
+part-consume-end c = omega arith
 
-feed-requires : tie.Need-feed-requires Inv-loop μ-loop
-feed-requires c κs = c .before .before .before .before .before .before .loop .inv .6
+consume-requires : tie.Need-consume-requires Inv-loop μ-loop
+consume-requires c κs = c .before .before .before .before .before .before .loop .inv .6
 
 add-from : tie.Need-add-from Inv-loop μ-loop
 add-from c =
     let at-loop = c .before .before .before .before .before .before .before .before .before .before .before .before .before .before in
-    omega (arith, at-loop .loop .inv .0, simp (length-take, length-drop) at ((c .before .before .before .before .before .before .before .feed .ensures .0) .within))
+    omega (arith, at-loop .loop .inv .0, simp (length-take, length-drop) at ((c .before .before .before .before .before .before .before .consume .ensures .0) .within))
 
 write-out-requires : tie.Need-write-out-requires Inv-loop μ-loop
 write-out-requires c κs =
-    let at-feed = c .before .before .before .before .before .before .before .before in
-    (at-feed .feed .ensures .0) .room
+    let at-consume = c .before .before .before .before .before .before .before .before in
+    (at-consume .consume .ensures .0) .room
 
 sub-if3 : tie.Need-sub-if3 Inv-loop μ-loop
 sub-if3 c =
-    let at-feed = c .before .before .before .before .before .before .before .before .before .before .before in
-    (at-feed .feed .ensures .0) .room
+    let at-consume = c .before .before .before .before .before .before .before .before .before .before .before in
+    (at-consume .consume .ensures .0) .room
 
 carry-requires : tie.Need-carry-requires Inv-loop μ-loop
 carry-requires c κs = search needs
@@ -60,26 +60,26 @@ same-length c =
 
 same-length-2 : tie.Need-same-length-2 Inv-loop μ-loop
 same-length-2 c =
-    let at-feed = c .before .before .before .before .before .before .before .before .before .before .before .before .before .before .before .before in
+    let at-consume = c .before .before .before .before .before .before .before .before .before .before .before .before .before .before .before .before in
     let at-loop = c .before .before .before .before .before .before .before .before .before .before .before .before .before .before .before .before .before .before .before .before .before .before .before in
-    at-feed .feed .kept .1 .1 .0 ∙ at-loop .loop .inv .3
+    at-consume .consume .kept .1 .1 .0 ∙ at-loop .loop .inv .3
 
 same-length-3 : tie.Need-same-length-3 Inv-loop μ-loop
 same-length-3 c =
-    let at-feed = c .before .before .before .before .before .before .before .before .before .before .before .before .before .before .before .before in
+    let at-consume = c .before .before .before .before .before .before .before .before .before .before .before .before .before .before .before .before in
     let at-loop = c .before .before .before .before .before .before .before .before .before .before .before .before .before .before .before .before .before .before .before .before .before .before .before in
-    at-feed .feed .kept .1 .1 .1 .0 ∙ at-loop .loop .inv .4
+    at-consume .consume .kept .1 .1 .1 .0 ∙ at-loop .loop .inv .4
 
 same-length-4 : tie.Need-same-length-4 Inv-loop μ-loop
 same-length-4 c =
-    let at-feed = c .before .before .before .before .before .before .before .before .before .before .before .before .before .before .before .before in
+    let at-consume = c .before .before .before .before .before .before .before .before .before .before .before .before .before .before .before .before in
     let at-loop = c .before .before .before .before .before .before .before .before .before .before .before .before .before .before .before .before .before .before .before .before .before .before .before in
-    at-feed .feed .kept .1 .1 .1 .1 .0 ∙ at-loop .loop .inv .5
+    at-consume .consume .kept .1 .1 .1 .1 .0 ∙ at-loop .loop .inv .5
 
 returns : tie.Need-returns Inv-loop μ-loop
 returns c =
-    let at-feed = c .before .before .before .before .before .before .before .before .before .before .before .before .before .before .before .before in
-    let k = simp (length-take, length-drop) at (c .before .before .carry .ensures .count) in ((omega (arith, k), omega (arith, k, c .before .before .carry .kept .0)), λ e. subst Reachable (left-on _ (at-feed .feed .result .session) (at-feed .feed .last .1 .1 .0) (at-feed .feed .last .1 .1 .1 .0) (c .before .before .before .before .before .if2 .left)) (at-feed .feed .ensures .1))
+    let at-consume = c .before .before .before .before .before .before .before .before .before .before .before .before .before .before .before .before in
+    let k = simp (length-take, length-drop) at (c .before .before .carry .ensures .count) in ((omega (arith, k), omega (arith, k, c .before .before .carry .kept .0)), λ e. subst Reachable (left-on _ (at-consume .consume .result .session) (at-consume .consume .last .1 .1 .0) (at-consume .consume .last .1 .1 .1 .0) (c .before .before .before .before .before .if2 .left)) (at-consume .consume .ensures .1))
 
 loop-less : tie.Need-loop-less Inv-loop μ-loop
 loop-less c = omega arith
@@ -87,15 +87,15 @@ loop-less c = omega arith
 loop-again : tie.Need-loop-again Inv-loop μ-loop
 loop-again c =
     let at-loop = c .before .before .before .before .before .before .before .before .before .before .before .before .before .before .before .before .before .before .before in
-    let at-feed = c .before .before .before .before .before .before .before .before .before .before .before .before in
+    let at-consume = c .before .before .before .before .before .before .before .before .before .before .before .before in
     let l = at-loop .loop in (
-      omega (arith, l .inv .0, simp (length-take, length-drop) at ((at-feed .feed .ensures .0) .within)),
+      omega (arith, l .inv .0, simp (length-take, length-drop) at ((at-consume .consume .ensures .0) .within)),
       l .inv .1,
       l .inv .2,
-      at-feed .feed .kept .1 .1 .0 ∙ l .inv .3,
-      at-feed .feed .kept .1 .1 .1 .0 ∙ l .inv .4,
-      at-feed .feed .kept .1 .1 .1 .1 .0 ∙ l .inv .5,
-      subst Reachable (left-on _ (at-feed .feed .result .session) (at-feed .feed .last .1 .1 .0) (at-feed .feed .last .1 .1 .1 .0) (c .before .if2 .left)) (at-feed .feed .ensures .1),
+      at-consume .consume .kept .1 .1 .0 ∙ l .inv .3,
+      at-consume .consume .kept .1 .1 .1 .0 ∙ l .inv .4,
+      at-consume .consume .kept .1 .1 .1 .1 .0 ∙ l .inv .5,
+      subst Reachable (left-on _ (at-consume .consume .result .session) (at-consume .consume .last .1 .1 .0) (at-consume .consume .last .1 .1 .1 .0) (c .before .if2 .left)) (at-consume .consume .ensures .1),
     )
 
 same-length-5 : tie.Need-same-length-5 Inv-loop μ-loop
@@ -120,21 +120,21 @@ same-length-9 c =
 
 same-length-10 : tie.Need-same-length-10 Inv-loop μ-loop
 same-length-10 c =
-    let at-feed = c .before .before .before .before .before .before .before .before .before .before in
+    let at-consume = c .before .before .before .before .before .before .before .before .before .before in
     let at-loop = c .before .before .before .before .before .before .before .before .before .before .before .before .before .before .before .before .before in
-    at-feed .feed .kept .1 .1 .0 ∙ at-loop .loop .inv .3
+    at-consume .consume .kept .1 .1 .0 ∙ at-loop .loop .inv .3
 
 same-length-11 : tie.Need-same-length-11 Inv-loop μ-loop
 same-length-11 c =
-    let at-feed = c .before .before .before .before .before .before .before .before .before .before in
+    let at-consume = c .before .before .before .before .before .before .before .before .before .before in
     let at-loop = c .before .before .before .before .before .before .before .before .before .before .before .before .before .before .before .before .before in
-    at-feed .feed .kept .1 .1 .1 .0 ∙ at-loop .loop .inv .4
+    at-consume .consume .kept .1 .1 .1 .0 ∙ at-loop .loop .inv .4
 
 same-length-12 : tie.Need-same-length-12 Inv-loop μ-loop
 same-length-12 c =
-    let at-feed = c .before .before .before .before .before .before .before .before .before .before in
+    let at-consume = c .before .before .before .before .before .before .before .before .before .before in
     let at-loop = c .before .before .before .before .before .before .before .before .before .before .before .before .before .before .before .before .before in
-    at-feed .feed .kept .1 .1 .1 .1 .0 ∙ at-loop .loop .inv .5
+    at-consume .consume .kept .1 .1 .1 .1 .0 ∙ at-loop .loop .inv .5
 
 returns-3 : tie.Need-returns-3 Inv-loop μ-loop
 returns-3 c = ((omega arith, omega arith), λ e. never (sym e))
@@ -146,21 +146,21 @@ same-length-13 c =
 
 same-length-14 : tie.Need-same-length-14 Inv-loop μ-loop
 same-length-14 c =
-    let at-feed = c .before .before .before .before .before .before .before .before .before .before .before in
+    let at-consume = c .before .before .before .before .before .before .before .before .before .before .before in
     let at-loop = c .before .before .before .before .before .before .before .before .before .before .before .before .before .before .before .before .before .before in
-    at-feed .feed .kept .1 .1 .0 ∙ at-loop .loop .inv .3
+    at-consume .consume .kept .1 .1 .0 ∙ at-loop .loop .inv .3
 
 same-length-15 : tie.Need-same-length-15 Inv-loop μ-loop
 same-length-15 c =
-    let at-feed = c .before .before .before .before .before .before .before .before .before .before .before in
+    let at-consume = c .before .before .before .before .before .before .before .before .before .before .before in
     let at-loop = c .before .before .before .before .before .before .before .before .before .before .before .before .before .before .before .before .before .before in
-    at-feed .feed .kept .1 .1 .1 .0 ∙ at-loop .loop .inv .4
+    at-consume .consume .kept .1 .1 .1 .0 ∙ at-loop .loop .inv .4
 
 same-length-16 : tie.Need-same-length-16 Inv-loop μ-loop
 same-length-16 c =
-    let at-feed = c .before .before .before .before .before .before .before .before .before .before .before in
+    let at-consume = c .before .before .before .before .before .before .before .before .before .before .before in
     let at-loop = c .before .before .before .before .before .before .before .before .before .before .before .before .before .before .before .before .before .before in
-    at-feed .feed .kept .1 .1 .1 .1 .0 ∙ at-loop .loop .inv .5
+    at-consume .consume .kept .1 .1 .1 .1 .0 ∙ at-loop .loop .inv .5
 
 returns-4 : tie.Need-returns-4 Inv-loop μ-loop
 returns-4 c = ((omega arith, omega arith), λ e. never (sym e))
@@ -173,10 +173,10 @@ play-some-spec =
     μ-loop
     loop-holds
     sub-turns
-    sub-feed
-    part-feed-start
-    part-feed-end
-    feed-requires
+    sub-consume
+    part-consume-start
+    part-consume-end
+    consume-requires
     add-from
     write-out-requires
     sub-if3

@@ -5,7 +5,7 @@ use Prim.Native.Nat.{_≤_}
 use lib.ListN.{length}
 use borrow.Author.Tests.{not-false}
 use Rattle.replies.specs.Sessions.{programOf}
-use Rattle.listing.specs.Feeding.{Reachable}
+use Rattle.listing.specs.Consuming.{Reachable}
 use Rattle.bench.proofs.run.Statement.{statement}
 use Rattle.bench.proofs.run.Tie as tie
 

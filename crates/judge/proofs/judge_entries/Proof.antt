@@ -7,7 +7,7 @@ use Rattle.model.proofs.Tests.{passed, refused, and-right}
 use Rattle.judgement.specs.Judgement.{wordsOf}
 use Rattle.puts.proofs.Gathering.{rising-by}
 use Rattle.judge.proofs.Keeping.{kept-whole, firsts-fewer}
-use Rattle.judge.proofs.Whole.{not-in-order, not-all-honest, not-all-kept, all-accepted}
+use Rattle.judge.proofs.Whole.{not-in-order, not-all-justified, not-all-kept, all-accepted}
 use Rattle.judge.proofs.judge_entries.Statement.{statement}
 use Rattle.judge.proofs.judge_entries.Tie as tie
 
@@ -37,7 +37,7 @@ same-length-2 c = search needs
 returns-2 : tie.Need-returns-2
 returns-2 c =
     let start = c .before .before .before .before .before .before .before .before .before .before .before .before .before .before .before .before .before .before in
-    not-all-honest (wordsOf (start .args .log .now)) (start .args .entries) (wordsOf (start .args .list .now)) (start .args .numbers) (refused (c .before .before .before .before .hand-outs .ensures .fine) (c .if2 .taken))
+    not-all-justified (wordsOf (start .args .log .now)) (start .args .entries) (wordsOf (start .args .list .now)) (start .args .numbers) (refused (c .before .before .before .before .hand-outs .ensures .fine) (c .if2 .taken))
 
 note-hints-requires : tie.Need-note-hints-requires
 note-hints-requires c κs =

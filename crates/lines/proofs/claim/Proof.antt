@@ -1,6 +1,6 @@
-use mathlib.Core.Path.{sym, _∙_}
+use mathlib.Core.Path.{refl, sym, _∙_}
 use Rattle.model.specs.Tests.{if_then_else_}
-use Rattle.lines.specs.Deeds.{queueBy, storeBy, answerBy, InStore}
+use Rattle.lines.specs.Actions.{queueBy, storeBy, answerBy, failsBy, Doable}
 use Rattle.lines.proofs.Room.{in-room}
 use borrow.Author.Needs.{needs}
 use Rattle.lines.proofs.claim.Statement.{statement}
@@ -25,18 +25,18 @@ mul-words-2 : tie.Need-mul-words-2
 mul-words-2 c = search needs
 
 returns : tie.Need-returns
-unfolding queueBy storeBy answerBy InStore if_then_else_
+unfolding queueBy storeBy answerBy failsBy Doable if_then_else_
 returns c =
     let start = c .before .before .before .before .before in
     let room = sym (c .before .before .before .has-room .ensures) ∙ c .before .before .if1 .taken in
     let size = start .pre .1 .1 .1 in (
       simp (room, size, c .end-of .ensures),
-      in-room (start .args .queue) (start .args .store .now) (start .pre .1 .1 .0) room size (c .end-of .ensures),
+      (in-room (start .args .queue) (start .args .store .now) (start .pre .1 .1 .0) room size (c .end-of .ensures), refl),
     )
 
 returns-2 : tie.Need-returns-2
-unfolding queueBy storeBy answerBy InStore if_then_else_
-returns-2 c = (simp (sym (c .before .has-room .ensures) ∙ c .if1 .left), tt)
+unfolding queueBy storeBy answerBy failsBy Doable if_then_else_
+returns-2 c = (simp (sym (c .before .has-room .ensures) ∙ c .if1 .left), (refl, refl))
 
 pub claim-spec : {M : Type 1} → statement M
 claim-spec =

@@ -1,6 +1,7 @@
-use mathlib.Core.Path.{sym, _∙_}
+use mathlib.Core.Path.{refl, sym, ap, _∙_}
+use mathlib.Core.Bool.{not}
 use Rattle.model.specs.Tests.{if_then_else_}
-use Rattle.lines.specs.Deeds.{queueBy, storeBy, answerBy, InStore}
+use Rattle.lines.specs.Actions.{queueBy, storeBy, answerBy, failsBy, Doable}
 use borrow.Author.Needs.{needs}
 use Rattle.lines.proofs.compare.Statement.{statement}
 use Rattle.lines.proofs.compare.Tie as tie
@@ -12,14 +13,16 @@ after-steal-requires : tie.Need-after-steal-requires
 after-steal-requires c κs = search needs
 
 returns : tie.Need-returns
-unfolding queueBy storeBy answerBy InStore if_then_else_
+unfolding queueBy storeBy answerBy failsBy Doable if_then_else_
 returns c =
     let same = sym (c .before .before .is-same .ensures) ∙ c .before .if1 .taken in
-    (λ m. simp (same, c .after-steal .ensures), λ n. tt)
+    (λ m. simp (same, c .after-steal .ensures), (λ n. refl, sym (ap not same)))
 
 returns-2 : tie.Need-returns-2
-unfolding queueBy storeBy answerBy InStore if_then_else_
-returns-2 c = (λ m. simp (sym (c .before .is-same .ensures) ∙ c .if1 .left), λ n. tt)
+unfolding queueBy storeBy answerBy failsBy Doable if_then_else_
+returns-2 c =
+    let same = sym (c .before .is-same .ensures) ∙ c .if1 .left in
+    (λ m. simp same, (λ n. tt, sym (ap not same)))
 
 pub compare-spec : {M : Type 1} → statement M
 compare-spec = tie.close (tie.spec is-same-requires after-steal-requires returns returns-2)

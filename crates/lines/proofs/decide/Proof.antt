@@ -1,9 +1,10 @@
 -- An arm knows its line, and with it what `Ready` says there; five places before the arm stands the function's entry.
+use mathlib.Core.Path.{refl}
 use native.Mathlib.Nat.{add-zero}
 use native.Mathlib.Omega.{arith}
 use Rattle.model.specs.Memory.{setWord}
 use Rattle.model.specs.Lines.{lineStep}
-use Rattle.lines.specs.Deeds.{Ready, queueBy, storeBy, answerBy, InStore}
+use Rattle.lines.specs.Actions.{Ready, queueBy, storeBy, answerBy, failsBy, Doable}
 use borrow.Author.Needs.{needs}
 use Rattle.lines.proofs.decide.Statement.{statement}
 use Rattle.lines.proofs.decide.Tie as tie
@@ -172,113 +173,113 @@ compare-requires c κs =
     h
 
 returns : tie.Need-returns
-unfolding lineStep queueBy storeBy answerBy InStore
-returns c = (simp (c .enum-told .given .1), tt)
+unfolding lineStep queueBy storeBy answerBy failsBy Doable
+returns c = (simp (c .enum-told .given .1), (tt, simp (c .enum-told .given .1)))
 
 returns-2 : tie.Need-returns-2
-unfolding lineStep queueBy storeBy answerBy InStore
-returns-2 c = (simp (c .enum-told2 .given .1), tt)
+unfolding lineStep queueBy storeBy answerBy failsBy Doable
+returns-2 c = (simp (c .enum-told2 .given .1), (tt, simp (c .enum-told2 .given .1)))
 
 returns-3 : tie.Need-returns-3
-unfolding lineStep queueBy storeBy answerBy InStore
-returns-3 c = (simp (c .enum-told3 .given .1), tt)
+unfolding lineStep queueBy storeBy answerBy failsBy Doable
+returns-3 c = (simp (c .enum-told3 .given .1), (tt, simp (c .enum-told3 .given .1)))
 
 returns-4 : tie.Need-returns-4
-unfolding lineStep queueBy storeBy answerBy InStore
-returns-4 c = (simp (c .enum-told4 .given .1), tt)
+unfolding lineStep queueBy storeBy answerBy failsBy Doable
+returns-4 c = (simp (c .enum-told4 .given .1), (tt, simp (c .enum-told4 .given .1)))
 
 returns-5 : tie.Need-returns-5
-unfolding lineStep queueBy storeBy answerBy InStore setWord Ready
+unfolding lineStep queueBy storeBy answerBy failsBy Doable setWord Ready
 returns-5 c =
     let arm = c .before .before in
     let h = rw (arm .line .given .1) at (arm .before .before .before .before .before .pre .1 .1) in
-    (simp (c .before .before .line .given .1, c .put-place .ensures), omega (arith, h))
+    (simp (c .before .before .line .given .1, c .put-place .ensures), (omega (arith, h), simp (c .before .before .line .given .1)))
 
 returns-6 : tie.Need-returns-6
-unfolding lineStep queueBy storeBy answerBy InStore setWord Ready
+unfolding lineStep queueBy storeBy answerBy failsBy Doable setWord Ready
 returns-6 c =
     let arm = c .before .before in
     let h = rw (arm .line2 .given .1) at (arm .before .before .before .before .before .pre .1 .1) in
-    (simp (c .before .before .line2 .given .1, c .put-place2 .ensures), omega (arith, h))
+    (simp (c .before .before .line2 .given .1, c .put-place2 .ensures), (omega (arith, h), simp (c .before .before .line2 .given .1)))
 
 returns-7 : tie.Need-returns-7
-unfolding lineStep queueBy storeBy answerBy InStore
-returns-7 c = (simp (c .before .before .line3 .given .1, c .after-put .ensures), tt)
+unfolding lineStep queueBy storeBy answerBy failsBy Doable
+returns-7 c = (simp (c .before .before .line3 .given .1, c .after-put .ensures), (refl, simp (c .before .before .line3 .given .1)))
 
 returns-8 : tie.Need-returns-8
-unfolding lineStep queueBy storeBy answerBy InStore
-returns-8 c = (simp (c .before .before .before .line4 .given .1, c .claim .ensures .0), c .claim .ensures .1)
+unfolding lineStep queueBy storeBy answerBy failsBy Doable
+returns-8 c = (simp (c .before .before .before .line4 .given .1, c .claim .ensures .0), (c .claim .ensures .1 .0, simp (c .before .before .before .line4 .given .1, c .claim .ensures .1 .1)))
 
 returns-9 : tie.Need-returns-9
-unfolding lineStep queueBy storeBy answerBy InStore
-returns-9 c = (simp (c .enum-told5 .given .1), tt)
+unfolding lineStep queueBy storeBy answerBy failsBy Doable
+returns-9 c = (simp (c .enum-told5 .given .1), (tt, simp (c .enum-told5 .given .1)))
 
 returns-10 : tie.Need-returns-10
-unfolding lineStep queueBy storeBy answerBy InStore setWord Ready
+unfolding lineStep queueBy storeBy answerBy failsBy Doable setWord Ready
 returns-10 c =
     let arm = c .before .before .before .before .before in
     let h = rw (arm .line5 .given .1) at (arm .before .before .before .before .before .pre .1 .1) in
-    (simp (c .before .before .before .before .before .line5 .given .1, c .before .before .before .read-word .ensures, c .before .before .read-word2 .ensures, c .place .ensures, add-zero), omega (arith, h))
+    (simp (c .before .before .before .before .before .line5 .given .1, c .before .before .before .read-word .ensures, c .before .before .read-word2 .ensures, c .place .ensures, add-zero), (omega (arith, h), simp (c .before .before .before .before .before .line5 .given .1)))
 
 returns-11 : tie.Need-returns-11
-unfolding lineStep queueBy storeBy answerBy InStore
-returns-11 c = (simp (c .enum-told6 .given .1), tt)
+unfolding lineStep queueBy storeBy answerBy failsBy Doable
+returns-11 c = (simp (c .enum-told6 .given .1), (tt, simp (c .enum-told6 .given .1)))
 
 returns-12 : tie.Need-returns-12
-unfolding lineStep queueBy storeBy answerBy InStore
-returns-12 c = (simp (c .enum-told7 .given .1), tt)
+unfolding lineStep queueBy storeBy answerBy failsBy Doable
+returns-12 c = (simp (c .enum-told7 .given .1), (tt, simp (c .enum-told7 .given .1)))
 
 returns-13 : tie.Need-returns-13
-unfolding lineStep queueBy storeBy answerBy InStore
-returns-13 c = (simp (c .enum-told8 .given .1), tt)
+unfolding lineStep queueBy storeBy answerBy failsBy Doable
+returns-13 c = (simp (c .enum-told8 .given .1), (tt, simp (c .enum-told8 .given .1)))
 
 returns-14 : tie.Need-returns-14
-unfolding lineStep queueBy storeBy answerBy InStore
-returns-14 c = (simp (c .before .before .line6 .given .1, c .stop-empty .ensures .0), c .stop-empty .ensures .1 _ _)
+unfolding lineStep queueBy storeBy answerBy failsBy Doable
+returns-14 c = (simp (c .before .before .line6 .given .1, c .stop-empty .ensures .0), (c .stop-empty .ensures .1 .0 _ _, simp (c .before .before .line6 .given .1, c .stop-empty .ensures .1 .1)))
 
 returns-15 : tie.Need-returns-15
-unfolding lineStep queueBy storeBy answerBy InStore
-returns-15 c = (simp (c .enum-told9 .given .1), tt)
+unfolding lineStep queueBy storeBy answerBy failsBy Doable
+returns-15 c = (simp (c .enum-told9 .given .1), (tt, simp (c .enum-told9 .given .1)))
 
 returns-16 : tie.Need-returns-16
-unfolding lineStep queueBy storeBy answerBy InStore
-returns-16 c = (simp (c .enum-told10 .given .1), tt)
+unfolding lineStep queueBy storeBy answerBy failsBy Doable
+returns-16 c = (simp (c .enum-told10 .given .1), (tt, simp (c .enum-told10 .given .1)))
 
 returns-17 : tie.Need-returns-17
-unfolding lineStep queueBy storeBy answerBy InStore
-returns-17 c = (simp (c .before .before .line7 .given .1, c .after-take .ensures), tt)
+unfolding lineStep queueBy storeBy answerBy failsBy Doable
+returns-17 c = (simp (c .before .before .line7 .given .1, c .after-take .ensures), (refl, simp (c .before .before .line7 .given .1)))
 
 returns-18 : tie.Need-returns-18
-unfolding lineStep queueBy storeBy answerBy InStore
-returns-18 c = (simp (c .enum-told11 .given .1), tt)
+unfolding lineStep queueBy storeBy answerBy failsBy Doable
+returns-18 c = (simp (c .enum-told11 .given .1), (tt, simp (c .enum-told11 .given .1)))
 
 returns-19 : tie.Need-returns-19
-unfolding lineStep queueBy storeBy answerBy InStore
-returns-19 c = (simp (c .enum-told12 .given .1), tt)
+unfolding lineStep queueBy storeBy answerBy failsBy Doable
+returns-19 c = (simp (c .enum-told12 .given .1), (tt, simp (c .enum-told12 .given .1)))
 
 returns-20 : tie.Need-returns-20
-unfolding lineStep queueBy storeBy answerBy InStore
-returns-20 c = (simp (c .before .before .line8 .given .1, c .stop-empty2 .ensures .0), c .stop-empty2 .ensures .1 _ _)
+unfolding lineStep queueBy storeBy answerBy failsBy Doable
+returns-20 c = (simp (c .before .before .line8 .given .1, c .stop-empty2 .ensures .0), (c .stop-empty2 .ensures .1 .0 _ _, simp (c .before .before .line8 .given .1, c .stop-empty2 .ensures .1 .1)))
 
 returns-21 : tie.Need-returns-21
-unfolding lineStep queueBy storeBy answerBy InStore
-returns-21 c = (simp (c .enum-told13 .given .1), tt)
+unfolding lineStep queueBy storeBy answerBy failsBy Doable
+returns-21 c = (simp (c .enum-told13 .given .1), (tt, simp (c .enum-told13 .given .1)))
 
 returns-22 : tie.Need-returns-22
-unfolding lineStep queueBy storeBy answerBy InStore
-returns-22 c = (simp (c .enum-told14 .given .1), tt)
+unfolding lineStep queueBy storeBy answerBy failsBy Doable
+returns-22 c = (simp (c .enum-told14 .given .1), (tt, simp (c .enum-told14 .given .1)))
 
 returns-23 : tie.Need-returns-23
-unfolding lineStep queueBy storeBy answerBy InStore
-returns-23 c = (simp (c .enum-told15 .given .1), tt)
+unfolding lineStep queueBy storeBy answerBy failsBy Doable
+returns-23 c = (simp (c .enum-told15 .given .1), (tt, simp (c .enum-told15 .given .1)))
 
 returns-24 : tie.Need-returns-24
-unfolding lineStep queueBy storeBy answerBy InStore
-returns-24 c = (simp (c .enum-told16 .given .1), tt)
+unfolding lineStep queueBy storeBy answerBy failsBy Doable
+returns-24 c = (simp (c .enum-told16 .given .1), (tt, simp (c .enum-told16 .given .1)))
 
 returns-25 : tie.Need-returns-25
-unfolding lineStep queueBy storeBy answerBy InStore
-returns-25 c = (simp (c .before .before .line9 .given .1, c .compare .ensures .0), c .compare .ensures .1 _)
+unfolding lineStep queueBy storeBy answerBy failsBy Doable
+returns-25 c = (simp (c .before .before .line9 .given .1, c .compare .ensures .0), (c .compare .ensures .1 .0 _, simp (c .before .before .line9 .given .1, c .compare .ensures .1 .1)))
 
 pub decide-spec : {M : Type 1} → statement M
 decide-spec =

@@ -7,10 +7,10 @@ use lib.ListN.{length, length-set}
 use borrow.Author.Tests.{eq-eqb, ne-eqb}
 use Rattle.model.specs.Counts.{isKind, outFirst}
 use Rattle.model.proofs.Below.{count-le}
-use Rattle.judgement.specs.Judgement.{wordsOf, allBelow, honest}
+use Rattle.judgement.specs.Judgement.{wordsOf, allBelow, justified}
 use Rattle.puts.specs.Puts.{RepeatsPut}
 use Rattle.puts.proofs.Gathering.{clash}
-use Rattle.marks.proofs.Marking.{Told, told-start, told-skip, told-again, told-first, not-honest, outs-told}
+use Rattle.marks.proofs.Marking.{Told, told-start, told-skip, told-again, told-first, not-justified, outs-told}
 use Rattle.marks.proofs.hand_outs.Statement.{statement}
 use Rattle.marks.proofs.hand_outs.Tie as tie
 
@@ -58,7 +58,7 @@ returns : tie.Need-returns Inv-loop μ-loop
 returns c =
     let start = c .before .before .before .before .before .before .before .before .before in
     let at-loop = c .before .before .before .before .before in
-    let d : false ≡ allBelow (honest (wordsOf (start .args .log .now))) (start .args .entries) = not-honest (wordsOf (start .args .log .now)) (start .args .entries) (start .args .puts .now) (start .args .count) (start .pre .1 .0) (start .pre .1 .1 .0) (at-loop .loop .j) (omega arith) (ap (λ (x : ℕ). eqb x 2) (sym (c .before .before .before .word .ensures)) ∙ eq-eqb _ 2 (c .before .before .if1 .left)) (subst (λ (x : ℕ). RepeatsPut (wordsOf (start .args .log .now)) (start .args .puts .now) (start .args .count) (at-loop .loop .j) x) (c .if2 .taken) (c .before .repeated .ensures)) in
+    let d : false ≡ allBelow (justified (wordsOf (start .args .log .now))) (start .args .entries) = not-justified (wordsOf (start .args .log .now)) (start .args .entries) (start .args .puts .now) (start .args .count) (start .pre .1 .0) (start .pre .1 .1 .0) (at-loop .loop .j) (omega arith) (ap (λ (x : ℕ). eqb x 2) (sym (c .before .before .before .word .ensures)) ∙ eq-eqb _ 2 (c .before .before .if1 .left)) (subst (λ (x : ℕ). RepeatsPut (wordsOf (start .args .log .now)) (start .args .puts .now) (start .args .count) (at-loop .loop .j) x) (c .if2 .taken) (c .before .repeated .ensures)) in
     record { fine = d; handouts = λ e. absurd (clash (sym e)); different = λ e. absurd (clash (sym e)); marked = λ e. absurd (clash (sym e)) }
 
 add-handouts : tie.Need-add-handouts Inv-loop μ-loop

@@ -5,7 +5,7 @@ use Rattle.model.specs.Calls.{lent, beginOf}
 use Rattle.model.proofs.Tests.{if-false, passed, refused}
 use Rattle.opening.specs.Begins.{BeginStops}
 use Rattle.limits.proofs.Bounds.{bounds-of}
-use Rattle.state.proofs.Replies.{same-left}
+use Rattle.state.proofs.Replies.{same-returned}
 use Rattle.opening.proofs.begin.Statement.{statement}
 use Rattle.opening.proofs.begin.Tie as tie
 
@@ -17,7 +17,7 @@ refused-requires c κs = search needs
 
 returns : tie.Need-returns
 unfolding beginOf
-returns c = same-left (c .refused .ensures) refl refl ∙ sym (if-false _ (refused (c .before .before .valid .ensures) (c .before .if1 .taken)))
+returns c = same-returned (c .refused .ensures) refl refl ∙ sym (if-false _ (refused (c .before .before .valid .ensures) (c .before .if1 .taken)))
 
 begin-stop-requires : tie.Need-begin-stop-requires
 begin-stop-requires c κs = bounds-of _ (passed (c .before .valid .ensures) (c .if1 .left)) .crew
@@ -32,7 +32,7 @@ returns-2 : tie.Need-returns-2
 returns-2 c =
     let start = c .before .before .before .before .before .before .before .before .before in
     let W = lent (start .args .bench) (start .args .store .now) (start .args .log .now) in
-    same-left (c .refused2 .ensures) refl refl
+    same-returned (c .refused2 .ensures) refl refl
     ∙ sym (subst (BeginStops W (start .args .worker) (start .args .operation)) (c .before .before .stop .given .1) (c .before .before .before .before .begin-stop .ensures _ _ (passed (c .before .before .before .before .before .before .valid .ensures) (c .before .before .before .before .before .if1 .left))))
 
 enum-told : tie.Need-enum-told

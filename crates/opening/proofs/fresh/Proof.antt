@@ -7,9 +7,9 @@ use Rattle.model.specs.declared.Bench.{Bench}
 use Rattle.model.specs.declared.Answer.the-variants.{Accepted}
 use Rattle.model.proofs.Tests.{if-true, if-false, passed, refused}
 use Rattle.admission.proofs.Sizes.{size-in}
-use Rattle.state.specs.declared.Reply.{Reply}
-use Rattle.state.specs.Left.{left}
-use Rattle.state.proofs.Replies.{same-left}
+use Rattle.state.specs.declared.Returned.{Returned}
+use Rattle.state.specs.Outcomes.{returned}
+use Rattle.state.proofs.Replies.{same-returned}
 use Rattle.opening.proofs.fresh.Statement.{statement}
 use Rattle.opening.proofs.fresh.Tie as tie
 
@@ -22,7 +22,7 @@ unmade-requires c κs = search needs
 returns : tie.Need-returns
 unfolding freshOf
 returns c = λ l.
-    ap (λ (r : Reply). left r (c .before .before .before .before .args .store .now) l) (c .unmade .ensures)
+    ap (λ (r : Returned). returned r (c .before .before .before .before .args .store .now) l) (c .unmade .ensures)
     ∙ sym (if-false _ (refused (c .before .before .kind-ok .ensures) (c .before .if1 .taken)))
 
 width-ok-requires : tie.Need-width-ok-requires
@@ -34,7 +34,7 @@ unmade-requires-2 c κs = search needs
 returns-2 : tie.Need-returns-2
 unfolding freshOf
 returns-2 c = λ l.
-    ap (λ (r : Reply). left r (c .before .before .before .before .before .before .args .store .now) l) (c .unmade2 .ensures)
+    ap (λ (r : Returned). returned r (c .before .before .before .before .before .before .args .store .now) l) (c .unmade2 .ensures)
     ∙ sym
     (if-true _ (passed (c .before .before .before .before .kind-ok .ensures) (c .before .before .before .if1 .left))
     ∙ if-false _ (refused (c .before .before .width-ok .ensures) (c .before .if2 .taken)))
@@ -48,7 +48,7 @@ unmade-requires-3 c κs = search needs
 returns-3 : tie.Need-returns-3
 unfolding freshOf
 returns-3 c = λ l.
-    ap (λ (r : Reply). left r (c .before .before .before .before .before .before .before .before .args .store .now) l) (c .unmade3 .ensures)
+    ap (λ (r : Returned). returned r (c .before .before .before .before .before .before .before .before .args .store .now) l) (c .unmade3 .ensures)
     ∙ sym
     (if-true _ (passed (c .before .before .before .before .before .before .kind-ok .ensures) (c .before .before .before .before .before .if1 .left))
     ∙ if-true _ (passed (c .before .before .before .before .width-ok .ensures) (c .before .before .before .if2 .left))
@@ -63,7 +63,7 @@ unmade-requires-4 c κs = search needs
 returns-4 : tie.Need-returns-4
 unfolding freshOf
 returns-4 c = λ l.
-    ap (λ (r : Reply). left r (c .before .before .before .before .before .before .before .before .before .before .args .store .now) l) (c .unmade4 .ensures)
+    ap (λ (r : Returned). returned r (c .before .before .before .before .before .before .before .before .before .before .args .store .now) l) (c .unmade4 .ensures)
     ∙ sym
     (if-true _ (passed (c .before .before .before .before .before .before .before .before .kind-ok .ensures) (c .before .before .before .before .before .before .before .if1 .left))
     ∙ if-true _ (passed (c .before .before .before .before .before .before .width-ok .ensures) (c .before .before .before .before .before .if2 .left))
@@ -79,7 +79,7 @@ unmade-requires-5 c κs = search needs
 returns-5 : tie.Need-returns-5
 unfolding freshOf
 returns-5 c = λ l.
-    ap (λ (r : Reply). left r (c .before .before .before .before .before .before .before .before .before .before .before .args .store .now) l) (c .unmade5 .ensures)
+    ap (λ (r : Returned). returned r (c .before .before .before .before .before .before .before .before .before .before .before .args .store .now) l) (c .unmade5 .ensures)
     ∙ sym
     (if-true _ (passed (c .before .before .before .before .before .before .before .before .before .kind-ok .ensures) (c .before .before .before .before .before .before .before .before .if1 .left))
     ∙ if-true _ (passed (c .before .before .before .before .before .before .before .width-ok .ensures) (c .before .before .before .before .before .before .if2 .left))
@@ -104,7 +104,7 @@ unfolding freshOf
 returns-6 c =
     let start = c .before .before .before .before .before .before .before .before .before .before .before .before .before .before .before .before in
     λ l.
-    same-left
+    same-returned
     (ap (λ (b : Bench). record { bench = b; answer = Accepted })
     (c .made .ensures ∙ ap (λ (κ : Kind). blank κ (start .args .width) (start .args .size) (start .args .crew)) (c .before .kind-of .ensures)))
     (c .before .before .before .before .zero .ensures)

@@ -1,5 +1,5 @@
 use mathlib.Core.Path.{sym, _∙_}
-use Rattle.replies.proofs.Replies.{judged-made, judged-stopped, opened-by, refused-by}
+use Rattle.replies.proofs.Replies.{progress-made, progress-stopped, opened-by, refused-by}
 use native.Mathlib.Omega.{arith}
 use lib.Seq.{length-take-le}
 use Rattle.replies.proofs.Shows.{answer-most}
@@ -22,8 +22,8 @@ fresh-requires c κs = search needs
 show-requires : tie.Need-show-requires
 show-requires c κs = omega (arith, answer-most (c .before .before .before .fresh .result .answer))
 
-judge-requires : tie.Need-judge-requires
-judge-requires c κs = search needs
+progress-of-requires : tie.Need-progress-of-requires
+progress-of-requires c κs = search needs
 
 enum-told : tie.Need-enum-told
 enum-told c = search needs
@@ -43,7 +43,7 @@ returns c =
     let at-fresh = c .before .before .before .before .before .before .before .before .before in
     let a = start .args in λ l.
     refused-by (a .kind) (a .width) (a .size) (a .workers) (a .words) _ (a .store .now) l _ (at-fresh .fresh .result .bench) (at-fresh .fresh .result .answer) _ _ _ _ (c .before .before .before .before .before .before .before .before .before .before .before .span .ensures) (at-fresh .fresh .kept .1 .1 .1 .1 .0) (at-fresh .fresh .ensures l) (c .before .before .before .before .before .show .ensures)
-    (a .session) (start .pre .1) (judged-stopped (at-fresh .fresh .result .answer) (sym (c .before .before .judge .ensures) ∙ c .enum-told2 .given .1))
+    (a .session) (start .pre .1) (progress-stopped (at-fresh .fresh .result .answer) (sym (c .before .before .progress-of .ensures) ∙ c .enum-told2 .given .1))
 
 same-length-3 : tie.Need-same-length-3
 same-length-3 c = search needs
@@ -56,7 +56,7 @@ returns-2 c =
     let at-fresh = c .before .before .before .before .before .before .before .before .before .before in
     let a = c .before .before .before .before .before .before .before .before .before .before .before .before .before .before .before .before .args in λ l.
     opened-by (a .kind) (a .width) (a .size) (a .workers) (a .words) _ (a .store .now) l _ (at-fresh .fresh .result .bench) (at-fresh .fresh .result .answer) _ _ _ _ (c .before .before .before .before .before .before .before .before .before .before .before .before .span .ensures) (at-fresh .fresh .kept .1 .1 .1 .1 .0) (at-fresh .fresh .ensures l) (c .before .before .before .before .before .before .show .ensures)
-    (judged-made (at-fresh .fresh .result .answer) (sym (c .before .before .before .judge .ensures) ∙ c .before .enum-told .given .1))
+    (progress-made (at-fresh .fresh .result .answer) (sym (c .before .before .before .progress-of .ensures) ∙ c .before .enum-told .given .1))
 
 pub open-queue-spec : {M : Type 1} → statement M
 open-queue-spec =
@@ -67,7 +67,7 @@ open-queue-spec =
     slice-aggregate-fresh
     fresh-requires
     show-requires
-    judge-requires
+    progress-of-requires
     enum-told
     enum-told-2
     same-length

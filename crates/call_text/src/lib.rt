@@ -1,0 +1,328 @@
+// The text of a list of library calls: a line's bytes read as what it asks for, and an answer's words written as a line. The form is
+// in docs/CALLS.md. What is proved is that text is read and written safely; what it means is compared with the second simulator.
+// Uses `text`. It is used by `calls`.
+ghost use Prim.Native.Nat.{_+_, _≤_, _<_};
+ghost use lib.ListN.{length};
+use text::Value;
+
+// What a bench is asked for: to be made anew, a call made so many times (operation, worker and payload as `plays` has them), or to
+// show its log's front or what is shared.
+pub enum Request {
+    Front,
+    State,
+    Fresh {
+        kind: u32,
+        width: u32,
+        size: u32,
+        workers: u32,
+    },
+    Calls {
+        operation: u32,
+        worker: u32,
+        payload: u32,
+        times: u32,
+    },
+}
+
+// What a line says, if it has a form.
+pub enum ListLine {
+    Bad,
+    Memory { store: u32, log: u32 },
+    Asks { asked: Request },
+}
+
+enum Key {
+    Other,
+    Memory,
+    Fresh,
+    Step,
+    Front,
+    State,
+}
+
+// The numbers of a line. The count is one more than a line may have where there are more, or where a word is no number.
+struct Values {
+    count: usize,
+    v: [u32; 4],
+}
+
+const MANY: usize = 5;
+
+// The longest line of an answer: H and three numbers. A number with the space before it.
+pub const ANSWER: usize = 35;
+
+pub const WORD: usize = 11;
+
+// A longer line has no form.
+pub const LINE: usize = 64;
+
+// Where the line that starts at `at` ends: at a newline, or with the buffer.
+pub fn line_end(buf: &[u8], at: usize) -> usize
+    requires { ⌜ at ≤ length (now buf) ⌝ }
+    ensures { λ r. ⌜ (at ≤ r) × (r ≤ length (now (buf .entry))) ⌝ }
+{
+    let mut i = at;
+    while i < buf.len() {
+        if buf[i] == b'\n' {
+            return i;
+        }
+        i += 1;
+    }
+    i
+}
+
+// Where the line's first word ends.
+fn first_end(line: &[u8]) -> usize
+    ensures { λ r. ⌜ r ≤ length (now (line .entry)) ⌝ }
+{
+    text::word_end(line, 0)
+}
+
+// Where the word ends that stands behind the one that ends at `at`.
+fn next_end(line: &[u8], at: usize) -> usize
+    requires { ⌜ at < length (now line) ⌝ }
+    ensures { λ r. ⌜ (at < r) × (r ≤ length (now (line .entry))) ⌝ }
+{
+    text::word_end(line, at + 1)
+}
+
+fn keyword(word: &[u8]) -> Key {
+    if text::same(word, b"memory") {
+        return Key::Memory;
+    }
+    if text::same(word, b"fresh") {
+        return Key::Fresh;
+    }
+    if text::same(word, b"step") {
+        return Key::Step;
+    }
+    if text::same(word, b"front") {
+        return Key::Front;
+    }
+    if text::same(word, b"state") {
+        return Key::State;
+    }
+    Key::Other
+}
+
+// An operation's number; 0 is none.
+fn operation(word: &[u8]) -> u32 {
+    if text::same(word, b"put") {
+        return 1;
+    }
+    if text::same(word, b"take") {
+        return 2;
+    }
+    if text::same(word, b"steal") {
+        return 3;
+    }
+    0
+}
+
+// The numbers behind the word that ends at `end`.
+fn numbers(line: &[u8], end: usize) -> Values
+    requires { ⌜ end ≤ length (now line) ⌝ }
+{
+    let mut at = end;
+    let mut v = [0u32; 4];
+    let mut n = 0;
+    while at < line.len() {
+        if n == 4 {
+            return Values { count: MANY, v };
+        }
+        let from = at + 1;
+        let to = next_end(line, at);
+        let Value::Of(x) = text::number(&line[from..to]) else {
+            return Values { count: MANY, v };
+        };
+        v[n] = x;
+        n += 1;
+        at = to;
+    }
+    Values { count: n, v }
+}
+
+// The keyword with as many numbers as it takes, those with a range within it.
+fn form(key: Key, count: usize, v: [u32; 4]) -> ListLine {
+    match key {
+        Key::Other => ListLine::Bad,
+        Key::Memory => {
+            if count != 2 {
+                return ListLine::Bad;
+            }
+            if 10300 < v[0] {
+                return ListLine::Bad;
+            }
+            if 20000 < v[1] {
+                return ListLine::Bad;
+            }
+            ListLine::Memory {
+                store: v[0],
+                log: v[1],
+            }
+        }
+        Key::Fresh => {
+            if count != 4 {
+                return ListLine::Bad;
+            }
+            ListLine::Asks {
+                asked: Request::Fresh {
+                    kind: v[0],
+                    width: v[1],
+                    size: v[2],
+                    workers: v[3],
+                },
+            }
+        }
+        Key::Step => {
+            if count != 2 {
+                return ListLine::Bad;
+            }
+            ListLine::Asks {
+                asked: Request::Calls {
+                    operation: 0,
+                    worker: v[0],
+                    payload: 0,
+                    times: v[1],
+                },
+            }
+        }
+        Key::Front => {
+            if count != 0 {
+                return ListLine::Bad;
+            }
+            ListLine::Asks {
+                asked: Request::Front,
+            }
+        }
+        Key::State => {
+            if count != 0 {
+                return ListLine::Bad;
+            }
+            ListLine::Asks {
+                asked: Request::State,
+            }
+        }
+    }
+}
+
+// What follows `begin`: a worker, an operation, and a put's payload.
+fn begin(line: &[u8], end: usize) -> ListLine
+    requires { ⌜ end ≤ length (now line) ⌝ }
+{
+    if end == line.len() {
+        return ListLine::Bad;
+    }
+    let from = end + 1;
+    let to = next_end(line, end);
+    let Value::Of(worker) = text::number(&line[from..to]) else {
+        return ListLine::Bad;
+    };
+    if to == line.len() {
+        return ListLine::Bad;
+    }
+    let start = to + 1;
+    let last = next_end(line, to);
+    let operation = operation(&line[start..last]);
+    let behind = numbers(line, last);
+    let count = behind.count;
+    let v = behind.v;
+    begun(operation, worker, count, v)
+}
+
+fn begun(operation: u32, worker: u32, count: usize, v: [u32; 4]) -> ListLine {
+    if operation == 0 {
+        return ListLine::Bad;
+    }
+    let mut payloads = 0;
+    if operation == 1 {
+        payloads = 1;
+    }
+    if count != payloads {
+        return ListLine::Bad;
+    }
+    ListLine::Asks {
+        asked: Request::Calls {
+            operation,
+            worker,
+            payload: v[0],
+            times: 1,
+        },
+    }
+}
+
+pub fn parse(line: &[u8]) -> ListLine {
+    let end = first_end(line);
+    if text::same(&line[..end], b"begin") {
+        return begin(line, end);
+    }
+    let key = keyword(&line[..end]);
+    let behind = numbers(line, end);
+    let count = behind.count;
+    let v = behind.v;
+    form(key, count, v)
+}
+
+fn bare(out: &mut [u8], at: usize, letter: u8) -> usize
+    requires { ⌜ at + 35 ≤ length (now out) ⌝ }
+    ensures { λ r. ⌜ r ≤ at + 35 ⌝ }
+{
+    out[at] = letter;
+    out[at + 1] = b'\n';
+    at + 2
+}
+
+// A letter and up to three numbers.
+fn print(out: &mut [u8], at: usize, letter: u8, v: &[u32]) -> usize
+    requires { ⌜ (at + 35 ≤ length (now out)) × (length (now v) ≤ 3) ⌝ }
+    ensures { λ r. ⌜ r ≤ at + 35 ⌝ }
+{
+    text::print(out, at, letter, v)
+}
+
+fn one(out: &mut [u8], at: usize, letter: u8, n: u32) -> usize
+    requires { ⌜ at + 35 ≤ length (now out) ⌝ }
+    ensures { λ r. ⌜ r ≤ at + 35 ⌝ }
+{
+    let v = [n];
+    print(out, at, letter, &v)
+}
+
+// An answer that ends no operation.
+fn show_other(out: &mut [u8], at: usize, which: u32, number: u32) -> usize
+    requires { ⌜ at + 35 ≤ length (now out) ⌝ }
+    ensures { λ r. ⌜ r ≤ at + 35 ⌝ }
+{
+    match which {
+        0 => bare(out, at, b'G'),
+        1 => bare(out, at, b'A'),
+        2 => one(out, at, b'N', number),
+        _ => one(out, at, b'R', number),
+    }
+}
+
+// Puts the line of an answer's four words into the output from `at` on, and answers where it ends.
+pub fn show(out: &mut [u8], at: usize, kind: u32, worker: u32, number: u32, payload: u32) -> usize
+    requires { ⌜ at + 35 ≤ length (now out) ⌝ }
+    ensures { λ r. ⌜ r ≤ at + 35 ⌝ }
+{
+    match kind {
+        1 => one(out, at, b'D', number),
+        2 => {
+            let v = [worker, number, payload];
+            print(out, at, b'H', &v)
+        }
+        3 => one(out, at, b'E', worker),
+        4 => one(out, at, b'F', number),
+        _ => show_other(out, at, worker, number),
+    }
+}
+
+// A number with a space before it, for a line of many.
+pub fn show_word(out: &mut [u8], at: usize, n: u32) -> usize
+    requires { ⌜ at + 11 ≤ length (now out) ⌝ }
+    ensures { λ r. ⌜ r ≤ at + 11 ⌝ }
+{
+    out[at] = b' ';
+    text::decimal(out, at + 1, n)
+}

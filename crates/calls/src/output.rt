@@ -1,0 +1,180 @@
+// The program's output: text waits in a buffer, and is written where there is no room for more.
+ghost use mathlib.Core.Path.{_≡_};
+ghost use Prim.Native.Nat.{_+_, _≤_};
+ghost use lib.ListN.{length};
+use libc::STDERR_FILENO;
+use libc::STDOUT_FILENO;
+use queues::Bench;
+
+// Where the text ends that waits in the output, and whether every write so far could be made.
+pub struct Text {
+    pub end: usize,
+    pub good: bool,
+}
+
+// Writes the text that waits, unless a write failed before; a failure is told on standard error.
+fn write_out(text: Text, out: &[u8]) -> Text
+    requires { ⌜ text .end ≤ length (now out) ⌝ }
+    ensures { λ r. ⌜ r .end ≡ 0 ⌝ }
+{
+    if !text.good {
+        return Text {
+            end: 0,
+            good: false,
+        };
+    }
+    let end = text.end;
+    let good = io::write_all(STDOUT_FILENO, &out[..end]);
+    if !good {
+        os::fail(b"write");
+    }
+    Text { end: 0, good }
+}
+
+// Sees to it that `need` bytes of the output are free.
+fn room(text: Text, need: usize, out: &[u8]) -> Text
+    requires { ⌜ (text .end ≤ length (now out)) × (need ≤ length (now out)) ⌝ }
+    ensures { λ r. ⌜ r .end + need ≤ length (now (out .entry)) ⌝ }
+{
+    if need <= out.len() - text.end {
+        return text;
+    }
+    write_out(text, out)
+}
+
+fn show_byte(text: Text, byte: u8, out: &mut [u8]) -> Text
+    requires { ⌜ (text .end ≤ length (now out)) × (35 ≤ length (now out)) ⌝ }
+    ensures { λ r. ⌜ r .end ≤ length (now (out .exit)) ⌝ }
+{
+    let free = room(text, 1, out);
+    let at = free.end;
+    out[at] = byte;
+    Text {
+        end: at + 1,
+        good: free.good,
+    }
+}
+
+// The line of an answer's four words.
+fn show_answer(
+    text: Text,
+    kind: u32,
+    worker: u32,
+    number: u32,
+    payload: u32,
+    out: &mut [u8],
+) -> Text
+    requires { ⌜ (text .end ≤ length (now out)) × (35 ≤ length (now out)) ⌝ }
+    ensures { λ r. ⌜ r .end ≤ length (now (out .exit)) ⌝ }
+{
+    let free = room(text, call_text::ANSWER, out);
+    let end = call_text::show(out, free.end, kind, worker, number, payload);
+    Text {
+        end,
+        good: free.good,
+    }
+}
+
+// The lines of answers.
+pub fn show_answers(text: Text, answers: &[u32], out: &mut [u8]) -> Text
+    requires { ⌜ (text .end ≤ length (now out)) × (35 ≤ length (now out)) ⌝ }
+    ensures { λ r. ⌜ r .end ≤ length (now (out .exit)) ⌝ }
+{
+    let mut shown = text;
+    let mut at = 0;
+    while plays::ANSWER <= answers.len() - at {
+        shown = show_answer(
+            shown,
+            answers[at],
+            answers[at + 1],
+            answers[at + 2],
+            answers[at + 3],
+            out,
+        );
+        at += plays::ANSWER;
+    }
+    shown
+}
+
+// Numbers of a line of many.
+pub fn show_words(text: Text, words: &[u32], out: &mut [u8]) -> Text
+    requires { ⌜ (text .end ≤ length (now out)) × (35 ≤ length (now out)) ⌝ }
+    ensures { λ r. ⌜ r .end ≤ length (now (out .exit)) ⌝ }
+{
+    let mut shown = text;
+    let mut i = 0;
+    while i < words.len() {
+        let free = room(shown, call_text::WORD, out);
+        let end = call_text::show_word(out, free.end, words[i]);
+        shown = Text {
+            end,
+            good: free.good,
+        };
+        i += 1;
+    }
+    shown
+}
+
+pub fn show_front(text: Text, bench: Bench, log: &[u32], out: &mut [u8]) -> Text
+    requires { ⌜ (text .end ≤ length (now out)) × (35 ≤ length (now out)) ⌝ }
+    ensures { λ r. ⌜ r .end ≤ length (now (out .exit)) ⌝ }
+{
+    let mut shown = show_byte(text, b'L', out);
+    shown = show_words(shown, bench.front(log), out);
+    show_byte(shown, b'\n', out)
+}
+
+// The anchor, how many arrays are published and how many claimed, and offset and length of each of those.
+fn show_queue(text: Text, queue: model::Queue, out: &mut [u8]) -> Text
+    requires { ⌜ (text .end ≤ length (now out)) × (35 ≤ length (now out)) ⌝ }
+    ensures { λ r. ⌜ r .end ≤ length (now (out .exit)) ⌝ }
+{
+    let anchor = queue.anchor;
+    let first = [
+        anchor.head,
+        anchor.count,
+        anchor.tag,
+        queue.published,
+        queue.claimed,
+    ];
+    let mut shown = show_words(text, &first, out);
+    let claimed = crate::least(queue.claimed as usize, 11);
+    let mut i = 0;
+    while i < claimed {
+        let array = queue.arrays[i];
+        let pair = [array.offset, array.length];
+        shown = show_words(shown, &pair, out);
+        i += 1;
+    }
+    shown
+}
+
+// What is shared, in the order that the form gives. A crew of 0 is no bench.
+pub fn show_state(text: Text, state: model::Bench, store: &[u32], out: &mut [u8]) -> Text
+    requires { ⌜ (text .end ≤ length (now out)) × (35 ≤ length (now out)) ⌝ }
+    ensures { λ r. ⌜ r .end ≤ length (now (out .exit)) ⌝ }
+{
+    if state.crew == 0 {
+        return show_answer(text, 0, 3, 12, 0, out);
+    }
+    let counts = [state.used, state.written, state.restarts];
+    let mut shown = show_byte(text, b'S', out);
+    shown = show_queue(shown, state.queue, out);
+    shown = show_words(shown, &counts, out);
+    shown = show_words(shown, store, out);
+    show_byte(shown, b'\n', out)
+}
+
+// Writes the text that lines left, and tells of a line at which they stopped for want of a form. Answers whether to go on.
+pub fn report(text: Text, goes: bool, out: &[u8]) -> bool
+    requires { ⌜ text .end ≤ length (now out) ⌝ }
+{
+    let last = write_out(text, out);
+    if !last.good {
+        return false;
+    }
+    if !goes {
+        io::write_all(STDERR_FILENO, b"calls: not a line of the form\n");
+    }
+    goes
+}

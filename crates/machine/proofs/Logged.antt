@@ -1,0 +1,40 @@
+-- What an action that ends an operation comes to, by whether its entry was logged.
+use mathlib.Core.Bool.{Bool, true, false, not}
+use mathlib.Core.List.{List}
+use mathlib.Core.Path.{_≡_, refl, sym, ap, _∙_}
+use Prim.Native.Nat.{ℕ}
+use Rattle.model.specs.declared.Anchor.{Anchor}
+use Rattle.model.specs.declared.Refusal.the-variants.{LogFull}
+use Rattle.model.specs.declared.Answer.{Answer}
+use Rattle.model.specs.Calls.{logFull}
+use Rattle.model.proofs.Tests.{if-true, if-false}
+use Rattle.lines.specs.declared.Action.{Action}
+use Rattle.lines.specs.declared.Action.the-variants.{Stops, Ends}
+use Rattle.machine.specs.declared.Made.the-variants as made
+use Rattle.machine.specs.Steps.{actedBy}
+
+has-room : {full r : Bool} → r ≡ not full → r ≡ true → full ≡ false
+has-room {full = true} e f = sym f ∙ e
+has-room {full = false} e f = refl
+
+is-full : {full r : Bool} → r ≡ not full → r ≡ false → full ≡ true
+is-full {full = true} e f = refl
+is-full {full = false} e f = sym f ∙ e
+
+module _ (k : ℕ) (l : List ℕ) {d : Action} {y : Answer} {r : Bool} (answers : r ≡ not (logFull l k)) where
+  pub stops : d ≡ Stops y → r ≡ true → made.Stops y ≡ actedBy k l d
+  unfolding actedBy
+  stops e f = sym (ap (actedBy k l) e ∙ if-false _ (has-room answers f))
+
+  pub stops-full : d ≡ Stops y → r ≡ false → made.Refused LogFull ≡ actedBy k l d
+  unfolding actedBy
+  stops-full e f = sym (ap (actedBy k l) e ∙ if-true _ (is-full answers f))
+
+  module _ {a : Anchor} where
+    pub ends : d ≡ Ends a y → r ≡ true → made.Ends a y ≡ actedBy k l d
+    unfolding actedBy
+    ends e f = sym (ap (actedBy k l) e ∙ if-false _ (has-room answers f))
+
+    pub ends-full : d ≡ Ends a y → r ≡ false → made.Refused LogFull ≡ actedBy k l d
+    unfolding actedBy
+    ends-full e f = sym (ap (actedBy k l) e ∙ if-true _ (is-full answers f))

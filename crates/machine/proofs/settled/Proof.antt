@@ -1,0 +1,129 @@
+use borrow.Author.Needs.{needs}
+use native.Mathlib.Omega.{arith}
+use Rattle.machine.specs.Steps.{benchAfter, answerAfter, Fits}
+use Rattle.machine.proofs.settled.Statement.{statement}
+use Rattle.machine.proofs.settled.Tie as tie
+
+enum-told : tie.Need-enum-told
+enum-told c = search needs
+
+replaced-requires : tie.Need-replaced-requires
+replaced-requires c κs = search needs
+
+enum-known-made : tie.Need-enum-known-made
+enum-known-made c = search needs
+
+refused-requires : tie.Need-refused-requires
+refused-requires c κs = search needs
+
+enum-told-2 : tie.Need-enum-told-2
+enum-told-2 c = search needs
+
+one-more-requires : tie.Need-one-more-requires
+one-more-requires c κs = search needs
+
+replaced-requires-2 : tie.Need-replaced-requires-2
+replaced-requires-2 c κs = search needs
+
+enum-known-made-2 : tie.Need-enum-known-made-2
+enum-known-made-2 c = search needs
+
+with-array-requires : tie.Need-with-array-requires
+unfolding Fits
+with-array-requires c κs = rw (c .before .made2 .given .1) at (c .before .before .before .before .pre .1)
+
+replaced-requires-3 : tie.Need-replaced-requires-3
+replaced-requires-3 c κs = search needs
+
+enum-told-3 : tie.Need-enum-told-3
+enum-told-3 c = search needs
+
+publish-requires : tie.Need-publish-requires
+unfolding Fits
+publish-requires c κs = rw (c .enum-told3 .given .1) at (c .before .before .before .pre .1)
+
+replaced-requires-4 : tie.Need-replaced-requires-4
+replaced-requires-4 c κs = search needs
+
+enum-known-made-3 : tie.Need-enum-known-made-3
+enum-known-made-3 c = search needs
+
+add-length : tie.Need-add-length
+unfolding Fits
+add-length c = let h = rw (c .before .made3 .given .1) at (c .before .before .before .before .pre .1) in omega (arith, h)
+
+replaced-requires-5 : tie.Need-replaced-requires-5
+replaced-requires-5 c κs = search needs
+
+enum-known-made-4 : tie.Need-enum-known-made-4
+enum-known-made-4 c = search needs
+
+with-anchor-requires : tie.Need-with-anchor-requires
+with-anchor-requires c κs = search needs
+
+add-length-2 : tie.Need-add-length-2
+unfolding Fits
+add-length-2 c = let h = rw (c .before .before .made4 .given .1) at (c .before .before .before .before .before .pre .1) in omega (arith, h)
+
+replaced-requires-6 : tie.Need-replaced-requires-6
+replaced-requires-6 c κs = search needs
+
+returns : tie.Need-returns
+unfolding benchAfter answerAfter
+returns c = simp (c .before .enum-told .given .1, c .replaced .ensures)
+
+returns-2 : tie.Need-returns-2
+unfolding benchAfter answerAfter
+returns-2 c = simp (c .before .before .made .given .1, c .refused .ensures)
+
+returns-3 : tie.Need-returns-3
+unfolding benchAfter answerAfter
+returns-3 c = simp (c .before .before .enum-told2 .given .1, c .replaced2 .ensures, c .before .one-more .ensures)
+
+returns-4 : tie.Need-returns-4
+unfolding benchAfter answerAfter
+returns-4 c = simp (c .before .before .before .made2 .given .1, c .replaced3 .ensures, c .before .with-array .ensures)
+
+returns-5 : tie.Need-returns-5
+unfolding benchAfter answerAfter
+returns-5 c = simp (c .before .before .enum-told3 .given .1, c .replaced4 .ensures, c .before .publish .ensures)
+
+returns-6 : tie.Need-returns-6
+unfolding benchAfter answerAfter
+returns-6 c = simp (c .before .before .made3 .given .1, c .replaced5 .ensures)
+
+returns-7 : tie.Need-returns-7
+unfolding benchAfter answerAfter
+returns-7 c = simp (c .before .before .before .made4 .given .1, c .replaced6 .ensures, c .before .with-anchor .ensures)
+
+pub settled-spec : {M : Type 1} → statement M
+settled-spec =
+    tie.close
+    (tie.spec
+    enum-told
+    replaced-requires
+    enum-known-made
+    refused-requires
+    enum-told-2
+    one-more-requires
+    replaced-requires-2
+    enum-known-made-2
+    with-array-requires
+    replaced-requires-3
+    enum-told-3
+    publish-requires
+    replaced-requires-4
+    enum-known-made-3
+    add-length
+    replaced-requires-5
+    enum-known-made-4
+    with-anchor-requires
+    add-length-2
+    replaced-requires-6
+    returns
+    returns-2
+    returns-3
+    returns-4
+    returns-5
+    returns-6
+    returns-7)

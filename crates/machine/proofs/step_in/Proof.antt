@@ -1,0 +1,94 @@
+use borrow.Author.Needs.{needs}
+use mathlib.Core.Path.{sym, ap, subst, _∙_}
+use Prim.Native.Nat.{ℕ}
+use native.Mathlib.Omega.{arith}
+use lib.ListN.{length}
+use borrow.Author.Tests.{le-ltb}
+use Rattle.model.specs.World.{lineAt}
+use Rattle.model.proofs.Tests.{if-false}
+use Rattle.lines.specs.Actions.{storeBy}
+use Rattle.machine.specs.Steps.{benchOf, benchAfter, answerAfter, movedBy, actedBy, logAfter, Fits}
+use Rattle.machine.proofs.Moves.{fits, writable}
+use Rattle.machine.proofs.Stepping.{same-moved, idle-worker, line-done}
+use Rattle.machine.proofs.step_in.Statement.{statement}
+use Rattle.machine.proofs.step_in.Tie as tie
+
+returns : tie.Need-returns
+unfolding benchAfter answerAfter Fits
+returns c = (tt, λ u n k ws at e. sym (if-false _ (le-ltb _ _ (c .if1 .taken))))
+
+is-idle-requires : tie.Need-is-idle-requires
+is-idle-requires c κs = search needs
+
+returns-2 : tie.Need-returns-2
+unfolding benchAfter answerAfter Fits
+returns-2 c =
+    let start = c .before .before .before .before .before in
+    let a = start .args in
+    let h = c .before .before .if1 .left in (
+      tt,
+      λ u n k ws at e.
+          idle-worker (benchOf (a .kind) (a .width) (a .crew) (a .queue) (a .written) u n ws) (a .worker) (a .line) _ _
+          (ap (lineAt ws) (sym (at (omega (arith, h, start .pre .crew)))) ∙ e) h (sym (c .before .is-idle .ensures) ∙ c .if2 .taken),
+    )
+
+next-line-requires : tie.Need-next-line-requires
+next-line-requires c κs =
+    let start = c .before .before .before .before .before .before in
+    (start .pre .ground, start .pre .ready (c .before .before .before .if1 .left))
+
+decide-requires : tie.Need-decide-requires
+decide-requires c κs =
+    let start = c .before .before .before .before .before .before .before .before in
+    (start .pre .narrow, (start .pre .ground, start .pre .ready (c .before .before .before .before .before .if1 .left)))
+
+act-requires : tie.Need-act-requires
+act-requires c κs =
+    let start = c .before .before .before .before .before .before .before .before .before .before .before in
+    writable (start .args .queue) (length (start .args .store .now)) _ (c .before .before .decide .ensures .1 .0)
+
+same-length : tie.Need-same-length
+same-length c = search needs
+
+same-length-2 : tie.Need-same-length-2
+same-length-2 c = search needs
+
+returns-3 : tie.Need-returns-3
+returns-3 c =
+    let at-act = c .before .before .before .before in
+    let at-decide = at-act .before .before .before in
+    let at-next-line = at-decide .before .before in
+    let at-idle = at-next-line .before .before .before in
+    let start = at-idle .before .before .before .before in
+    let a = start .args in
+    let m = a .store .now in
+    let l = a .log .now in
+    let x = at-next-line .next-line .result in
+    let d = at-decide .decide .result in
+    let safe = at-decide .decide .ensures .1 .0 in
+    let h = at-idle .before .if1 .left in
+    let made = at-act .act .ensures .0 in (
+      subst (Fits (a .queue) (a .written)) (sym made) (fits (a .queue) (a .written) (length m) l d (start .pre .ground .listed) safe),
+      λ u n k ws at e.
+          let b = benchOf (a .kind) (a .width) (a .crew) (a .queue) (a .written) u n ws in
+          let is = at (omega (arith, h, start .pre .crew)) in
+          same-moved b k x made (at-act .act .ensures .1 .0) (at-act .act .ensures .1 .1)
+          ∙ ap (λ (j : ℕ). movedBy b j x (actedBy (a .written) l d) (storeBy m d) (logAfter (a .written) l d)) is
+          ∙ line-done b (a .worker) (a .line) m l (ap (lineAt ws) (sym is) ∙ e) h x d
+          (sym (at-idle .is-idle .ensures) ∙ at-next-line .before .before .if2 .left) safe (at-next-line .next-line .ensures)
+          (at-decide .decide .ensures .0) (at-decide .decide .ensures .1 .1),
+    )
+
+pub step-in-spec : {M : Type 1} → statement M
+step-in-spec =
+    tie.close
+    (tie.spec
+    returns
+    is-idle-requires
+    returns-2
+    next-line-requires
+    decide-requires
+    act-requires
+    same-length
+    same-length-2
+    returns-3)

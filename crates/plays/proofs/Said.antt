@@ -1,0 +1,21 @@
+-- Which call three words say.
+use mathlib.Core.Path.{_≡_, _∙_}
+use Prim.Native.Nat.{ℕ}
+use borrow.Author.Tests.{eq-eqb, ne-eqb}
+use Rattle.model.specs.declared.Operation.the-variants.{Put, Take, Steal}
+use Rattle.model.specs.Calls.{begin, step}
+use Rattle.model.proofs.Tests.{if-true, if-false}
+use Rattle.plays.specs.Words.{callBy}
+
+module _ (o i p : ℕ) where
+  pub says-put : o ≡ 1 → callBy o i p ≡ begin i (Put p)
+  says-put e = if-true _ (eq-eqb o 1 e)
+
+  pub says-take : (o ≡ 1 → ⊥) → o ≡ 2 → callBy o i p ≡ begin i Take
+  says-take n e = if-false _ (ne-eqb o 1 n) ∙ if-true _ (eq-eqb o 2 e)
+
+  pub says-steal : (o ≡ 1 → ⊥) → (o ≡ 2 → ⊥) → o ≡ 3 → callBy o i p ≡ begin i Steal
+  says-steal n m e = if-false _ (ne-eqb o 1 n) ∙ if-false _ (ne-eqb o 2 m) ∙ if-true _ (eq-eqb o 3 e)
+
+  pub says-step : (o ≡ 1 → ⊥) → (o ≡ 2 → ⊥) → (o ≡ 3 → ⊥) → callBy o i p ≡ step i
+  says-step n m k = if-false _ (ne-eqb o 1 n) ∙ if-false _ (ne-eqb o 2 m) ∙ if-false _ (ne-eqb o 3 k)

@@ -1,0 +1,75 @@
+use mathlib.Core.Path.{_∙_, sym, ap}
+use borrow.Author.Needs.{needs}
+use Rattle.model.specs.Calls.{callOf}
+use Rattle.plays.proofs.Said.{says-put, says-take, says-steal, says-step}
+use Rattle.plays.proofs.call.Statement.{statement}
+use Rattle.plays.proofs.call.Tie as tie
+
+begin-requires : tie.Need-begin-requires
+begin-requires c κs = search needs
+
+same-length : tie.Need-same-length
+same-length c = search needs
+
+same-length-2 : tie.Need-same-length-2
+same-length-2 c = search needs
+
+returns : tie.Need-returns
+returns c = c .begin .ensures ∙ sym (ap (callOf _) (says-put _ _ _ (c .before .before .before .if1 .taken)))
+
+begin-requires-2 : tie.Need-begin-requires-2
+begin-requires-2 c κs = search needs
+
+same-length-3 : tie.Need-same-length-3
+same-length-3 c = search needs
+
+same-length-4 : tie.Need-same-length-4
+same-length-4 c = search needs
+
+returns-2 : tie.Need-returns-2
+returns-2 c = c .begin2 .ensures ∙ sym (ap (callOf _) (says-take _ _ _ (c .before .before .before .before .if1 .left) (c .before .before .before .if2 .taken)))
+
+begin-requires-3 : tie.Need-begin-requires-3
+begin-requires-3 c κs = search needs
+
+same-length-5 : tie.Need-same-length-5
+same-length-5 c = search needs
+
+same-length-6 : tie.Need-same-length-6
+same-length-6 c = search needs
+
+returns-3 : tie.Need-returns-3
+returns-3 c = c .begin3 .ensures ∙ sym (ap (callOf _) (says-steal _ _ _ (c .before .before .before .before .before .if1 .left) (c .before .before .before .before .if2 .left) (c .before .before .before .if3 .taken)))
+
+step-requires : tie.Need-step-requires
+step-requires c κs = search needs
+
+same-length-7 : tie.Need-same-length-7
+same-length-7 c = search needs
+
+same-length-8 : tie.Need-same-length-8
+same-length-8 c = search needs
+
+returns-4 : tie.Need-returns-4
+returns-4 c = c .before .before .before .before .step .ensures ∙ sym (ap (callOf _) (says-step _ _ _ (c .before .before .before .before .before .before .before .before .before .if1 .left) (c .before .before .before .before .before .before .before .before .if2 .left) (c .before .before .before .before .before .before .before .if3 .left)))
+
+pub call-spec : {M : Type 1} → statement M
+call-spec =
+    tie.close
+    (tie.spec
+    begin-requires
+    same-length
+    same-length-2
+    returns
+    begin-requires-2
+    same-length-3
+    same-length-4
+    returns-2
+    begin-requires-3
+    same-length-5
+    same-length-6
+    returns-3
+    step-requires
+    same-length-7
+    same-length-8
+    returns-4)

@@ -1,0 +1,313 @@
+//! The bench: one of the three machines and a crew, and the calls fresh, begin
+//! and step with their refusals in order. Store and log are lent to it; the log
+//! is kept by whoever steps.
+
+use crate::double_ended::DoubleEnded;
+use crate::fifo::Fifo;
+use crate::lifo::Lifo;
+use crate::outcome::{refusal, Outcome, Place};
+use crate::store::{Store, LARGEST};
+use crate::witness::Witness;
+
+/// The last put number.
+pub const LAST_NUMBER: u32 = 65_535;
+
+enum Queue {
+    Lifo(Lifo),
+    Fifo(Fifo),
+    DoubleEnded(DoubleEnded),
+}
+
+/// Does the same with whichever of the three machines there is.
+macro_rules! with_queue {
+    ($queue:expr, $machine:ident => $body:expr) => {
+        match $queue {
+            Queue::Lifo($machine) => $body,
+            Queue::Fifo($machine) => $body,
+            Queue::DoubleEnded($machine) => $body,
+        }
+    };
+}
+
+/// How a bench is made.
+#[derive(Clone, Copy, Debug, PartialEq, Eq)]
+pub struct Shape {
+    pub kind: u32,
+    pub width: u32,
+    pub size: u32,
+    pub crew: u32,
+}
+
+#[derive(Clone, Copy, Debug, PartialEq, Eq)]
+pub enum Operation {
+    Put { payload: u32 },
+    Take,
+    Steal,
+}
+
+pub struct Bench {
+    queue: Queue,
+    crew: u32,
+    numbers_used: u32,
+    restarts: u32,
+}
+
+impl Bench {
+    /// Fresh, on the lent words. They are taken if the bench is accepted, and
+    /// stay where they are if it is refused.
+    pub fn fresh(shape: Shape, words: &mut Vec<u32>) -> Result<Bench, u32> {
+        let Shape { kind, width, size, crew } = shape;
+        if !(1..=3).contains(&kind) {
+            return Err(refusal::UNKNOWN_QUEUE);
+        }
+        if !(1..=16).contains(&width) {
+            return Err(refusal::TAG_WIDTH);
+        }
+        if size > LARGEST || !size.is_power_of_two() {
+            return Err(refusal::ARRAY_SIZE);
+        }
+        if !(1..=8).contains(&crew) {
+            return Err(refusal::CREW);
+        }
+        if words.len() < 2 * size as usize {
+            return Err(refusal::SHORT_STORE);
+        }
+        let store = Store::fresh(std::mem::take(words), size);
+        let queue = match kind {
+            1 => Queue::Lifo(Lifo::new(width, store)),
+            2 => Queue::Fifo(Fifo::new(store)),
+            _ => Queue::DoubleEnded(DoubleEnded::new(width, store)),
+        };
+        Ok(Bench { queue, crew, numbers_used: 0, restarts: 0 })
+    }
+
+    /// Begins an operation; a put answers its number.
+    pub fn begin(&mut self, worker: u32, operation: Operation) -> Result<Option<u32>, u32> {
+        if worker >= self.crew {
+            return Err(refusal::NO_SUCH_WORKER);
+        }
+        let owners = operation != Operation::Steal;
+        if owners != (worker == 0) {
+            return Err(refusal::WRONG_HAND);
+        }
+        with_queue!(&mut self.queue, machine => {
+            if machine.busy(worker as usize) {
+                return Err(refusal::BUSY);
+            }
+            match operation {
+                Operation::Put { .. } if self.numbers_used == LAST_NUMBER => {
+                    return Err(refusal::NUMBERS_SPENT);
+                }
+                Operation::Put { payload } => {
+                    self.numbers_used += 1;
+                    machine.begin_put(self.numbers_used, payload);
+                    return Ok(Some(self.numbers_used));
+                }
+                Operation::Take => machine.begin_take(),
+                Operation::Steal => machine.begin_steal(worker as usize),
+            }
+        });
+        Ok(None)
+    }
+
+    /// One line of `worker`'s operation. `room` says whether the log can take
+    /// one more entry.
+    #[inline]
+    pub fn step<W: Witness>(&mut self, worker: u32, room: bool, witness: &mut W) -> Outcome {
+        if worker >= self.crew {
+            return Outcome::Refused(refusal::NO_SUCH_WORKER);
+        }
+        let outcome =
+            with_queue!(&mut self.queue, machine => machine.step(worker as usize, room, witness));
+        if outcome == Outcome::Restarted {
+            self.restarts = self.restarts.saturating_add(1);
+        }
+        outcome
+    }
+
+    pub fn numbers_used(&self) -> u32 {
+        self.numbers_used
+    }
+
+    pub fn restarts(&self) -> u32 {
+        self.restarts
+    }
+
+    /// Head, count and tag; of FIFO head, tail and 0; of LIFO 0, t and g.
+    pub fn anchor(&self) -> [u32; 3] {
+        with_queue!(&self.queue, machine => machine.anchor())
+    }
+
+    pub fn store(&self) -> &Store {
+        with_queue!(&self.queue, machine => machine.store())
+    }
+
+    /// Gives the lent words back.
+    pub fn into_words(self) -> Vec<u32> {
+        with_queue!(self.queue, machine => machine.into_store()).into_words()
+    }
+
+    /// The words of each task in the window.
+    pub fn window(&self) -> Box<dyn Iterator<Item = (u32, u32)> + '_> {
+        with_queue!(&self.queue, machine => Box::new(machine.window()))
+    }
+
+    /// How far a worker is; none without such a worker.
+    pub fn place(&self, worker: u32) -> Option<Place> {
+        (worker < self.crew).then(|| with_queue!(&self.queue, machine => machine.place(worker as usize)))
+    }
+
+    /// Whether the current array is full.
+    pub fn full(&self) -> bool {
+        with_queue!(&self.queue, machine => machine.full())
+    }
+}
+
+#[cfg(test)]
+mod tests {
+    use super::*;
+    use crate::witness::Blind;
+
+    const LIFO: Shape = Shape { kind: 1, width: 4, size: 1, crew: 2 };
+
+    fn refused(shape: Shape, words: usize) -> u32 {
+        let mut lent = vec![7; words];
+        let refused = Bench::fresh(shape, &mut lent).err().unwrap();
+        assert_eq!(lent, vec![7; words], "a refused fresh touches nothing");
+        refused
+    }
+
+    #[test]
+    fn the_ranges_of_fresh_from_both_sides() {
+        let accepted = |shape, words| Bench::fresh(shape, &mut vec![7; words]).is_ok();
+        for kind in 1..=3 {
+            let shape = Shape { kind, ..LIFO };
+            assert!(accepted(shape, 2));
+            assert!(accepted(Shape { width: 1, ..shape }, 2));
+            assert!(accepted(Shape { width: 16, ..shape }, 2));
+            assert!(accepted(Shape { crew: 1, ..shape }, 2));
+            assert!(accepted(Shape { crew: 8, ..shape }, 2));
+            assert!(accepted(Shape { size: 1024, ..shape }, 2048));
+            assert_eq!(refused(Shape { width: 0, ..shape }, 2), 2);
+            assert_eq!(refused(Shape { width: 17, ..shape }, 2), 2);
+            assert_eq!(refused(Shape { size: 0, ..shape }, 2), 3);
+            assert_eq!(refused(Shape { size: 3, ..shape }, 9), 3);
+            assert_eq!(refused(Shape { size: 2048, ..shape }, 10_300), 3);
+            assert_eq!(refused(Shape { size: 1 << 31, ..shape }, 2), 3);
+            assert_eq!(refused(Shape { crew: 0, ..shape }, 2), 4);
+            assert_eq!(refused(Shape { crew: 9, ..shape }, 2), 4);
+            assert_eq!(refused(shape, 1), 5);
+            assert_eq!(refused(Shape { size: 1024, ..shape }, 2047), 5);
+        }
+        assert_eq!(refused(Shape { kind: 0, ..LIFO }, 2), 1);
+        assert_eq!(refused(Shape { kind: 4, ..LIFO }, 2), 1);
+    }
+
+    #[test]
+    fn fresh_refuses_in_the_order_1_to_5() {
+        let wrong = Shape { kind: 0, width: 0, size: 0, crew: 0 };
+        assert_eq!(refused(wrong, 0), 1);
+        assert_eq!(refused(Shape { kind: 1, ..wrong }, 0), 2);
+        assert_eq!(refused(Shape { kind: 1, width: 1, ..wrong }, 0), 3);
+        assert_eq!(refused(Shape { kind: 1, width: 1, size: 1, crew: 0 }, 0), 4);
+        assert_eq!(refused(LIFO, 0), 5);
+    }
+
+    #[test]
+    fn begin_refuses_in_the_order_6_9_7_10() {
+        let mut bench = Bench::fresh(LIFO, &mut vec![0; 2]).unwrap();
+        let put = Operation::Put { payload: 5 };
+        // The worker after the last one is in no crew, whatever it is told.
+        for operation in [put, Operation::Take, Operation::Steal] {
+            assert_eq!(bench.begin(2, operation), Err(6));
+        }
+        assert_eq!(bench.begin(1, Operation::Steal), Ok(None));
+        // P9: a busy thief told to put, and to take.
+        assert_eq!(bench.begin(1, put), Err(9));
+        assert_eq!(bench.begin(1, Operation::Take), Err(9));
+        assert_eq!(bench.begin(1, Operation::Steal), Err(7));
+        assert_eq!(bench.begin(0, put), Ok(Some(1)));
+        assert_eq!(bench.begin(0, Operation::Steal), Err(9));
+        bench.numbers_used = LAST_NUMBER;
+        assert_eq!(bench.begin(0, put), Err(7), "busy before spent");
+        for _ in 0..5 {
+            bench.step(0, true, &mut Blind);
+        }
+        assert_eq!(bench.begin(0, put), Err(10));
+        assert_eq!(bench.begin(0, Operation::Take), Ok(None), "a take needs no number");
+    }
+
+    #[test]
+    fn numbers_are_1_2_3_to_65535() {
+        let mut bench = Bench::fresh(LIFO, &mut vec![0; 2]).unwrap();
+        let put = Operation::Put { payload: 5 };
+        // The array is full after the first, so the others end with FULL: a put
+        // answered FULL has used its number.
+        for number in 1..=65_535 {
+            assert_eq!(bench.begin(0, put), Ok(Some(number)));
+            while bench.step(0, true, &mut Blind) == Outcome::GoesOn {}
+        }
+        assert_eq!(bench.begin(0, put), Err(10));
+        assert_eq!(bench.numbers_used(), 65_535);
+    }
+
+    #[test]
+    fn full_if_the_size_is_above_1024_or_the_words_left_are_too_few() {
+        // An array of 1,024 tasks takes 2,048 words and one of 2,048 tasks
+        // would take 4,096: in the longer store only the size forbids it.
+        for words in [2048, 10_300] {
+            for kind in 1..=3 {
+                let shape = Shape { kind, size: 1024, ..LIFO };
+                let mut bench = Bench::fresh(shape, &mut vec![0; words]).unwrap();
+                for number in 1..=1025 {
+                    bench.begin(0, Operation::Put { payload: 5 }).unwrap();
+                    let mut outcome = Outcome::GoesOn;
+                    while outcome == Outcome::GoesOn {
+                        outcome = bench.step(0, true, &mut Blind);
+                    }
+                    if number <= 1024 {
+                        assert_eq!(outcome, Outcome::Finished { number, payload: 5 });
+                    } else {
+                        assert_eq!(outcome, Outcome::Full { number, payload: 5 });
+                    }
+                }
+                assert_eq!((bench.store().published(), bench.store().arrays().len()), (1, 1));
+            }
+        }
+    }
+
+    #[test]
+    fn a_step_of_a_worker_outside_the_crew() {
+        let mut bench = Bench::fresh(LIFO, &mut vec![0; 2]).unwrap();
+        assert_eq!(bench.step(2, false, &mut Blind), Outcome::Refused(6));
+        assert_eq!(bench.step(u32::MAX, true, &mut Blind), Outcome::Refused(6));
+        assert_eq!(bench.step(1, false, &mut Blind), Outcome::Refused(8));
+    }
+
+    #[test]
+    fn a_restart_is_a_failed_compare_and_the_count_stays_at_its_ceiling() {
+        let mut bench = Bench::fresh(LIFO, &mut vec![0; 6]).unwrap();
+        let steps = |bench: &mut Bench, worker, count| {
+            for _ in 0..count {
+                bench.step(worker, true, &mut Blind);
+            }
+        };
+        bench.begin(0, Operation::Put { payload: 1 }).unwrap();
+        steps(&mut bench, 0, 5);
+        bench.begin(0, Operation::Put { payload: 2 }).unwrap();
+        steps(&mut bench, 0, 11); // the array grows on the way
+        assert_eq!(bench.restarts(), 0, "X4 goes back to line 1 and is no restart");
+        bench.begin(1, Operation::Steal).unwrap();
+        steps(&mut bench, 1, 5);
+        bench.begin(0, Operation::Take).unwrap();
+        steps(&mut bench, 0, 5);
+        steps(&mut bench, 1, 1);
+        assert_eq!(bench.restarts(), 1);
+        bench.restarts = u32::MAX;
+        steps(&mut bench, 1, 5);
+        bench.begin(0, Operation::Take).unwrap();
+        steps(&mut bench, 0, 5);
+        assert_eq!(bench.step(1, true, &mut Blind), Outcome::Restarted);
+        assert_eq!(bench.restarts(), u32::MAX);
+    }
+}

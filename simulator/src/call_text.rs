@@ -1,0 +1,123 @@
+//! What a line of a list of library calls says.
+
+use crate::bench::{Operation, Shape};
+use crate::text::value;
+
+/// The longest store and the longest log, in words.
+const LONGEST_STORE: u32 = 10_300;
+const LONGEST_LOG: u32 = 20_000;
+
+#[derive(Clone, Copy, Debug, PartialEq, Eq)]
+pub enum Line {
+    /// The lent memory, in words. It is the first line of a list and no other.
+    Memory { store: u32, log: u32 },
+    Call(Call),
+}
+
+#[derive(Clone, Copy, Debug, PartialEq, Eq)]
+pub enum Call {
+    Fresh(Shape),
+    Begin { worker: u32, operation: Operation },
+    Step { worker: u32, count: u32 },
+    Front,
+    State,
+}
+
+/// What a line says, its newline taken off; none if it is not of the form.
+/// Numbers are written as in the bench program's input.
+pub fn parse(line: &[u8]) -> Option<Line> {
+    let words: Vec<&[u8]> = line.split(|&byte| byte == b' ').collect();
+    let call = match words[..] {
+        [b"memory", store, log] => {
+            let (store, log) = (number(store)?, number(log)?);
+            return (store <= LONGEST_STORE && log <= LONGEST_LOG)
+                .then_some(Line::Memory { store, log });
+        }
+        [b"fresh", kind, width, size, crew] => Call::Fresh(Shape {
+            kind: number(kind)?,
+            width: number(width)?,
+            size: number(size)?,
+            crew: number(crew)?,
+        }),
+        [b"begin", worker, b"put", payload] => Call::Begin {
+            worker: number(worker)?,
+            operation: Operation::Put { payload: number(payload)? },
+        },
+        [b"begin", worker, b"take"] => {
+            Call::Begin { worker: number(worker)?, operation: Operation::Take }
+        }
+        [b"begin", worker, b"steal"] => {
+            Call::Begin { worker: number(worker)?, operation: Operation::Steal }
+        }
+        [b"step", worker, count] => Call::Step { worker: number(worker)?, count: number(count)? },
+        [b"front"] => Call::Front,
+        [b"state"] => Call::State,
+        _ => return None,
+    };
+    Some(Line::Call(call))
+}
+
+fn number(word: &[u8]) -> Option<u32> {
+    value(word).and_then(|(number, rest)| rest.is_empty().then_some(number))
+}
+
+#[cfg(test)]
+mod tests {
+    use super::*;
+
+    #[test]
+    fn each_form() {
+        assert_eq!(parse(b"memory 10300 20000"), Some(Line::Memory { store: 10_300, log: 20_000 }));
+        assert_eq!(parse(b"memory 0 0"), Some(Line::Memory { store: 0, log: 0 }));
+        assert_eq!(
+            parse(b"fresh 3 16 1024 8"),
+            Some(Line::Call(Call::Fresh(Shape { kind: 3, width: 16, size: 1024, crew: 8 })))
+        );
+        let begin = |worker, operation| Some(Line::Call(Call::Begin { worker, operation }));
+        assert_eq!(parse(b"begin 0 put 65"), begin(0, Operation::Put { payload: 65 }));
+        assert_eq!(parse(b"begin 0 take"), begin(0, Operation::Take));
+        assert_eq!(parse(b"begin 7 steal"), begin(7, Operation::Steal));
+        assert_eq!(parse(b"step 0 0"), Some(Line::Call(Call::Step { worker: 0, count: 0 })));
+        assert_eq!(parse(b"front"), Some(Line::Call(Call::Front)));
+        assert_eq!(parse(b"state"), Some(Line::Call(Call::State)));
+    }
+
+    #[test]
+    fn numbers_up_to_4294967295() {
+        for line in [
+            "fresh 4294967295 4294967295 4294967295 4294967295",
+            "begin 4294967295 put 4294967295",
+            "begin 4294967295 take",
+            "begin 4294967295 steal",
+            "step 4294967295 4294967295",
+        ] {
+            assert!(parse(line.as_bytes()).is_some(), "{line}");
+            for at in line.match_indices("4294967295").map(|(at, _)| at) {
+                let mut above = line.to_string();
+                above.replace_range(at..at + 10, "4294967296");
+                assert_eq!(parse(above.as_bytes()), None, "{above}");
+            }
+        }
+    }
+
+    #[test]
+    fn memory_within_its_ranges() {
+        assert_eq!(parse(b"memory 10301 0"), None);
+        assert_eq!(parse(b"memory 0 20001"), None);
+    }
+
+    #[test]
+    fn not_of_the_form() {
+        for line in [
+            "", " ", "memory", "memory 1", "memory 1 1 1", "fresh 1 1 1", "fresh 1 1 1 1 1",
+            "fresh 1 1 1 1 1 0", "begin 0", "begin 0 put", "begin 0 put 1 2", "begin put 1",
+            "begin 0 take 1", "begin 1 steal 1", "begin 0 commit", "step 0", "step 0 1 1",
+            "step 0 -1", "step +0 1", "step 0 x", "step  0 1", " step 0 1", "step 0 1 ",
+            "step\t0 1", "step 0 1\r", "STEP 0 1", "front 0", "fronts", "state 0", "states",
+            "put 1", "take", "steal 1", "queue 1 1 1 1 2", "end", "unlink 1", "who 0", "drain",
+            "ask 0", "unask 0", "make 1 1 1 1",
+        ] {
+            assert_eq!(parse(line.as_bytes()), None, "{line:?}");
+        }
+    }
+}

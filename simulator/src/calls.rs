@@ -1,0 +1,317 @@
+//! Lists of library calls: the lent memory, the bench on it and what each call
+//! answers.
+
+use std::io::{self, Write};
+
+use crate::bench::{Bench, Operation, Shape};
+use crate::call_text::{self, Call, Line};
+use crate::listing::print;
+use crate::log_judge::{EMPTY, FINISHED, FULL, HANDED_OUT};
+use crate::outcome::{refusal, Outcome, Place};
+use crate::witness::Blind;
+
+/// What word 0 of the store and of the log is at the start; each later word is
+/// one more than the word before it.
+const STORE_FROM: u32 = 3_000_000_000;
+const LOG_FROM: u32 = 4_000_000_000;
+
+/// The words of an entry.
+const ENTRY: usize = 4;
+
+#[derive(Default)]
+pub struct Calls {
+    /// None before the first line.
+    lent: Option<Lent>,
+}
+
+impl Calls {
+    pub fn new() -> Calls {
+        Calls::default()
+    }
+
+    /// Plays one line, its newline taken off, and writes its answers, each as
+    /// soon as it is there. Answers false if the line is not of the form: then
+    /// nothing was played.
+    pub fn line(&mut self, line: &[u8], out: &mut impl Write) -> io::Result<bool> {
+        match (call_text::parse(line), &mut self.lent) {
+            (Some(Line::Memory { store, log }), None) => self.lent = Some(Lent::new(store, log)),
+            (Some(Line::Call(call)), Some(lent)) => lent.play(call, out)?,
+            // The lent memory comes first and once.
+            _ => return Ok(false),
+        }
+        Ok(true)
+    }
+
+    fn bench(&self) -> Option<&Bench> {
+        self.lent.as_ref()?.bench.as_ref()
+    }
+
+    /// How far a worker is; none without a bench or such a worker.
+    pub fn place(&self, worker: u32) -> Option<Place> {
+        self.bench()?.place(worker)
+    }
+
+    /// Whether the current array is full.
+    pub fn full(&self) -> bool {
+        self.bench().is_some_and(Bench::full)
+    }
+
+    /// How many more entries the log can take.
+    pub fn entries_left(&self) -> u32 {
+        self.lent.as_ref().map_or(0, |lent| (lent.words_left() / ENTRY) as u32)
+    }
+}
+
+struct Lent {
+    /// The store's words; the bench has them while there is one.
+    store: Vec<u32>,
+    log: Vec<u32>,
+    /// Words of the log written.
+    written: usize,
+    /// None before the first fresh and after a refused one.
+    bench: Option<Bench>,
+}
+
+impl Lent {
+    fn new(store: u32, log: u32) -> Lent {
+        Lent {
+            store: (STORE_FROM..STORE_FROM + store).collect(),
+            log: (LOG_FROM..LOG_FROM + log).collect(),
+            written: 0,
+            bench: None,
+        }
+    }
+
+    fn words_left(&self) -> usize {
+        self.log.len() - self.written
+    }
+
+    fn play(&mut self, call: Call, out: &mut impl Write) -> io::Result<()> {
+        match call {
+            Call::Fresh(shape) => match self.fresh(shape) {
+                Ok(()) => say(out, b'A', &[]),
+                Err(number) => say(out, b'R', &[number]),
+            },
+            Call::Begin { worker, operation } => match self.begin(worker, operation) {
+                Ok(Some(number)) => say(out, b'N', &[number]),
+                Ok(None) => say(out, b'A', &[]),
+                Err(number) => say(out, b'R', &[number]),
+            },
+            Call::Step { worker, count } => {
+                for _ in 0..count {
+                    self.step(worker, out)?;
+                }
+                Ok(())
+            }
+            // Without a bench there is no front, and this call never refuses.
+            Call::Front if self.bench.is_none() => say(out, b'L', &[]),
+            Call::Front => say(out, b'L', &self.log[..self.written]),
+            Call::State => match &self.bench {
+                Some(bench) => say(out, b'S', &self.state(bench)),
+                None => say(out, b'R', &[refusal::FOREIGN_STATE]),
+            },
+        }
+    }
+
+    /// A refused fresh leaves no bench, not even the one before.
+    fn fresh(&mut self, shape: Shape) -> Result<(), u32> {
+        if let Some(bench) = self.bench.take() {
+            self.store = bench.into_words();
+        }
+        self.bench = Some(Bench::fresh(shape, &mut self.store)?);
+        self.written = 0;
+        Ok(())
+    }
+
+    fn begin(&mut self, worker: u32, operation: Operation) -> Result<Option<u32>, u32> {
+        self.bench.as_mut().ok_or(refusal::FOREIGN_STATE)?.begin(worker, operation)
+    }
+
+    fn step(&mut self, worker: u32, out: &mut impl Write) -> io::Result<()> {
+        let room = self.words_left() >= ENTRY;
+        let Some(bench) = &mut self.bench else {
+            return say(out, b'R', &[refusal::FOREIGN_STATE]);
+        };
+        match bench.step(worker, room, &mut Blind) {
+            Outcome::GoesOn | Outcome::Restarted | Outcome::Published => say(out, b'G', &[]),
+            Outcome::Finished { number, payload } => {
+                self.enter([FINISHED, worker, number, payload]);
+                say(out, b'D', &[number])
+            }
+            Outcome::HandedOut { number, payload } => {
+                self.enter([HANDED_OUT, worker, number, payload]);
+                say(out, b'H', &[worker, number, payload])
+            }
+            Outcome::Empty => {
+                self.enter([EMPTY, worker, 0, 0]);
+                say(out, b'E', &[worker])
+            }
+            Outcome::Full { number, payload } => {
+                self.enter([FULL, worker, number, payload]);
+                say(out, b'F', &[number])
+            }
+            Outcome::Refused(number) => say(out, b'R', &[number]),
+        }
+    }
+
+    fn enter(&mut self, entry: [u32; ENTRY]) {
+        self.log[self.written..self.written + ENTRY].copy_from_slice(&entry);
+        self.written += ENTRY;
+    }
+
+    /// What is shared: the anchor; how many arrays are published and how many
+    /// claimed; each claimed one; put numbers used; words of the log written;
+    /// restarts; and the store.
+    fn state(&self, bench: &Bench) -> Vec<u32> {
+        let store = bench.store();
+        let mut values = bench.anchor().to_vec();
+        values.extend([store.published() as u32, store.arrays().len() as u32]);
+        for array in store.arrays() {
+            values.extend([array.offset, array.length()]);
+        }
+        values.extend([bench.numbers_used(), self.written as u32, bench.restarts()]);
+        values.extend(store.words());
+        values
+    }
+}
+
+fn say(out: &mut impl Write, letter: u8, values: &[u32]) -> io::Result<()> {
+    let mut line = Vec::new();
+    print(&mut line, letter, values);
+    out.write_all(&line)
+}
+
+#[cfg(test)]
+mod tests {
+    use super::*;
+
+    /// The answers to a list, parted by commas as the list is.
+    fn answers(list: &str) -> String {
+        let mut calls = Calls::new();
+        let mut out = Vec::new();
+        for line in list.split(", ") {
+            if !calls.line(line.as_bytes(), &mut out).unwrap() {
+                break;
+            }
+        }
+        String::from_utf8(out).unwrap().trim_end().replace('\n', ", ")
+    }
+
+    #[test]
+    fn without_a_bench_every_call_is_answered_12_and_the_front_is_empty() {
+        let calls = "begin 0 put 1, begin 0 take, begin 1 steal, begin 9 steal, step 0 2, step 7 0, state, front";
+        let answered = "R 12, R 12, R 12, R 12, R 12, R 12, R 12, L";
+        assert_eq!(answers(&format!("memory 2 4, {calls}")), answered);
+        // Nor is there one after a refused fresh, whatever was before.
+        assert_eq!(
+            answers(&format!("memory 2 4, fresh 1 1 1 2, begin 0 take, step 0 2, front, fresh 1 1 2 2, {calls}")),
+            format!("A, A, G, E 0, L 3 0 0 0, R 5, {answered}")
+        );
+    }
+
+    #[test]
+    fn p1_call_by_call() {
+        assert_eq!(
+            answers(
+                "memory 12 40, fresh 1 1 2 2, begin 0 put 65, step 0 5, begin 1 steal, step 1 5, \
+                 begin 0 take, step 0 5, begin 0 put 66, step 0 5, begin 0 take, step 0 5, \
+                 begin 0 put 67, step 0 5, step 1 1, front, state"
+            ),
+            "A, N 1, G, G, G, G, D 1, A, G, G, G, G, G, A, G, G, G, G, H 0 1 65, N 2, G, G, G, G, D 2, \
+             A, G, G, G, G, H 0 2 66, N 3, G, G, G, G, D 3, H 1 1 65, \
+             L 1 0 1 65 2 0 1 65 1 0 2 66 2 0 2 66 1 0 3 67 2 1 1 65, \
+             S 0 0 1 1 1 0 4 3 24 0 3 67 0 0 3000000004 3000000005 3000000006 3000000007 \
+             3000000008 3000000009 3000000010 3000000011"
+        );
+    }
+
+    #[test]
+    fn fresh_zeroes_the_first_2c_words_and_touches_no_other() {
+        assert_eq!(answers("memory 3 0, fresh 3 1 1 1, state"), "A, S 0 0 0 1 1 0 2 0 0 0 0 0 3000000002");
+        // The one after it finds the words as they were left.
+        assert_eq!(
+            answers("memory 4 9, fresh 2 1 2 1, begin 0 put 8, step 0 6, state, fresh 1 1 1 1, state, front"),
+            "A, N 1, G, G, G, G, G, D 1, S 0 1 0 1 1 0 4 1 4 0 1 8 0 0, A, S 0 0 0 1 1 0 2 0 0 0 0 0 0 0, L"
+        );
+        assert_eq!(
+            answers("memory 4 9, fresh 2 1 2 1, begin 0 put 8, step 0 6, fresh 2 1 0 1, fresh 1 1 1 1, \
+                     begin 0 put 9, step 0 4, state"),
+            "A, N 1, G, G, G, G, G, D 1, R 3, A, N 1, G, G, G, G, S 0 0 0 1 1 0 2 1 0 0 1 9 0 0"
+        );
+    }
+
+    #[test]
+    fn an_array_claimed_and_not_yet_published() {
+        // Lines 1, 2, X1, X2, X3, X4 of the second put, with the state after X1,
+        // X3 and X4.
+        assert_eq!(
+            answers(
+                "memory 7 8, fresh 1 2 1 1, begin 0 put 5, step 0 5, begin 0 put 6, step 0 3, state, \
+                 step 0 2, state, step 0 1, state, step 0 5, state"
+            ),
+            "A, N 1, G, G, G, G, D 1, N 2, G, G, G, S 0 1 1 1 2 0 2 2 4 2 4 0 1 5 0 0 0 0 3000000006, \
+             G, G, S 0 1 1 1 2 0 2 2 4 2 4 0 1 5 1 5 0 0 3000000006, \
+             G, S 0 1 1 2 2 0 2 2 4 2 4 0 1 5 1 5 0 0 3000000006, \
+             G, G, G, G, D 2, S 0 2 2 2 2 0 2 2 4 2 8 0 1 5 1 5 2 6 3000000006"
+        );
+    }
+
+    #[test]
+    fn the_log_counts_words() {
+        // Four words are left, and the ending step is accepted; with three it
+        // is refused, and each step after it.
+        assert_eq!(
+            answers("memory 2 7, fresh 1 1 1 2, begin 0 take, step 0 2, begin 1 steal, step 1 4, front"),
+            "A, A, G, E 0, A, G, R 11, R 11, R 11, L 3 0 0 0"
+        );
+        assert_eq!(
+            answers("memory 2 8, fresh 1 1 1 2, begin 0 take, step 0 2, begin 1 steal, step 1 3, front"),
+            "A, A, G, E 0, A, G, E 1, R 8, L 3 0 0 0 3 1 0 0"
+        );
+    }
+
+    #[test]
+    fn a_failed_compare_is_the_one_restart() {
+        assert_eq!(
+            answers(
+                "memory 2 12, fresh 2 1 1 2, begin 0 put 4294967295, step 0 6, begin 1 steal, step 1 6, \
+                 begin 0 take, step 0 6, step 1 1, state, begin 0 put 0, step 0 6"
+            ),
+            "A, N 1, G, G, G, G, G, D 1, A, G, G, G, G, G, G, A, G, G, G, G, G, H 0 1 4294967295, \
+             G, S 1 1 0 1 1 0 2 1 8 1 1 4294967295, N 2, G, G, G, G, G, D 2"
+        );
+    }
+
+    #[test]
+    fn memory_comes_first_and_once() {
+        let mut calls = Calls::new();
+        let mut out = Vec::new();
+        assert!(!calls.line(b"state", &mut out).unwrap());
+        assert!(calls.line(b"memory 2 4", &mut out).unwrap());
+        assert!(!calls.line(b"memory 2 4", &mut out).unwrap());
+        assert!(out.is_empty());
+    }
+
+    /// Takes no more than so many bytes.
+    struct Narrow(usize);
+
+    impl Write for Narrow {
+        fn write(&mut self, bytes: &[u8]) -> io::Result<usize> {
+            self.0 = self.0.checked_sub(bytes.len()).ok_or(io::ErrorKind::WriteZero)?;
+            Ok(bytes.len())
+        }
+
+        fn flush(&mut self) -> io::Result<()> {
+            Ok(())
+        }
+    }
+
+    #[test]
+    fn answers_are_written_as_they_come() {
+        let mut calls = Calls::new();
+        calls.line(b"memory 2 4", &mut Narrow(0)).unwrap();
+        // Gathered first, these would be 21 GB.
+        let refused = calls.line(b"step 0 4294967295", &mut Narrow(50)).unwrap_err();
+        assert_eq!(refused.kind(), io::ErrorKind::WriteZero);
+    }
+}

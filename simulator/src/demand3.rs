@@ -1,0 +1,292 @@
+//! Demand 3, checked from the history of the calls and not from the counts of
+//! `T`: after every step that moves the window, each finished put's task was
+//! handed out or stands whole in it; each pair handed out belongs to a put
+//! finished before it; each EMPTY was answered only if every put finished by
+//! that attempt's line 1 had been handed out before.
+//!
+//! For the queues with a tag of w bits all that is promised under a premise:
+//! fewer than 2^w puts finish between a steal attempt's line 1 and its compare.
+//! An attempt without a compare is asked nothing, so a break is seen at the
+//! compare. Every front of a list is a list, so what goes wrong before the
+//! break is wrong, and what goes wrong from the break on is not.
+
+use crate::witness::Witness;
+
+#[derive(Clone, Copy, Default)]
+struct Put {
+    payload: u32,
+    finished: bool,
+    handed_out: bool,
+    /// The last look at the window that found it there.
+    seen_standing: u64,
+}
+
+#[derive(Clone, Debug, PartialEq, Eq)]
+pub enum Finding {
+    Kept,
+    PremiseBroken { call: u64, worker: usize },
+    Violated { call: u64, what: String },
+}
+
+pub struct Demand3 {
+    calls: u64,
+    /// 2^w; none for the FIFO queue, which has no premise.
+    limit: Option<usize>,
+    /// By put number, from 1.
+    puts: Vec<Put>,
+    /// Numbers of the finished puts, in the order they finished.
+    finished: Vec<u32>,
+    /// All finished puts before this place were handed out.
+    open_from: usize,
+    /// How many puts had finished by line 1 of each worker's attempt.
+    finished_by_line_one: [usize; 8],
+    looks: u64,
+    window_moved: bool,
+    finding: Finding,
+}
+
+impl Demand3 {
+    pub fn new() -> Demand3 {
+        Demand3 {
+            calls: 0,
+            limit: None,
+            puts: vec![Put::default()],
+            finished: Vec::new(),
+            open_from: 0,
+            finished_by_line_one: [0; 8],
+            looks: 0,
+            window_moved: false,
+            finding: Finding::Kept,
+        }
+    }
+
+    pub fn finding(&self) -> &Finding {
+        &self.finding
+    }
+
+    fn violation(&mut self, what: String) {
+        // Only the first word counts: after a break nothing is promised.
+        if self.finding == Finding::Kept {
+            self.finding = Finding::Violated { call: self.calls, what };
+        }
+    }
+
+    fn skip_handed_out(&mut self) {
+        while self.open_from < self.finished.len()
+            && self.puts[self.finished[self.open_from] as usize].handed_out
+        {
+            self.open_from += 1;
+        }
+    }
+}
+
+impl Default for Demand3 {
+    fn default() -> Demand3 {
+        Demand3::new()
+    }
+}
+
+impl Witness for Demand3 {
+    fn fresh(&mut self, kind: u32, width: u32) {
+        self.limit = if kind == 2 { None } else { Some(1 << width) };
+    }
+
+    fn call(&mut self) {
+        self.calls += 1;
+    }
+
+    fn put_begun(&mut self, number: u32, payload: u32) {
+        if number as usize != self.puts.len() {
+            self.violation(format!("the put after {} was numbered {number}", self.puts.len() - 1));
+        }
+        self.puts.push(Put { payload, ..Put::default() });
+    }
+
+    fn line_one(&mut self, worker: usize) {
+        self.finished_by_line_one[worker] = self.finished.len();
+    }
+
+    fn compare(&mut self, worker: usize) {
+        let Some(limit) = self.limit else { return };
+        let between = self.finished.len() - self.finished_by_line_one[worker];
+        if between >= limit && self.finding == Finding::Kept {
+            self.finding = Finding::PremiseBroken { call: self.calls, worker };
+        }
+    }
+
+    fn finished(&mut self, number: u32) {
+        self.window_moved = true;
+        match self.puts.get_mut(number as usize) {
+            Some(put) if number > 0 && !put.finished => put.finished = true,
+            _ => self.violation(format!("put {number} can't have finished")),
+        }
+        self.finished.push(number);
+    }
+
+    fn handed_out(&mut self, worker: usize, number: u32, payload: u32) {
+        self.window_moved = true;
+        match self.puts.get_mut(number as usize) {
+            Some(put) if number > 0 && put.finished && put.payload == payload => {
+                put.handed_out = true;
+            }
+            _ => self.violation(format!(
+                "worker {worker} was handed put {number} with payload {payload}, \
+                 which belongs to no finished put"
+            )),
+        }
+        self.skip_handed_out();
+    }
+
+    fn empty(&mut self, worker: usize) {
+        // The puts are held in the order they finished, so those finished by
+        // line 1 are a front of the list.
+        self.skip_handed_out();
+        if self.open_from < self.finished_by_line_one[worker] {
+            let number = self.finished[self.open_from];
+            self.violation(format!("worker {worker} answered EMPTY with put {number} there"));
+        }
+    }
+
+    fn wants_window(&self) -> bool {
+        self.window_moved
+    }
+
+    fn published(&mut self) {
+        self.window_moved = true;
+    }
+
+    fn window(&mut self, tasks: &mut dyn Iterator<Item = (u32, u32)>) {
+        self.window_moved = false;
+        self.looks += 1;
+        for (number, payload) in tasks {
+            if let Some(put) = self.puts.get_mut(number as usize) {
+                if put.payload == payload {
+                    put.seen_standing = self.looks;
+                }
+            }
+        }
+        let gone = self.finished[self.open_from..].iter().copied().find(|&number| {
+            let put = &self.puts[number as usize];
+            !put.handed_out && put.seen_standing != self.looks
+        });
+        if let Some(number) = gone {
+            self.violation(format!("put {number} is lost"));
+        }
+    }
+}
+
+#[cfg(test)]
+mod tests {
+    use super::*;
+
+    fn with_put(width: u32) -> Demand3 {
+        let mut history = Demand3::new();
+        history.fresh(1, width);
+        history.call();
+        history.put_begun(1, 50);
+        history.call();
+        history.finished(1);
+        history.window(&mut [(1, 50)].into_iter());
+        history
+    }
+
+    fn violated(history: &Demand3) -> bool {
+        matches!(history.finding, Finding::Violated { .. })
+    }
+
+    #[test]
+    fn a_task_handed_out_is_not_lost() {
+        let mut history = with_put(1);
+        history.handed_out(1, 1, 50);
+        history.window(&mut [].into_iter());
+        assert_eq!(history.finding, Finding::Kept);
+    }
+
+    #[test]
+    fn a_task_neither_handed_out_nor_whole_in_the_window_is_lost() {
+        for window in [vec![], vec![(1, 51)], vec![(0, 50)]] {
+            let mut history = with_put(1);
+            history.window(&mut window.into_iter());
+            assert!(violated(&history));
+        }
+    }
+
+    #[test]
+    fn invented_pairs() {
+        for (number, payload) in [(0, 0), (0, 50), (1, 51), (2, 50)] {
+            let mut history = with_put(1);
+            history.handed_out(1, number, payload);
+            assert!(violated(&history), "{number} {payload}");
+        }
+        // Begun is not finished.
+        let mut history = with_put(1);
+        history.put_begun(2, 60);
+        history.handed_out(1, 2, 60);
+        assert!(violated(&history));
+    }
+
+    #[test]
+    fn empty_goes_by_line_one_of_its_own_attempt() {
+        let mut history = with_put(1);
+        history.line_one(1);
+        history.empty(1);
+        assert!(violated(&history));
+
+        let mut history = with_put(1);
+        history.line_one(1);
+        history.handed_out(2, 1, 50);
+        history.put_begun(2, 60);
+        history.finished(2);
+        history.empty(1);
+        assert_eq!(history.finding, Finding::Kept, "put 2 finished after line 1");
+        history.line_one(1);
+        history.empty(1);
+        assert!(violated(&history));
+    }
+
+    #[test]
+    fn the_premise_breaks_at_the_compare_and_at_two_to_the_w() {
+        let mut history = with_put(1);
+        history.line_one(1);
+        history.put_begun(2, 60);
+        history.finished(2);
+        history.compare(1);
+        assert_eq!(history.finding, Finding::Kept, "one put is fewer than two");
+        history.line_one(1);
+        for number in 3..=4 {
+            history.put_begun(number, 60);
+            history.finished(number);
+        }
+        assert_eq!(history.finding, Finding::Kept, "no compare yet");
+        history.compare(1);
+        assert!(matches!(history.finding, Finding::PremiseBroken { worker: 1, .. }));
+        history.window(&mut [].into_iter());
+        assert!(!violated(&history), "nothing is promised after the break");
+    }
+
+    #[test]
+    fn the_fifo_queue_has_no_premise() {
+        let mut history = Demand3::new();
+        history.fresh(2, 1);
+        history.line_one(1);
+        for number in 1..=10 {
+            history.put_begun(number, 0);
+            history.finished(number);
+        }
+        history.compare(1);
+        assert_eq!(history.finding, Finding::Kept);
+    }
+
+    #[test]
+    fn a_violation_before_the_break_stays_one() {
+        let mut history = with_put(1);
+        history.line_one(1);
+        history.window(&mut [].into_iter());
+        for number in 2..=3 {
+            history.put_begun(number, 60);
+            history.finished(number);
+        }
+        history.compare(1);
+        assert!(violated(&history));
+    }
+}

@@ -1,0 +1,36 @@
+//! A line of output.
+
+/// Puts a line behind `listing`: a letter and its values in base ten, each with
+/// one space before it.
+pub fn print(listing: &mut Vec<u8>, letter: u8, values: &[u32]) {
+    listing.push(letter);
+    for &value in values {
+        listing.push(b' ');
+        let mut digits = [0; 10];
+        let mut first = digits.len();
+        let mut rest = value;
+        loop {
+            first -= 1;
+            digits[first] = b'0' + (rest % 10) as u8;
+            rest /= 10;
+            if rest == 0 {
+                break;
+            }
+        }
+        listing.extend_from_slice(&digits[first..]);
+    }
+    listing.push(b'\n');
+}
+
+#[cfg(test)]
+mod tests {
+    use super::*;
+
+    #[test]
+    fn values_in_base_ten_parted_by_one_space() {
+        let mut listing = b"D 1\n".to_vec();
+        print(&mut listing, b'L', &[]);
+        print(&mut listing, b'H', &[0, 10, u32::MAX]);
+        assert_eq!(listing, b"D 1\nL\nH 0 10 4294967295\n");
+    }
+}

@@ -1,0 +1,38 @@
+/* Calls the judge from C99, with a null pointer where a length is 0. Last line: 'N passed, M failed'. */
+#include "../../include/bomqelir.h"
+
+#include <stdio.h>
+
+static int passed = 0;
+static int failed = 0;
+
+static void expect(const char *what, uint64_t got, uint64_t answer) {
+    if (got == answer) {
+        ++passed;
+    } else {
+        ++failed;
+        printf("FAILED: %s: %llu, expected %llu\n", what, (unsigned long long)got, (unsigned long long)answer);
+    }
+}
+
+int main(void) {
+    /* Put 1 with payload 65 finished, and handed out to worker 3. */
+    const uint8_t log[32] = {1, 0, 0, 0, 0, 0, 0, 0, 1, 0, 0, 0, 65, 0, 0, 0, 2, 0, 0, 0, 3, 0, 0, 0, 1, 0, 0, 0, 65, 0, 0, 0};
+    const uint8_t stored[4] = {1, 0, 0, 0};
+    uint64_t answer;
+
+    expect("null and null", bomqelir_judge(NULL, 0, NULL, 0), UINT64_C(4294967296));
+    expect("a null log", bomqelir_judge(NULL, 0, stored, sizeof stored), UINT64_C(4294967296));
+    expect("a null list", bomqelir_judge(log, sizeof log, NULL, 0), UINT64_C(4295032832));
+    expect("a null list, the put nowhere", bomqelir_judge(log, 16, NULL, 0), BOMQELIR_NO);
+    expect("a list", bomqelir_judge(log, 16, stored, sizeof stored), UINT64_C(4294967296));
+    expect("15 bytes", bomqelir_judge(log, 15, NULL, 0), BOMQELIR_BAD_LENGTH);
+
+    answer = bomqelir_judge(log, sizeof log, NULL, 0);
+    expect("accepted", bomqelir_accepted(answer) != 0, 1);
+    expect("hand-outs", bomqelir_handouts(answer), 1);
+    expect("repeats", bomqelir_repeats(answer), 0);
+
+    printf("%d passed, %d failed\n", passed, failed);
+    return failed != 0;
+}
