@@ -11,7 +11,7 @@ use Rattle.model.specs.Lines.{lineStep}
 use Rattle.model.specs.World.{World}
 use Rattle.model.specs.Limits.{validOf}
 use Rattle.model.specs.Counts.{someBelow, countBelow, entriesIn}
-use Rattle.model.specs.Calls.{freshOf, beginOf, stepOf, frontOf, Call, step}
+use Rattle.model.specs.Calls.{freshOf, setup, beginOf, stepOf, frontOf, Call, step}
 use Rattle.model.specs.Run.{after}
 use Rattle.model.specs.Window.{windowSize}
 use Rattle.order.specs.Order.{logFront}
@@ -26,7 +26,7 @@ abbrev accepted : World → List Call → Bool
 accepted W cs = accepts (logFront (after W cs)) (entriesIn (after W cs)) (stored (after W cs)) (windowSize (after W cs))
 
 -- no call; whatever the log held before
-pub none-accepted : accepted (freshOf 3 1 2 2 (replicate 4 0) (replicate 9 7) .world) [] ≡ true
+pub none-accepted : accepted (freshOf (setup 3 1 2 2) (replicate 4 0) (replicate 9 7) .world) [] ≡ true
 unfolding frontOf after freshOf allBelow zeros if_then_else_ _and_ _or_
 none-accepted = refl
 
@@ -44,7 +44,7 @@ p2-accepted = refl
 abbrev full : List Call
 full = tried.does 1 Steal 6 ++ tried.does 0 (Put 8) 6 ++ tried.does 0 (Put 9) 6
 
-pub full-accepted : accepted (freshOf 2 1 1 2 (replicate 2 0) (replicate 40 5) .world) full ≡ true
+pub full-accepted : accepted (freshOf (setup 2 1 1 2) (replicate 2 0) (replicate 40 5) .world) full ≡ true
 unfolding tried.does frontOf after allBelow someBelow freshOf beginOf stepOf validOf lineStep zeros wordAt setWord offsetAt sizeAt if_then_else_ _and_ _or_
 full-accepted = refl
 
@@ -69,6 +69,6 @@ p2-judged = refl
 abbrev p3 : List Call
 p3 = tried.does 0 (Put 5) 6 ++ tried.does 0 Take 3 ++ tried.does 1 Steal 7 ++ replicate 3 (step 0)
 
-pub p3-judged : verdict (freshOf 2 1 2 2 (replicate 4 0) (replicate 40 5) .world) p3 ≡ Accepted 2 1
+pub p3-judged : verdict (freshOf (setup 2 1 2 2) (replicate 4 0) (replicate 40 5) .world) p3 ≡ Accepted 2 1
 unfolding tried.does frontOf after judged wordsOf allBelow someBelow countBelow freshOf beginOf stepOf validOf lineStep zeros wordAt setWord offsetAt sizeAt if_then_else_ _and_ _or_
 p3-judged = refl

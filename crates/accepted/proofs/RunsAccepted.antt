@@ -107,9 +107,9 @@ module _ (W : World) (cs : List Call) (D : Demand3 W cs)
   all-accepted = and-both _ _ known-all (and-both _ _ rises-all (and-both _ _ justified-all kept-all))
 
 pub runs-accepted : RunsAccepted
-runs-accepted k w c n m l e cs f =
+runs-accepted s m l e cs f =
     subst₂ (λ (l : List ℕ) (n : ℕ). accepts l n (stored (after W cs)) (windowSize (after W cs)) ≡ true)
-    (sym (log-is-answers k w c n m l e cs)) (entries-many k w c n m l e cs) (all-accepted W cs (demand3 k w c n m l e cs f) (ended-puts-rise k w c n m l e cs))
+    (sym (log-is-answers s m l e cs)) (entries-many s m l e cs) (all-accepted W cs (demand3 s m l e cs f) (ended-puts-rise s m l e cs))
   where
     W : World
-    W = freshOf k w c n m l .world
+    W = freshOf s m l .world

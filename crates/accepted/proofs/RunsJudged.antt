@@ -55,16 +55,16 @@ judged-words log list n m e f g h =
 
 pub runs-judged : RunsJudged
 unfolding countsOf
-runs-judged k w c n m l e cs f log list (a, b) (x, y) short =
-    judged-words log list N size whole stored short (omega (arith, stored, window-small U (whole-run cs W (fresh-started k w c n m l e .whole))))
+runs-judged s m l e cs f log list (a, b) (x, y) short =
+    judged-words log list N size whole stored short (omega (arith, stored, window-small U (whole-run cs W (fresh-started s m l e .whole))))
     ∙ ap (λ (v : List ℕ). judgedWords v N (wordsOf list) size) b
     ∙ ap (λ (v : List ℕ). judgedWords (logFront U) N v size) y
-    ∙ if-true _ (runs-accepted k w c n m l e cs f)
+    ∙ if-true _ (runs-accepted s m l e cs f)
     ∙ ap (λ (h : ℕ). Accepted h (repeats (logFront U) N)) (handouts-same U)
     ∙ ap (λ (r : ℕ). Accepted (countsOf U .handouts) r) same
   where
     W : World
-    W = freshOf k w c n m l .world
+    W = freshOf s m l .world
 
     U : World
     U = after W cs
@@ -76,7 +76,7 @@ runs-judged k w c n m l e cs f log list (a, b) (x, y) short =
     size = windowSize U
 
     whole : length log ≡ 16 * N
-    whole = omega (arith, a, ap length (log-is-answers k w c n m l e cs), entries-long (played W cs), entries-many k w c n m l e cs)
+    whole = omega (arith, a, ap length (log-is-answers s m l e cs), entries-long (played W cs), entries-many s m l e cs)
 
     stored : length list ≡ 4 * size
     stored = omega (arith, x, window-long U size)

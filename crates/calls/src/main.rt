@@ -188,7 +188,13 @@ fn ask(
             size,
             workers,
         } => {
-            let made = Bench::fresh(kind, width, size, workers, store);
+            let setup = model::Setup {
+                kind,
+                width,
+                size,
+                crew: workers,
+            };
+            let made = Bench::fresh(setup, store);
             let answer = made.answer;
             let words = plays::words_of(answer);
             let shown = output::show_answers(text, &words, out);
@@ -393,7 +399,13 @@ fn run(buf: &mut [u8], store: &mut [u32], log: &mut [u32], out: &mut [u8])
     requires { ⌜ (64 < length (now buf)) × (35 ≤ length (now out)) ⌝ }
 {
     // a refused fresh: no bench
-    let none = Bench::fresh(0, 0, 0, 0, store);
+    let nothing = model::Setup {
+        kind: 0,
+        width: 0,
+        size: 0,
+        crew: 0,
+    };
+    let none = Bench::fresh(nothing, store);
     let bench = none.bench;
     let game = Game {
         begun: false,

@@ -22,7 +22,7 @@ use Rattle.model.specs.Figures.{anchor}
 use Rattle.model.specs.Lines.{lineStep}
 use Rattle.model.specs.World.{World, lineAt}
 use Rattle.model.specs.Limits.{validOf}
-use Rattle.model.specs.Calls.{freshOf, beginOf, stepOf, Call, begin, step}
+use Rattle.model.specs.Calls.{freshOf, setup, beginOf, stepOf, Call, begin, step}
 use Rattle.model.specs.Run.{Played, played, after}
 use Rattle.model.specs.Window.{windowSize}
 use Rattle.theorems.specs.Demand3.{At, Begins, Line1, Attempt, Out, AllOut, Stands, puts, between, Few, FewPuts, Demand3}
@@ -109,7 +109,7 @@ unfoldable pub p1 : List Call
 p1 = does (begin 0 (Put 65)) ++ does (begin 1 Steal) ++ does (begin 0 Take) ++ does (begin 0 (Put 66)) ++ does (begin 0 Take) ++ does (begin 0 (Put 67)) ++ step 1 ∷ []
 
 unfoldable pub bench : ℕ → ℕ → World
-bench w n = freshOf 1 w 2 n (replicate 12 0) (replicate 64 0) .world
+bench w n = freshOf (setup 1 w 2 n) (replicate 12 0) (replicate 64 0) .world
 
 -- P1: the thief's line 1 is at place 7, its compare at place 36; 2 = 2^1 puts finish between, and put 3 is lost
 pub p1-loses : Loses (bench 1 2) p1 2
@@ -163,13 +163,13 @@ p2-keeps-premise i l j x a =
     ))
 
 -- so demand 3 holds of it, not emptily
-p2-accepted : freshOf 1 2 2 2 (replicate 12 0) (replicate 64 0) .answer ≡ Accepted
+p2-accepted : freshOf (setup 1 2 2 2) (replicate 12 0) (replicate 64 0) .answer ≡ Accepted
 unfolding freshOf if_then_else_ _and_ _or_
 p2-accepted = refl
 
 pub p2-holds : Demand3 (bench 2 2) p1
 unfolding bench
-p2-holds = demand3 1 2 2 2 (replicate 12 0) (replicate 64 0) p2-accepted p1 p2-keeps-premise
+p2-holds = demand3 (setup 1 2 2 2) (replicate 12 0) (replicate 64 0) p2-accepted p1 p2-keeps-premise
 
 -- thief 2 reads put 3's number before thief 1's compare loses it, and put 5's payload after two more puts
 unfoldable pub mixed : List Call

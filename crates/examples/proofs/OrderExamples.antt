@@ -14,7 +14,7 @@ use Rattle.model.specs.Memory.{zeros, wordAt, setWord, offsetAt, sizeAt}
 use Rattle.model.specs.Lines.{lineStep}
 use Rattle.model.specs.World.{World}
 use Rattle.model.specs.Limits.{validOf}
-use Rattle.model.specs.Calls.{freshOf, beginOf, stepOf, frontOf, Call, begin, step}
+use Rattle.model.specs.Calls.{freshOf, setup, beginOf, stepOf, frontOf, Call, begin, step}
 use Rattle.model.specs.Run.{played, after}
 use Rattle.model.specs.Counts.{entryAt, isKind, outFirst, someBelow}
 use Rattle.order.specs.Order.{InOrder, LogInOrder, logFront}
@@ -27,7 +27,7 @@ does i op n = begin i op ∷ replicate n (step i)
 
 -- a bench of kind k with two slots and one thief; the log's front after a list
 unfoldable pub bench : ℕ → World
-bench k = freshOf k 1 2 2 (replicate 4 0) (replicate 64 0) .world
+bench k = freshOf (setup k 1 2 2) (replicate 4 0) (replicate 64 0) .world
 
 unfoldable pub front : ℕ → List Call → List ℕ
 front k cs = logFront (after (bench k) cs)
@@ -70,9 +70,9 @@ unfolding twice does bench front after frontOf someBelow freshOf beginOf stepOf 
 deque-is-not f = let z : 2 < 1 = f 2 3 (omega arith) refl refl in omega arith
 
 -- nor are the answers
-answers-are-not : (k : ℕ) → freshOf k 1 2 2 (replicate 4 0) (replicate 64 0) .answer ≡ Accepted → (LogInOrder (front k twice) → ⊥) → InOrder (played (bench k) twice) → ⊥
+answers-are-not : (k : ℕ) → freshOf (setup k 1 2 2) (replicate 4 0) (replicate 64 0) .answer ≡ Accepted → (LogInOrder (front k twice) → ⊥) → InOrder (played (bench k) twice) → ⊥
 unfolding bench front
-answers-are-not k e f o = f (subst LogInOrder (sym (log-is-answers k 1 2 2 (replicate 4 0) (replicate 64 0) e twice)) (log-in-order _ o))
+answers-are-not k e f o = f (subst LogInOrder (sym (log-is-answers (setup k 1 2 2) (replicate 4 0) (replicate 64 0) e twice)) (log-in-order _ o))
 
 pub lifo-answers-are-not : InOrder (played (bench 1) twice) → ⊥
 unfolding freshOf if_then_else_ _and_ _or_

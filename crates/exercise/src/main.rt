@@ -9,6 +9,7 @@ use model::Answer;
 use model::Line;
 use model::Operation;
 use model::Region;
+use model::Setup;
 use model::Task;
 use model::Worker;
 use queues::Bench;
@@ -74,7 +75,13 @@ fn report(tried: &[u8], answer: Answer) {
 // Each try has memory of its own: a store of 30 words and a log of 8.
 fn try_fresh(tried: &[u8], kind: u32, width: u32, size: u32, crew: u32) {
     let mut store = [0u32; 30];
-    let made = Bench::fresh(kind, width, size, crew, &mut store);
+    let setup = Setup {
+        kind,
+        width,
+        size,
+        crew,
+    };
+    let made = Bench::fresh(setup, &mut store);
     let answer = made.answer;
     report(tried, answer);
 }
@@ -108,7 +115,13 @@ fn try_state(tried: &[u8], state: model::Bench) {
 // The state that an accepted fresh makes: 2 slots, tags of 4 bits, a crew of 3.
 fn base(kind: u32) -> model::Bench {
     let mut store = [0u32; 30];
-    let made = Bench::fresh(kind, 4, 2, 3, &mut store);
+    let setup = Setup {
+        kind,
+        width: 4,
+        size: 2,
+        crew: 3,
+    };
+    let made = Bench::fresh(setup, &mut store);
     let bench = made.bench;
     bench.state
 }
@@ -223,7 +236,13 @@ fn put(bench: Bench, store: &mut [u32], log: &mut [u32]) -> Reply {
 // Two puts, of which the end of the second is told: the first has left 4 words fewer in the log.
 fn try_log(tried: &[u8], log: &mut [u32]) {
     let mut store = [0u32; 4];
-    let mut last = Bench::fresh(1, 4, 2, 1, &mut store);
+    let setup = Setup {
+        kind: 1,
+        width: 4,
+        size: 2,
+        crew: 1,
+    };
+    let mut last = Bench::fresh(setup, &mut store);
     last = put(last.bench, &mut store, log);
     last = put(last.bench, &mut store, log);
     let answer = last.answer;

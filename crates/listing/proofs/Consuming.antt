@@ -11,7 +11,7 @@ use Rattle.model.specs.declared.Command.the-variants.{Open, BeginPut, BeginTake
 use Rattle.model.specs.declared.Refusal.the-variants.{BadLine}
 use Rattle.model.specs.declared.Operation.the-variants.{Put, Take, Steal}
 use Rattle.model.specs.declared.Answer.the-variants.{Refused}
-use Rattle.model.specs.Calls.{freshOf, beginOf}
+use Rattle.model.specs.Calls.{freshOf, setup, beginOf}
 use Rattle.model.specs.Counts.{countsOf}
 use Rattle.model.specs.Listing.{Program, waiting, playing, ended, respond, listingFrom}
 use Rattle.text.specs.Numbers.{Placed}
@@ -34,7 +34,7 @@ use Rattle.replies.proofs.Replies.{left-on}
 -- A line's text has at most 72 bytes.
 pub respond-most : (P : Program) (c : Command) → length (shownAll (respond P c .output)) ≤ 72
 unfolding respond
-respond-most (waiting m l) (Open k w z n s) = omega (arith, answer-most (freshOf k w z n (take s m) l .answer))
+respond-most (waiting m l) (Open k w z n s) = omega (arith, answer-most (freshOf (setup k w z n) (take s m) l .answer))
 respond-most (waiting m l) (BeginPut p) = omega (arith, answer-most (Refused BadLine))
 respond-most (waiting m l) BeginTake = omega (arith, answer-most (Refused BadLine))
 respond-most (waiting m l) (BeginSteal i) = omega (arith, answer-most (Refused BadLine))

@@ -4,13 +4,14 @@ use mathlib.Core.Path.{_≡_, refl}
 use mathlib.Core.Bool.{Bool, true, false}
 use mathlib.Core.List.{List}
 use lib.ListN.{take}
+use Rattle.model.specs.declared.Setup.{Setup}
 use Rattle.model.specs.declared.Operation.the-variants.{Put, Take, Steal}
 use Rattle.model.specs.declared.Command.{Command}
 use Rattle.model.specs.declared.Command.the-variants.{Open, BeginPut, BeginTake, BeginSteal, Steps, End, Bad}
 use Rattle.model.specs.declared.Answer.the-variants.{Accepted}
 use Rattle.model.specs.Tests.{if_then_else_}
 use Rattle.model.specs.World.{World, Outcome}
-use Rattle.model.specs.Calls.{freshOf, begin, step, stepOf}
+use Rattle.model.specs.Calls.{freshOf, setup, begin, step, stepOf}
 use Rattle.model.specs.Listing.{Program, waiting, playing, ended, Response, isRefused, opened, respond, stepsOf}
 use Rattle.theorems.specs.Reached.{Reached}
 use Rattle.theorems.proofs.Reached.{reached-fresh, reached-call}
@@ -21,9 +22,9 @@ use Rattle.replies.proofs.Ways.{either, never}
 abbrev Accepts : Outcome → Type 0
 Accepts d = isRefused (d .answer) ≡ false → d .answer ≡ Accepted
 
-fresh-accepts : (k w c n : ℕ) (m l : List ℕ) → Accepts (freshOf k w c n m l)
+fresh-accepts : (s : Setup) (m l : List ℕ) → Accepts (freshOf s m l)
 unfolding freshOf
-fresh-accepts k w c n m l =
+fresh-accepts s m l =
     either Accepts _ _ _ (either Accepts _ _ _ (either Accepts _ _ _ (either Accepts _ _ _ (either Accepts _ _ _
     (λ e. refl) (λ e. never e)) (λ e. never e)) (λ e. never e)) (λ e. never e)) (λ e. never e)
 
@@ -44,7 +45,7 @@ steps-reach (suc m) W i r =
 
 pub respond-reach : (P : Program) (c : Command) → Reachable P → Reachable (respond P c .program)
 unfolding respond
-respond-reach (waiting m l) (Open k w c n s) r = opened-reach m l (freshOf k w c n (take s m) l) (λ e. reached-fresh k w c n (take s m) l (fresh-accepts k w c n (take s m) l e))
+respond-reach (waiting m l) (Open k w c n s) r = opened-reach m l (freshOf (setup k w c n) (take s m) l) (λ e. reached-fresh (setup k w c n) (take s m) l (fresh-accepts (setup k w c n) (take s m) l e))
 respond-reach (waiting m l) (BeginPut p) r = tt
 respond-reach (waiting m l) BeginTake r = tt
 respond-reach (waiting m l) (BeginSteal i) r = tt

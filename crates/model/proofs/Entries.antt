@@ -10,7 +10,7 @@ use Rattle.model.specs.Memory.{zeros, wordAt, setWord, offsetAt, sizeAt}
 use Rattle.model.specs.Lines.{lineStep}
 use Rattle.model.specs.World.{World}
 use Rattle.model.specs.Limits.{validOf}
-use Rattle.model.specs.Calls.{freshOf, beginOf, stepOf, frontOf, Call, begin, step}
+use Rattle.model.specs.Calls.{freshOf, setup, beginOf, stepOf, frontOf, Call, begin, step}
 use Rattle.model.specs.Run.{after}
 
 -- worker i begins an operation and does n steps
@@ -20,7 +20,7 @@ does i op n = begin i op ∷ replicate n (step i)
 -- a queue of kind k with one slot, no room for a second array and a crew of 8; its log has 28 words, each 9 at the start
 abbrev frontAfter : ℕ → List Call → List ℕ
 frontAfter k cs =
-    let W : World = after (freshOf k 1 1 8 (replicate 2 0) (replicate 28 9) .world) cs in
+    let W : World = after (freshOf (setup k 1 1 8) (replicate 2 0) (replicate 28 9) .world) cs in
     frontOf (W .bench) (W .log)
 
 -- LIFO: put 1 is finished, put 2 found FULL, thief 3 was handed put 1, thief 2 and the owner found EMPTY

@@ -5,7 +5,7 @@ use lib.ListN.{replicate}
 use Rattle.model.specs.declared.Answer.{Answer}
 use Rattle.model.specs.declared.Command.{Command}
 use Rattle.model.specs.World.{Outcome}
-use Rattle.model.specs.Calls.{freshOf, Call}
+use Rattle.model.specs.Calls.{freshOf, setup, Call}
 use Rattle.model.specs.Run.{played}
 use Rattle.model.specs.Listing.{Print, listing}
 
@@ -33,4 +33,4 @@ answersFrom d cs = d .answer ∷ map (λ p. p .answer) (played (d .world) cs)
 
 unfoldable pub show : Run → Shown
 show (lines l) = prints (listing l)
-show (calls k w c n s e cs) = answers (answersFrom (freshOf k w c n (replicate s 0) (replicate e 0)) cs)
+show (calls k w c n s e cs) = answers (answersFrom (freshOf (setup k w c n) (replicate s 0) (replicate e 0)) cs)

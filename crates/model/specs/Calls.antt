@@ -10,6 +10,7 @@ use Rattle.model.specs.declared.Anchor.{Anchor}
 use Rattle.model.specs.declared.Line.{Line}
 use Rattle.model.specs.declared.Line.the-variants.{PutRead, TakeRead, StealRead}
 use Rattle.model.specs.declared.Bench.{Bench}
+use Rattle.model.specs.declared.Setup.{Setup}
 use Rattle.model.specs.declared.Operation.{Operation}
 use Rattle.model.specs.declared.Operation.the-variants.{Put, Take, Steal}
 use Rattle.model.specs.declared.Refusal.the-variants.{
@@ -67,15 +68,22 @@ lent b m l = record { bench = b; store = m; log = l }
 abbrev pub kindOf : ℕ → Kind
 kindOf k = if eqb k 1 then Lifo else if eqb k 2 then Fifo else Deque
 
--- kind k, tag width w, first size c, n workers, on the store m and the log l: refusals 1 to 5
-unfoldable pub freshOf : ℕ → ℕ → ℕ → ℕ → List ℕ → List ℕ → Outcome
-freshOf k w c n m l =
-    unless ltb 0 k and leb k 3 then refuse (lent noBench m l) UnknownQueue
-    else unless widthOk w then refuse (lent noBench m l) TagWidth
-    else unless isSize 10 c then refuse (lent noBench m l) ArraySize
-    else unless crewOk n then refuse (lent noBench m l) Crew
-    else unless leb (2 * c) (length m) then refuse (lent noBench m l) ShortStore
-    else record { world = lent (blank (kindOf k) w c n) (zeros m 0 (2 * c)) l; answer = Accepted }
+-- on the store m and the log l: refusals 1 to 5
+unfoldable pub freshOf : Setup → List ℕ → List ℕ → Outcome
+freshOf s m l =
+    unless ltb 0 (s .kind) and leb (s .kind) 3 then refuse (lent noBench m l) UnknownQueue
+    else unless widthOk (s .width) then refuse (lent noBench m l) TagWidth
+    else unless isSize 10 (s .size) then refuse (lent noBench m l) ArraySize
+    else unless crewOk (s .crew) then refuse (lent noBench m l) Crew
+    else unless leb (2 * s .size) (length m) then refuse (lent noBench m l) ShortStore
+    else record {
+      world = lent (blank (kindOf (s .kind)) (s .width) (s .size) (s .crew)) (zeros m 0 (2 * s .size)) l;
+      answer = Accepted;
+    }
+
+-- kind k, tag width w, first size c, n workers
+abbrev pub setup : ℕ → ℕ → ℕ → ℕ → Setup
+setup k w c n = record { kind = k; width = w; size = c; crew = n }
 
 -- BEGIN. The owner, worker 0, puts and takes; a thief steals
 abbrev pub rightHand : ℕ → Operation → Bool

@@ -22,7 +22,7 @@ use Rattle.model.specs.declared.Command.the-variants.{Open, BeginPut, Be
 use Rattle.model.specs.Tests.{if_then_else_}
 use Rattle.model.specs.Answers.{numberOf}
 use Rattle.model.specs.World.{World, Outcome}
-use Rattle.model.specs.Calls.{freshOf, beginOf, stepOf}
+use Rattle.model.specs.Calls.{freshOf, setup, beginOf, stepOf}
 use Rattle.model.specs.Counts.{countsOf}
 
 -- a line of output
@@ -91,7 +91,7 @@ abbrev pub bad : Program → Response
 bad s = response s (R (numberOf BadLine) ∷ [])
 
 unfoldable pub respond : Program → Command → Response
-respond (waiting m l) (Open k w c n s) = opened (waiting m l) (freshOf k w c n (take s m) l)
+respond (waiting m l) (Open k w c n s) = opened (waiting m l) (freshOf (setup k w c n) (take s m) l)
 respond (waiting m l) (BeginPut p) = bad (waiting m l)
 respond (waiting m l) BeginTake = bad (waiting m l)
 respond (waiting m l) (BeginSteal i) = bad (waiting m l)

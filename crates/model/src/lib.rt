@@ -174,6 +174,15 @@ pub struct Bench {
     pub workers: [Worker; 8],
 }
 
+// What fresh is told: the kind's number (1 LIFO, 2 FIFO, 3 double-ended), the tag's width in bits, the size of the first array in
+// tasks, and how many workers there are. It may be told any numbers.
+pub struct Setup {
+    pub kind: u32,
+    pub width: u32,
+    pub size: u32,
+    pub crew: u32,
+}
+
 // What a begin gives a worker to do.
 pub enum Operation {
     Put { payload: u32 },

@@ -15,6 +15,7 @@ use model::Bench;
 use model::Line;
 use model::Operation;
 use model::Refusal;
+use model::Setup;
 use model::Task;
 use state::Returned;
 use state::Stop;
@@ -26,9 +27,13 @@ fn unmade(why: Refusal) -> Returned
     state::refused(state::none(), why)
 }
 
-pub fn fresh(kind: u32, width: u32, size: u32, crew: u32, store: &mut [u32]) -> Returned
-    ensures { λ r. ⌜ ((l : List ℕ) → returned r (now (store .exit)) l ≡ freshOf kind width size crew (now (store .entry)) l) ⌝ }
+pub fn fresh(setup: Setup, store: &mut [u32]) -> Returned
+    ensures { λ r. ⌜ ((l : List ℕ) → returned r (now (store .exit)) l ≡ freshOf setup (now (store .entry)) l) ⌝ }
 {
+    let kind = setup.kind;
+    let width = setup.width;
+    let size = setup.size;
+    let crew = setup.crew;
     if !admission::kind_ok(kind) {
         return unmade(Refusal::UnknownQueue);
     }

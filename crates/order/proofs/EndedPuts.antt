@@ -302,6 +302,6 @@ started-open W w F = subst (Within (W .bench .used)) (sym (F .idle)) (omega arit
 
 -- THE CLAIM: of two puts that end, the later one has the larger number
 pub ended-puts-rise : FromFresh (λ W. (cs : List Call) (i j m n : ℕ) → i < j → At (played W cs) i (EndsPut m) → At (played W cs) j (EndsPut n) → m < n)
-ended-puts-rise k w c n m l e cs =
-    let F = fresh-started k w c n m l e in
-    ended-rise cs (freshOf k w c n m l .world) (F .whole) (started-open _ _ F)
+ended-puts-rise s m l e cs =
+    let F = fresh-started s m l e in
+    ended-rise cs (freshOf s m l .world) (F .whole) (started-open _ _ F)

@@ -6,6 +6,7 @@ use mathlib.Core.List.{List, [], _∷_, List·Memᴰ, List·Memᴰ·not-nil}
 use Prim.Native.Nat.{ℕ, zero, suc, _<_}
 use native.Mathlib.Omega.{arith}
 use lib.ListN.{take}
+use Rattle.model.specs.declared.Setup.{Setup}
 use Rattle.model.specs.declared.Kind.{Kind}
 use Rattle.model.specs.declared.Kind.the-variants.{Fifo}
 use Rattle.model.specs.declared.Task.{Task}
@@ -94,17 +95,17 @@ kind-kept (c ∷ cs) W = kind-kept cs (callOf W c .world) ∙ call-like W c .0
 rises-of : (κ : Kind) (v : View) (lo : ℕ) (h : History) → κ ≡ Fifo → Order κ v lo h → Rises h
 rises-of κ v lo h e O = subst (λ (x : Kind). Order x v lo h) e O .rises
 
-fifo-run : (k w c n : ℕ) (m l : List ℕ) → freshOf k w c n m l .answer ≡ Accepted → kindOf k ≡ Fifo → (cs : List Call) → InOrder (played (freshOf k w c n m l .world) cs)
-fifo-run k w c n m l e second cs = in-order (played U cs) (rises-of _ _ _ _ kind (R .0 .order))
+fifo-run : (s : Setup) (m l : List ℕ) → freshOf s m l .answer ≡ Accepted → kindOf (s .kind) ≡ Fifo → (cs : List Call) → InOrder (played (freshOf s m l .world) cs)
+fifo-run s m l e second cs = in-order (played U cs) (rises-of _ _ _ _ kind (R .0 .order))
   where
     U : World
-    U = freshOf k w c n m l .world
+    U = freshOf s m l .world
 
-    F : Started U w
-    F = fresh-started k w c n m l e
+    F : Started U (s .width)
+    F = fresh-started s m l e
 
     fifo : U .bench .kind ≡ Fifo
-    fifo = ap (λ (W : World). W .bench .kind) (fresh-is k w c n m l e .0) ∙ second
+    fifo = ap (λ (W : World). W .bench .kind) (fresh-is s m l e .0) ∙ second
 
     kind : after U cs .bench .kind ≡ Fifo
     kind = kind-kept cs U ∙ fifo
@@ -114,7 +115,7 @@ fifo-run k w c n m l e second cs = in-order (played U cs) (rises-of _ _ _ _ kind
 
 pub fifo-in-order : FifoInOrder
 unfolding if_then_else_
-fifo-in-order w c n m l e cs = fifo-run _ w c n m l e refl cs
+fifo-in-order s m l is e cs = fifo-run s m l e (ap kindOf is) cs
 
 pub fifo-log-in-order : FifoLogInOrder
-fifo-log-in-order w c n m l e cs = subst LogInOrder (sym (log-is-answers _ w c n m l e cs)) (log-in-order _ (fifo-in-order w c n m l e cs))
+fifo-log-in-order s m l is e cs = subst LogInOrder (sym (log-is-answers s m l e cs)) (log-in-order _ (fifo-in-order s m l is e cs))

@@ -55,4 +55,4 @@ module _ (W : World) where
   out-same t = some-same _ _ (entriesIn W) (λ j h. ap (λ (e : Entry). eqb (e .kind) 2 and sameTask (record { number = e .number; payload = e .payload }) t) (entry-same j h))
 
 pub entries-many : FromFresh (λ W. (cs : List Call) → count (played W cs) ≡ entriesIn (after W cs))
-entries-many k w c n m l e cs = omega (arith, written-is k w c n m l e cs, entries-long (played (freshOf k w c n m l .world) cs))
+entries-many s m l e cs = omega (arith, written-is s m l e cs, entries-long (played (freshOf s m l .world) cs))

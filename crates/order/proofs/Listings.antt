@@ -5,6 +5,7 @@ use mathlib.Core.Logic.{_⊎_, inl, inr}
 use mathlib.Core.List.{List, [], _∷_, _++_, append-assoc}
 use Prim.Native.Nat.{ℕ, zero, suc}
 use lib.ListN.{take}
+use Rattle.model.specs.declared.Setup.{Setup}
 use Rattle.model.specs.declared.Answer.{Answer}
 use Rattle.model.specs.declared.Answer.the-variants.{
   Accepted,
@@ -24,7 +25,7 @@ use Rattle.model.specs.declared.Command.the-variants.{Open, BeginPut, BeginTake
 use Rattle.model.specs.Tests.{if_then_else_, unless_then_else_}
 use Rattle.model.specs.Answers.{numberOf}
 use Rattle.model.specs.World.{World, Outcome, refuse}
-use Rattle.model.specs.Calls.{freshOf, beginOf, stepOf, Call, begin, callOf}
+use Rattle.model.specs.Calls.{freshOf, setup, beginOf, stepOf, Call, begin, callOf}
 use Rattle.model.specs.Run.{after}
 use Rattle.model.specs.Counts.{countsOf}
 use Rattle.model.specs.Listing.{
@@ -204,15 +205,15 @@ unfolding if_then_else_
 unless-refused true d U r h = h
 unless-refused false d U r h = inl refl
 
-fresh-opens : (k w c n : ℕ) (m l : List ℕ) → Opens (freshOf k w c n m l)
+fresh-opens : (s : Setup) (m l : List ℕ) → Opens (freshOf s m l)
 unfolding freshOf
-fresh-opens k w c n m l =
+fresh-opens s m l =
     unless-refused _ _ _ _ (unless-refused _ _ _ _ (unless-refused _ _ _ _ (
     unless-refused _ _ _ _ (unless-refused _ _ _ _ (inr refl))
     )))
 
 line-opens : (c : Command) → Opens (beforeQueue c)
-line-opens (Open k w c n s) = fresh-opens k w c n (take s programStore) programLog
+line-opens (Open k w c n s) = fresh-opens (setup k w c n) (take s programStore) programLog
 line-opens (BeginPut p) = inl refl
 line-opens BeginTake = inl refl
 line-opens (BeginSteal i) = inl refl
@@ -278,7 +279,7 @@ none-shown W (endLine ∷ is) e = (e, tt)
 -- the bench of an accepted `queue` is a fresh one
 none-lost-by : (q : Command) → beforeQueue q .answer ≡ Accepted → (cs : List Call) → FewPuts (beforeQueue q .world) cs
     → countsOf (after (beforeQueue q .world) cs) .lost ≡ 0
-none-lost-by (Open k w c n s) e cs f = none-lost k w c n (take s programStore) programLog e cs f
+none-lost-by (Open k w c n s) e cs f = none-lost (setup k w c n) (take s programStore) programLog e cs f
 none-lost-by (BeginPut p) e cs f = cc
 none-lost-by BeginTake e cs f = cc
 none-lost-by (BeginSteal i) e cs f = cc

@@ -135,12 +135,12 @@ front-grows (c ∷ cs) W h =
 
 -- and a fresh bench has written nothing
 pub log-is-answers : LogIsAnswers
-log-is-answers k w c n m l e =
+log-is-answers s m l e =
     subst (λ (W : World). (cs : List Call) → logFront (after W cs) ≡ entries (played W cs))
-    (sym (fresh-is k w c n m l e .0)) (λ cs. front-grows cs (start (kindOf k) w c n m l) (omega arith))
+    (sym (fresh-is s m l e .0)) (λ cs. front-grows cs (start (kindOf (s .kind)) (s .width) (s .size) (s .crew) m l) (omega arith))
 
 -- which lies in the log, so that the front has as many words as are written
 pub written-is : FromFresh (λ W. (cs : List Call) → after W cs .bench .written ≡ length (entries (played W cs)))
 unfolding frontOf
-written-is k w c n m l e cs =
-    sym (length-take-le _ _ (whole-run cs _ (fresh-started k w c n m l e .whole) .logged)) ∙ ap length (log-is-answers k w c n m l e cs)
+written-is s m l e cs =
+    sym (length-take-le _ _ (whole-run cs _ (fresh-started s m l e .whole) .logged)) ∙ ap length (log-is-answers s m l e cs)

@@ -35,10 +35,10 @@ not-lost false y f = refl
 
 pub none-lost : NoneLost
 unfolding countsOf
-none-lost k w c n m l e cs f = count-zero (isLost U (entriesIn U)) (entriesIn U) (λ j h. not-lost _ _ (λ q. or-either _ _ (there j h q)))
+none-lost s m l e cs f = count-zero (isLost U (entriesIn U)) (entriesIn U) (λ j h. not-lost _ _ (λ q. or-either _ _ (there j h q)))
   where
     W : World
-    W = freshOf k w c n m l .world
+    W = freshOf s m l .world
 
     U : World
     U = after W cs
@@ -46,7 +46,7 @@ none-lost k w c n m l e cs f = count-zero (isLost U (entriesIn U)) (entriesIn U)
     kept : (j : ℕ) → isKind (logFront U) 1 j ≡ true → (someBelow (outWhole (logFront U) (taskAt (logFront U) j)) (entriesIn U) ≡ true) ⊎ Stands U (taskAt (logFront U) j)
     kept =
         subst₂ (λ (l : List ℕ) (n : ℕ). (j : ℕ) → isKind l 1 j ≡ true → (someBelow (outWhole l (taskAt l j)) n ≡ true) ⊎ Stands U (taskAt l j))
-        (sym (log-is-answers k w c n m l e cs)) (entries-many k w c n m l e cs) (kept-entry W cs (demand3 k w c n m l e cs f))
+        (sym (log-is-answers s m l e cs)) (entries-many s m l e cs) (kept-entry W cs (demand3 s m l e cs f))
 
     there : (j : ℕ) → j < entriesIn U → isKind (U .log) 1 j ≡ true
         → (someBelow (outWhole (U .log) (taskAt (U .log) j)) (entriesIn U) ≡ true) ⊎ (someBelow (standsAt U (taskAt (U .log) j)) (windowSize U) ≡ true)

@@ -13,7 +13,7 @@ use Rattle.model.specs.declared.Command.the-variants.{Open, BeginPut, BeginTake
 use Rattle.model.specs.Tests.{if_then_else_}
 use Rattle.model.specs.Answers.{numberOf}
 use Rattle.model.specs.World.{World, Outcome, refuse}
-use Rattle.model.specs.Calls.{noBench, lent, freshOf, stepOf, Call, begin, step, callOf}
+use Rattle.model.specs.Calls.{noBench, lent, freshOf, setup, stepOf, Call, begin, step, callOf}
 use Rattle.model.specs.Run.{after}
 use Rattle.model.specs.Counts.{countsOf}
 use Rattle.model.specs.Listing.{
@@ -86,7 +86,7 @@ abbrev pub outOfPlace : Outcome
 outOfPlace = refuse (lent noBench programStore programLog) BadLine
 
 abbrev pub beforeQueue : Command → Outcome
-beforeQueue (Open k w c n s) = freshOf k w c n (take s programStore) programLog
+beforeQueue (Open k w c n s) = freshOf (setup k w c n) (take s programStore) programLog
 beforeQueue (BeginPut p) = outOfPlace
 beforeQueue BeginTake = outOfPlace
 beforeQueue (BeginSteal i) = outOfPlace

@@ -4,6 +4,7 @@ use mathlib.Core.Path.{_≡_}
 use mathlib.Core.Bool.{true}
 use mathlib.Core.List.{List, [], _∷_, _++_}
 use Prim.Native.Nat.{ℕ, _<_}
+use Rattle.model.specs.declared.Setup.{Setup}
 use Rattle.model.specs.declared.Task.{Task}
 use Rattle.model.specs.declared.Answer.the-variants.{Accepted, HandedOut}
 use Rattle.model.specs.Tests.{if_then_else_}
@@ -30,8 +31,8 @@ InOrder T = (j k m n : ℕ) → First T j m → First T k n → j < k → m < n
 -- from any accepted fresh of kind 2, whatever the store and the log held before
 abbrev pub FromFifo : (World → Type 0) → Type 0
 FromFifo P =
-    (width size workers : ℕ) (store log : List ℕ) → freshOf 2 width size workers store log .answer ≡ Accepted
-    → P (freshOf 2 width size workers store log .world)
+    (s : Setup) (store log : List ℕ) → s .kind ≡ 2 → freshOf s store log .answer ≡ Accepted
+    → P (freshOf s store log .world)
 
 -- THE CLAIM, of the answers
 abbrev pub FifoInOrder : Type 0

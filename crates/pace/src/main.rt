@@ -5,6 +5,7 @@
 use libc::STDOUT_FILENO;
 use model::Answer;
 use model::Operation;
+use model::Setup;
 use queues::Bench;
 use queues::Reply;
 
@@ -62,7 +63,13 @@ fn attempt(made: u64, start: Bench, store: &mut [u32], log: &mut [u32]) -> u64 {
 fn main() {
     let mut store = [0u32; 64];
     let mut log = [0u32; 64];
-    let mut last = Bench::fresh(1, 4, 4, 8, &mut store);
+    let setup = Setup {
+        kind: 1,
+        width: 4,
+        size: 4,
+        crew: 8,
+    };
+    let mut last = Bench::fresh(setup, &mut store);
     last = put(last.bench, &mut store, &mut log);
     last = last.bench.begin(1, Operation::Steal, &store, &log);
     let start = last.bench;

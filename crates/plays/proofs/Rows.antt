@@ -9,7 +9,7 @@ use Rattle.model.specs.Memory.{zeros, wordAt, setWord, offsetAt, sizeAt}
 use Rattle.model.specs.Lines.{lineStep}
 use Rattle.model.specs.World.{World}
 use Rattle.model.specs.Limits.{validOf}
-use Rattle.model.specs.Calls.{freshOf, beginOf, stepOf, begin, step}
+use Rattle.model.specs.Calls.{freshOf, setup, beginOf, stepOf, begin, step}
 use Rattle.model.specs.Run.{played, after}
 use Rattle.plays.specs.Words.{callsFrom, allAsWords}
 
@@ -42,7 +42,7 @@ p1Answers =
 
 -- a list on a fresh bench of two workers, with a store of s words and a log of e
 abbrev bench : ℕ → ℕ → ℕ → World
-bench c s e = freshOf 1 1 c 2 (replicate s 0) (replicate e 0) .world
+bench c s e = freshOf (setup 1 1 c 2) (replicate s 0) (replicate e 0) .world
 
 row-p1 : allAsWords (played (bench 2 12 24) (callsFrom p1 37)) ≡ p1Answers
 unfolding callsFrom allAsWords played freshOf beginOf stepOf validOf lineStep zeros wordAt setWord offsetAt sizeAt if_then_else_ _and_ _or_

@@ -21,7 +21,7 @@ use Rattle.model.specs.declared.Refusal.{Refusal}
 use Rattle.model.specs.Tests.{if_then_else_, _and_, _or_}
 use Rattle.model.specs.Lines.{lineStep}
 use Rattle.model.specs.World.{World, Outcome, lineAt}
-use Rattle.model.specs.Calls.{logFull, freshOf, Call, begin, step, callOf}
+use Rattle.model.specs.Calls.{logFull, freshOf, setup, Call, begin, step, callOf}
 use Rattle.model.specs.Answers.{entry, writeEntry, task}
 use Rattle.model.specs.Memory.{zeros}
 use Rattle.model.specs.Run.{Played, played, after}
@@ -379,7 +379,7 @@ tagged : (k : ℕ) → (k ≡ 1) ⊎ (k ≡ 3) → (κ : Tagged) × (k ≡ numbe
 tagged k (inl e) = (lifo, e)
 tagged k (inr e) = (deque, e)
 
-accepted : (κ : Tagged) (w : ℕ) (m l : List ℕ) → 0 < w → w ≤ 15 → 2 ≤ length m → freshOf (number κ) w 1 2 m l ≡ record { world = start (theKind κ) w 1 2 m l; answer = Accepted }
+accepted : (κ : Tagged) (w : ℕ) (m l : List ℕ) → 0 < w → w ≤ 15 → 2 ≤ length m → freshOf (setup (number κ) w 1 2) m l ≡ record { world = start (theKind κ) w 1 2 m l; answer = Accepted }
 unfolding freshOf _and_ if_then_else_ _or_
 accepted lifo w m l a b c = rw (lt-ltb 0 w a, le-leb w 16 (omega arith), le-leb 2 (length m) c)
 accepted deque w m l a b c = rw (lt-ltb 0 w a, le-leb w 16 (omega arith), le-leb 2 (length m) c)
@@ -390,7 +390,7 @@ tight k w [] l h a b c d = absurd (omega arith)
 tight k w (x ∷ []) l h a b c d = absurd (omega arith)
 tight k w (x ∷ y ∷ rest) l h a b c d =
     let κ = tagged k h .0 in
-    let e = ap (λ (n : ℕ). freshOf n w 1 2 (x ∷ y ∷ rest) l) (tagged k h .1) ∙ accepted κ w (x ∷ y ∷ rest) l a b c in (
+    let e = ap (λ (n : ℕ). freshOf (setup n w 1 2) (x ∷ y ∷ rest) l) (tagged k h .1) ∙ accepted κ w (x ∷ y ∷ rest) l a b c in (
       ap (λ (D : Outcome). D .answer) e,
       (tightList κ w, subst (λ (D : Outcome). Loses (D .world) (tightList κ w) (2 ^ w)) (sym e) (loses κ w x y rest l a b d)),
     )

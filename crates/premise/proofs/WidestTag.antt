@@ -52,17 +52,17 @@ few16 Fifo w d e h = tt
 few16 Deque w d e h = rw e (omega arith)
 
 pub widest-tag : WidestTag
-widest-tag k w c n m l e is16 cs = demand3 k w c n m l e cs few
+widest-tag s m l e is16 cs = demand3 s m l e cs few
   where
     U : World
-    U = freshOf k w c n m l .world
+    U = freshOf s m l .world
 
     few : FewPuts U cs
     few i l′ j x a =
         few16 (U .bench .kind) (U .bench .width) _ (omega (arith, is16))
         (omega (
           arith,
-          few-puts U w (fresh-started k w c n m l e) cs,
+          few-puts U (s .width) (fresh-started s m l e) cs,
           puts-take (drop (suc l′) (played U cs)) (j - suc l′),
           puts-drop (played U cs) (suc l′),
         ))

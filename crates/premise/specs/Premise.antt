@@ -7,7 +7,7 @@ use lib.ListN.{length}
 use Rattle.model.specs.declared.Task.{Task}
 use Rattle.model.specs.declared.Answer.the-variants.{Accepted}
 use Rattle.model.specs.World.{World}
-use Rattle.model.specs.Calls.{freshOf, Call}
+use Rattle.model.specs.Calls.{freshOf, setup, Call}
 use Rattle.model.specs.Run.{played, after}
 use Rattle.theorems.specs.Demand3.{At, Compares, Attempt, Done, Out, Stands, puts, between, Demand3, FromFresh}
 
@@ -36,4 +36,4 @@ pub record Loses (W : World) (cs : List Call) (d : ℕ) : Type 0 where
 abbrev pub Tight : Type 0
 Tight =
     (k w : ℕ) (store log : List ℕ) → (k ≡ 1) ⊎ (k ≡ 3) → 0 < w → w ≤ 15 → 2 ≤ length store → 8 * 2 ^ w + 8 ≤ length log
-    → (freshOf k w 1 2 store log .answer ≡ Accepted) × ((cs : List Call) × Loses (freshOf k w 1 2 store log .world) cs (2 ^ w))
+    → (freshOf (setup k w 1 2) store log .answer ≡ Accepted) × ((cs : List Call) × Loses (freshOf (setup k w 1 2) store log .world) cs (2 ^ w))

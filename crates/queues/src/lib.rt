@@ -17,6 +17,7 @@ use machine::Made;
 use model::Answer;
 use model::Operation;
 use model::Refusal;
+use model::Setup;
 use model::Worker;
 
 pub struct Bench {
@@ -67,13 +68,12 @@ fn refused(bench: Bench, why: Refusal) -> Reply
 }
 
 impl Bench {
-    // A bench of a kind (1 LIFO, 2 FIFO, 3 double-ended), with tags of `width` bits, a first array of
-    // `size` tasks and `crew` workers, on a store whose first words it zeroes. A refused fresh makes no
-    // bench: what it hands back has no crew, and every call refuses it.
-    pub fn fresh(kind: u32, width: u32, size: u32, crew: u32, store: &mut [u32]) -> Reply
-        ensures { λ r. ⌜ ((l : List ℕ) → left r (now (store .exit)) l ≡ freshOf kind width size crew (now (store .entry)) l) ⌝ }
+    // A bench as it is told, on a store whose first words it zeroes. A refused fresh makes no bench: what it hands back has no
+    // crew, and every call refuses it.
+    pub fn fresh(setup: Setup, store: &mut [u32]) -> Reply
+        ensures { λ r. ⌜ ((l : List ℕ) → left r (now (store .exit)) l ≡ freshOf setup (now (store .entry)) l) ⌝ }
     {
-        reply_of(opening::fresh(kind, width, size, crew, store))
+        reply_of(opening::fresh(setup, store))
     }
 
     // Gives an idle worker an operation; it does no line.

@@ -5,6 +5,7 @@ use mathlib.Core.Path.{_≡_, refl, ap, sym, subst, _∙_}
 use mathlib.Core.Bool.{Bool, true, false}
 use mathlib.Core.List.{List, [], _∷_, _++_}
 use lib.ListN.{length, take, drop}
+use Rattle.model.specs.declared.Setup.{Setup}
 use Rattle.model.specs.declared.Bench.{Bench}
 use Rattle.model.specs.declared.Answer.{Answer}
 use Rattle.model.specs.declared.Answer.the-variants.{Accepted, Numbered, GoesOn, Finished, HandedOut, Empty, Full, Refused}
@@ -78,9 +79,9 @@ asks-steps c i n e h = let z : Step i n ≡ Other = ap (askedOf true) (sym e) �
 abbrev Leaves : List ℕ → Outcome → Type 0
 Leaves m d = isRefused (d .answer) ≡ true → d .world .store ≡ m
 
-fresh-leaves : (k w c n : ℕ) (m l : List ℕ) → Leaves m (freshOf k w c n m l)
+fresh-leaves : (s : Setup) (m l : List ℕ) → Leaves m (freshOf s m l)
 unfolding freshOf
-fresh-leaves k w c n m l =
+fresh-leaves s m l =
     either (Leaves m) _ _ _ (either (Leaves m) _ _ _ (either (Leaves m) _ _ _ (either (Leaves m) _ _ _ (either (Leaves m) _ _ _
     (λ e. never (sym e)) (λ e. refl)) (λ e. refl)) (λ e. refl)) (λ e. refl)) (λ e. refl)
 
@@ -110,38 +111,38 @@ pub played-as : {R S : Response} {p : Answered} {m l before : List ℕ} {at : �
 played-as {p = p} {m} {l} {before} {at} {after} e by = subst (λ (X : Response). AnsweredBy X p m l before at after) (sym e) by
 
 -- `queue`, on the words that were lent, p as fresh leaves them
-module _ (k v c i w n : ℕ) (m l p : List ℕ) (b : Bench) (a : Answer) (e : ℕ) (before : List ℕ) (at : ℕ) (after : List ℕ)
+module _ (u : Setup) (w n : ℕ) (m l p : List ℕ) (b : Bench) (a : Answer) (e : ℕ) (before : List ℕ) (at : ℕ) (after : List ℕ)
     (lends : n ≡ min w (length m)) (kept : length p ≡ length (take n m))
-    (made : record { world = lent b p l; answer = a } ≡ freshOf k v c i (take n m) l) (t : Placed before at (shownAll (printed a)) e after) where
-  made-on : record { world = lent b p l; answer = a } ≡ freshOf k v c i (take w m) l
-  made-on = made ∙ ap (λ (x : List ℕ). freshOf k v c i x l) (lent-front w n m lends)
+    (made : record { world = lent b p l; answer = a } ≡ freshOf u (take n m) l) (t : Placed before at (shownAll (printed a)) e after) where
+  made-on : record { world = lent b p l; answer = a } ≡ freshOf u (take w m) l
+  made-on = made ∙ ap (λ (x : List ℕ). freshOf u x l) (lent-front w n m lends)
 
-  shows : Placed before at (shownAll (printed (freshOf k v c i (take w m) l .answer))) e after
+  shows : Placed before at (shownAll (printed (freshOf u (take w m) l .answer))) e after
   shows = subst (λ (x : Outcome). Placed before at (shownAll (printed (x .answer))) e after) made-on t
 
-  verdict : (x : Bool) → isRefused a ≡ x → isRefused (freshOf k v c i (take w m) l .answer) ≡ x
+  verdict : (x : Bool) → isRefused a ≡ x → isRefused (freshOf u (take w m) l .answer) ≡ x
   verdict x h = ap (λ (d : Outcome). isRefused (d .answer)) (sym made-on) ∙ h
 
-  choose : (x : Bool) (P Q : Program) → isRefused (freshOf k v c i (take w m) l .answer) ≡ x → (if isRefused (freshOf k v c i (take w m) l .answer) then P else Q) ≡ (if x then P else Q)
+  choose : (x : Bool) (P Q : Program) → isRefused (freshOf u (take w m) l .answer) ≡ x → (if isRefused (freshOf u (take w m) l .answer) then P else Q) ≡ (if x then P else Q)
   choose x P Q h = ap (λ (y : Bool). if y then P else Q) h
 
-  pub opened-by : isRefused a ≡ false → AnsweredBy (opened (waiting m l) (freshOf k v c i (take w m) l)) (played (live w b) e) (p ++ drop n m) l before at after
+  pub opened-by : isRefused a ≡ false → AnsweredBy (opened (waiting m l) (freshOf u (take w m) l)) (played (live w b) e) (p ++ drop n m) l before at after
   unfolding if_then_else_
   opened-by h = record {
     program =
         left-on false (live w b) (p ++ drop n m) l refl ∙ program-live (live w b) (p ++ drop n m) l refl
         ∙ ap (λ (x : List ℕ). playing (lent b x l)) (given-back w n m lends p kept)
-        ∙ ap (λ (x : Outcome). playing (x .world)) made-on ∙ sym (choose false (waiting m l) (playing (freshOf k v c i (take w m) l .world)) (verdict false h));
+        ∙ ap (λ (x : Outcome). playing (x .world)) made-on ∙ sym (choose false (waiting m l) (playing (freshOf u (take w m) l .world)) (verdict false h));
     text = shows;
   }
 
-  pub refused-by : (s : Session) → s .live ≡ false → isRefused a ≡ true → AnsweredBy (opened (waiting m l) (freshOf k v c i (take w m) l)) (played s e) (p ++ drop n m) l before at after
+  pub refused-by : (s : Session) → s .live ≡ false → isRefused a ≡ true → AnsweredBy (opened (waiting m l) (freshOf u (take w m) l)) (played s e) (p ++ drop n m) l before at after
   unfolding if_then_else_
   refused-by s q h =
-      let same : p ≡ take n m = ap (λ (x : Outcome). x .world .store) made ∙ fresh-leaves k v c i (take n m) l (ap (λ (d : Outcome). isRefused (d .answer)) (sym made) ∙ h) in record {
+      let same : p ≡ take n m = ap (λ (x : Outcome). x .world .store) made ∙ fresh-leaves u (take n m) l (ap (λ (d : Outcome). isRefused (d .answer)) (sym made) ∙ h) in record {
         program =
             left-on false s (p ++ drop n m) l refl ∙ program-waits s (p ++ drop n m) l q ∙ ap (λ (x : List ℕ). waiting x l) (unchanged w n m lends p same)
-            ∙ sym (choose true (waiting m l) (playing (freshOf k v c i (take w m) l .world)) (verdict true h));
+            ∙ sym (choose true (waiting m l) (playing (freshOf u (take w m) l .world)) (verdict true h));
         text = shows;
       }
 

@@ -31,6 +31,7 @@ use model::Bench;
 use model::Command;
 use model::Operation;
 use model::Refusal;
+use model::Setup;
 use state::Stop;
 
 // Room enough for the text of any line, in bytes: the longest, `T` and six counts, has 68. A line is played only where the output
@@ -68,7 +69,13 @@ pub fn start() -> Session
     ensures { λ r. ⌜ ((m l : List ℕ) → programOf r m l ≡ waiting m l) ⌝ }
 {
     let mut none = [0u32; 1];
-    let made = opening::fresh(0, 0, 0, 0, &mut none);
+    let nothing = Setup {
+        kind: 0,
+        width: 0,
+        size: 0,
+        crew: 0,
+    };
+    let made = opening::fresh(nothing, &mut none);
     let bench = made.bench;
     Session {
         live: false,
@@ -153,10 +160,7 @@ fn refuse(session: Session, out: &mut [u8], at: usize) -> Answered
 // `queue`: a bench on the first `words` words of the store. Refused, it leaves the program waiting.
 fn open_queue(
     session: Session,
-    kind: u32,
-    width: u32,
-    size: u32,
-    workers: u32,
+    setup: Setup,
     words: u32,
     store: &mut [u32],
     out: &mut [u8],
@@ -166,12 +170,12 @@ fn open_queue(
     ensures { λ r.
         ⌜
         ((l : List ℕ) →
-        AnsweredBy (opened (waiting (now (store .entry)) l) (freshOf kind width size workers (take words (now (store .entry))) l))
+        AnsweredBy (opened (waiting (now (store .entry)) l) (freshOf setup (take words (now (store .entry))) l))
         r (now (store .exit)) l (now (out .entry)) at (now (out .exit)))
         ⌝ }
 {
     let n = span(words, store);
-    let made = opening::fresh(kind, width, size, workers, &mut store[..n]);
+    let made = opening::fresh(setup, &mut store[..n]);
     let answer = made.answer;
     let end = show(answer, out, at);
     let Progress::Made = progress_of(answer) else {
@@ -280,7 +284,14 @@ fn play_waiting(
     else {
         return refuse(session, out, at);
     };
-    open_queue(session, kind, width, size, workers, words, store, out, at)
+    let crew = workers;
+    let setup = Setup {
+        kind,
+        width,
+        size,
+        crew,
+    };
+    open_queue(session, setup, words, store, out, at)
 }
 
 // A line while a bench is played, but for `step`.

@@ -9,6 +9,7 @@ use lib.Dec.{ltb, leb}
 use lib.Pow.{pow-pos}
 use lib.ListN.{length, replicate}
 use borrow.Author.Tests.{ltb-true, leb-true, eq-eqb}
+use Rattle.model.specs.declared.Setup.{Setup}
 use Rattle.model.specs.declared.Kind.{Kind}
 use Rattle.model.specs.declared.Kind.the-variants.{Lifo, Fifo, Deque}
 use Rattle.model.specs.declared.Line.the-variants.{Idle}
@@ -51,24 +52,24 @@ unfolding if_then_else_
 passed true D U r e = (refl, refl, e)
 passed false D U r e = absurd (let z : _≡_ {A = ℕ} 0 1 = cc in omega arith)
 
-pub fresh-is : (k w c n : ℕ) (m l : List ℕ) → freshOf k w c n m l .answer ≡ Accepted
-    → (freshOf k w c n m l .world ≡ start (kindOf k) w c n m l) × Given w c n m
+pub fresh-is : (s : Setup) (m l : List ℕ) → freshOf s m l .answer ≡ Accepted
+    → (freshOf s m l .world ≡ start (kindOf (s .kind)) (s .width) (s .size) (s .crew) m l) × Given (s .width) (s .size) (s .crew) m
 unfolding freshOf
-fresh-is k w c n m l e =
+fresh-is s m l e =
     let U = lent noBench m l in
-    let a = passed (ltb 0 k and leb k 3) _ U UnknownQueue e in
-    let b = passed (widthOk w) _ U TagWidth (a .2) in
-    let d = passed (isSize 10 c) _ U ArraySize (b .2) in
-    let f = passed (crewOk n) _ U Crew (d .2) in
-    let g = passed (leb (2 * c) (length m)) _ U ShortStore (f .2) in
-    let u = both (ltb 0 w) (leb w 16) (b .0) in
-    let v = both (ltb 0 n) (leb n 8) (f .0) in (
+    let a = passed (ltb 0 (s .kind) and leb (s .kind) 3) _ U UnknownQueue e in
+    let b = passed (widthOk (s .width)) _ U TagWidth (a .2) in
+    let d = passed (isSize 10 (s .size)) _ U ArraySize (b .2) in
+    let f = passed (crewOk (s .crew)) _ U Crew (d .2) in
+    let g = passed (leb (2 * s .size) (length m)) _ U ShortStore (f .2) in
+    let u = both (ltb 0 (s .width)) (leb (s .width) 16) (b .0) in
+    let v = both (ltb 0 (s .crew)) (leb (s .crew) 8) (f .0) in (
       ap (λ (D : Outcome). D .world) (a .1 ∙ b .1 ∙ d .1 ∙ f .1 ∙ g .1),
       record {
-        width = (ltb-true 0 w (u .0), leb-true w 16 (u .1));
+        width = (ltb-true 0 (s .width) (u .0), leb-true (s .width) 16 (u .1));
         test = d .0;
-        crew = (ltb-true 0 n (v .0), leb-true n 8 (v .1));
-        room = leb-true (2 * c) (length m) (g .0);
+        crew = (ltb-true 0 (s .crew) (v .0), leb-true (s .crew) 8 (v .1));
+        room = leb-true (2 * s .size) (length m) (g .0);
       },
     )
 
@@ -180,8 +181,8 @@ pub record Started (W : World) (w : ℕ) : Type 0 where
   pub idle : lineAt (W .bench .workers) 0 ≡ Idle
   pub width : W .bench .width ≡ w
 
-pub fresh-started : (k w c n : ℕ) (m l : List ℕ) → freshOf k w c n m l .answer ≡ Accepted → Started (freshOf k w c n m l .world) w
-fresh-started k w c n m l e =
-    let F = fresh-is k w c n m l e in
-    subst (λ (W : World). Started W w) (sym (F .0))
-    (record { whole = fresh-whole (kindOf k) w c n m l (F .1); inv = fresh-inv (kindOf k) w c n m l (F .1); idle = refl; width = refl })
+pub fresh-started : (s : Setup) (m l : List ℕ) → freshOf s m l .answer ≡ Accepted → Started (freshOf s m l .world) (s .width)
+fresh-started s m l e =
+    let F = fresh-is s m l e in
+    subst (λ (W : World). Started W (s .width)) (sym (F .0))
+    (record { whole = fresh-whole (kindOf (s .kind)) (s .width) (s .size) (s .crew) m l (F .1); inv = fresh-inv (kindOf (s .kind)) (s .width) (s .size) (s .crew) m l (F .1); idle = refl; width = refl })

@@ -88,6 +88,6 @@ never (c ∷ cs) U H zero a = not-foreign U c (valid U H) a
 never (c ∷ cs) U H (suc j) a = never cs (callOf U c .world) (call-whole H c) j a
 
 pub never-foreign : NoneForeign
-never-foreign k w c n m l e cs =
-    let H = fresh-started k w c n m l e .whole in
+never-foreign s m l e cs =
+    let H = fresh-started s m l e .whole in
     record { valid = valid _ (whole-run cs _ H); never = never cs _ H }

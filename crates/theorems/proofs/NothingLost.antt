@@ -52,7 +52,7 @@ in-slot Deque w Q μ o φ h I i l u = (i - I .lo, omega (arith, I .rep .1), here
 -- demand 3
 pub demand3 : NothingLost
 unfolding past
-demand3 k w c n m l e cs f =
+demand3 s m l e cs f =
     record {
       kept = λ b j t D. keep t (R .0 .core .all t (at-rev E [] j (finished-put t) (ev j (finished-put t) (at-map T j (Finishes t) (λ s. event-at s ≡ finished-put t) (done-ev t) (D .finished)))));
       belongs = λ j t a. gave j t (at-some T j (λ i s. event-at s ≡ handed-out i t) (at-map T j (HandsOut t) (λ s. (i : ℕ) × (event-at s ≡ handed-out i t)) (out-ev t) a));
@@ -62,10 +62,10 @@ demand3 k w c n m l e cs f =
     }
   where
     U : World
-    U = freshOf k w c n m l .world
+    U = freshOf s m l .world
 
-    F : Started U w
-    F = fresh-started k w c n m l e
+    F : Started U (s .width)
+    F = fresh-started s m l e
 
     T : List Played
     T = played U cs

@@ -3,6 +3,7 @@ use mathlib.Core.Path.{_≡_, refl, ap, subst, _∙_}
 use mathlib.Core.Bool.{true}
 use mathlib.Core.List.{List, [], _∷_, _++_}
 use Prim.Native.Nat.{ℕ}
+use Rattle.model.specs.declared.Setup.{Setup}
 use Rattle.model.specs.declared.Answer.the-variants.{Accepted}
 use Rattle.model.specs.World.{World}
 use Rattle.model.specs.Limits.{validOf}
@@ -16,16 +17,13 @@ unfolding after
 after-one W [] c = refl
 after-one W (d ∷ cs) c = after-one (callOf W d .world) cs c
 
-pub reached-fresh : (k w c n : ℕ) (m l : List ℕ) → freshOf k w c n m l .answer ≡ Accepted → Reached (freshOf k w c n m l .world)
+pub reached-fresh : (s : Setup) (m l : List ℕ) → freshOf s m l .answer ≡ Accepted → Reached (freshOf s m l .world)
 unfolding after
-reached-fresh k w c n m l e = record { kind = k; width = w; size = c; workers = n; store = m; log = l; accepted = e; calls = []; reaches = refl }
+reached-fresh s m l e = record { setup = s; store = m; log = l; accepted = e; calls = []; reaches = refl }
 
 pub reached-call : {W : World} → Reached W → (c : Call) → Reached (callOf W c .world)
 reached-call {W = W} r c = record {
-  kind = r .kind;
-  width = r .width;
-  size = r .size;
-  workers = r .workers;
+  setup = r .setup;
   store = r .store;
   log = r .log;
   accepted = r .accepted;
@@ -34,4 +32,4 @@ reached-call {W = W} r c = record {
 }
 
 pub reached-valid : {W : World} → Reached W → validOf W ≡ true
-reached-valid {W = W} r = subst (λ (X : World). validOf X ≡ true) (r .reaches) (never-foreign (r .kind) (r .width) (r .size) (r .workers) (r .store) (r .log) (r .accepted) (r .calls) .valid)
+reached-valid {W = W} r = subst (λ (X : World). validOf X ≡ true) (r .reaches) (never-foreign (r .setup) (r .store) (r .log) (r .accepted) (r .calls) .valid)

@@ -5,6 +5,7 @@ use mathlib.Core.Logic.{_⊎_}
 use mathlib.Core.List.{List, [], _∷_}
 use Prim.Native.Nat.{ℕ, zero, suc, _+_, _-_, _^_, _≤_, _<_}
 use lib.ListN.{take, drop}
+use Rattle.model.specs.declared.Setup.{Setup}
 use Rattle.model.specs.declared.Kind.{Kind}
 use Rattle.model.specs.declared.Kind.the-variants.{Lifo, Fifo, Deque}
 use Rattle.model.specs.declared.Task.{Task}
@@ -139,8 +140,7 @@ pub record Demand3 (W : World) (cs : List Call) : Type 0 where
 -- from any accepted fresh, whatever the store and the log held before
 abbrev pub FromFresh : (World → Type 0) → Type 0
 FromFresh P =
-    (kind width size workers : ℕ) (store log : List ℕ) → freshOf kind width size workers store log .answer ≡ Accepted
-    → P (freshOf kind width size workers store log .world)
+    (s : Setup) (store log : List ℕ) → freshOf s store log .answer ≡ Accepted → P (freshOf s store log .world)
 
 abbrev pub NothingLost : Type 0
 NothingLost = FromFresh (λ W. (cs : List Call) → FewPuts W cs → Demand3 W cs)

@@ -70,6 +70,9 @@ returns-4 c = λ l.
     ∙ if-true _ (passed (c .before .before .before .before .is-size .ensures) (c .before .before .before .if3 .left))
     ∙ if-false _ (refused (c .before .before .crew-ok .ensures) (c .before .if4 .taken)))
 
+cast-words : tie.Need-cast-words
+cast-words c = search needs
+
 mul-words : tie.Need-mul-words
 mul-words c = search needs
 
@@ -106,7 +109,7 @@ returns-6 c =
     λ l.
     same-returned
     (ap (λ (b : Bench). record { bench = b; answer = Accepted })
-    (c .made .ensures ∙ ap (λ (κ : Kind). blank κ (start .args .width) (start .args .size) (start .args .crew)) (c .before .kind-of .ensures)))
+    (c .made .ensures ∙ ap (λ (κ : Kind). blank κ (start .args .setup .width) (start .args .setup .size) (start .args .setup .crew)) (c .before .kind-of .ensures)))
     (c .before .before .before .before .zero .ensures)
     refl
     ∙ sym
@@ -132,6 +135,7 @@ fresh-spec =
     crew-ok-requires
     unmade-requires-4
     returns-4
+    cast-words
     mul-words
     unmade-requires-5
     returns-5
