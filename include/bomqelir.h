@@ -13,23 +13,26 @@
 
 /* Rises by one with every change to what this header declares or promises, so
  * that a caller can ask for what it needs: #if BOMQELIR_VERSION < 2 ... */
-#define BOMQELIR_VERSION 1
+#define BOMQELIR_VERSION 2
 
-/* What bomqelir_judge answers for a log that it can't judge, and for one that
- * it does not accept. 15 comes before 14: what is too long is answered 15, whole
- * entries or not. */
+/* What the judge answers for a log that it can't judge, and for one that it does
+ * not accept. 16 comes before 15 and 15 before 14: what is too long is answered
+ * 15, whole entries or not. */
 #define BOMQELIR_NO UINT64_C(0)
-#define BOMQELIR_BAD_LENGTH UINT64_C(14) /* not whole entries (16 bytes), or not whole numbers (4 bytes) */
-#define BOMQELIR_TOO_LONG UINT64_C(15)   /* either of them over 65,536 bytes */
+#define BOMQELIR_BAD_LENGTH UINT64_C(14)    /* not whole entries (4 * (words + 3) bytes), or not whole numbers (4 bytes) */
+#define BOMQELIR_TOO_LONG UINT64_C(15)      /* either of them over 65,536 bytes */
+#define BOMQELIR_PAYLOAD_WORDS UINT64_C(16) /* payload words not 1 to 4 */
 
-/* Judges the log's bytes: entries of four words (kind, worker, put number,
- * payload), each word four bytes, lowest first; with the put numbers that are
- * said to be stored still, four bytes each in the same order.
+/* Judges the log's bytes: entries of words + 3 words (kind, worker, put number,
+ * and as many payload words as `words` says, 1 to 4), each word four bytes,
+ * lowest first; with the put numbers that are said to be stored still, four
+ * bytes each in the same order.
  *
  * Accepts exactly when kinds are 1 to 4, the numbers of kinds 1 (put finished)
  * and 4 (FULL) together strictly rise, each hand-out (kind 2) repeats number
- * and payload of an earlier finished put, and each finished put is handed out
- * or listed. Answers BOMQELIR_NO for a log that is not accepted, and else
+ * and all payload words of an earlier finished put, and each finished put is
+ * handed out or listed. Answers BOMQELIR_NO for a log that is not accepted, and
+ * else
  *
  *     2^32 + 65,536 * hand-outs + repeats
  *
@@ -37,6 +40,12 @@
  * The bytes are only read. Where a length is 0 nothing is read, and its pointer
  * may be null, as data() of an empty std::vector may be.
  */
+#ifdef __cplusplus
+extern "C"
+#endif
+uint64_t bomqelir_judge_words(uint32_t words, const uint8_t *log, size_t log_bytes, const uint8_t *stored, size_t stored_bytes);
+
+/* The same with one payload word: entries of 16 bytes. */
 #ifdef __cplusplus
 extern "C"
 #endif

@@ -7,6 +7,7 @@ use crate::fifo::Fifo;
 use crate::lifo::Lifo;
 use crate::outcome::{refusal, Outcome, Place};
 use crate::store::{Store, LARGEST};
+use crate::task::{Payload, Task, MOST_PAYLOAD};
 use crate::witness::Witness;
 
 /// The last put number.
@@ -36,11 +37,13 @@ pub struct Shape {
     pub width: u32,
     pub size: u32,
     pub crew: u32,
+    pub payload_words: u32,
 }
 
 #[derive(Clone, Copy, Debug, PartialEq, Eq)]
 pub enum Operation {
-    Put { payload: u32 },
+    /// Only the first words count, as many as the bench has payload words.
+    Put { payload: Payload },
     Take,
     Steal,
 }
@@ -56,7 +59,7 @@ impl Bench {
     /// Fresh, on the lent words. They are taken if the bench is accepted, and
     /// stay where they are if it is refused.
     pub fn fresh(shape: Shape, words: &mut Vec<u32>) -> Result<Bench, u32> {
-        let Shape { kind, width, size, crew } = shape;
+        let Shape { kind, width, size, crew, payload_words } = shape;
         if !(1..=3).contains(&kind) {
             return Err(refusal::UNKNOWN_QUEUE);
         }
@@ -69,10 +72,13 @@ impl Bench {
         if !(1..=8).contains(&crew) {
             return Err(refusal::CREW);
         }
-        if words.len() < 2 * size as usize {
+        if !(1..=MOST_PAYLOAD as u32).contains(&payload_words) {
+            return Err(refusal::PAYLOAD_WORDS);
+        }
+        if words.len() < (size * (payload_words + 1)) as usize {
             return Err(refusal::SHORT_STORE);
         }
-        let store = Store::fresh(std::mem::take(words), size);
+        let store = Store::fresh(std::mem::take(words), size, payload_words);
         let queue = match kind {
             1 => Queue::Lifo(Lifo::new(width, store)),
             2 => Queue::Fifo(Fifo::new(store)),
@@ -147,8 +153,8 @@ impl Bench {
         with_queue!(self.queue, machine => machine.into_store()).into_words()
     }
 
-    /// The words of each task in the window.
-    pub fn window(&self) -> Box<dyn Iterator<Item = (u32, u32)> + '_> {
+    /// Each task in the window.
+    pub fn window(&self) -> Box<dyn Iterator<Item = Task> + '_> {
         with_queue!(&self.queue, machine => Box::new(machine.window()))
     }
 
@@ -168,7 +174,9 @@ mod tests {
     use super::*;
     use crate::witness::Blind;
 
-    const LIFO: Shape = Shape { kind: 1, width: 4, size: 1, crew: 2 };
+    const LIFO: Shape = Shape { kind: 1, width: 4, size: 1, crew: 2, payload_words: 1 };
+
+    const PUT: Operation = Operation::Put { payload: [5, 6, 7, 8] };
 
     fn refused(shape: Shape, words: usize) -> u32 {
         let mut lent = vec![7; words];
@@ -198,56 +206,66 @@ mod tests {
             assert_eq!(refused(Shape { crew: 9, ..shape }, 2), 4);
             assert_eq!(refused(shape, 1), 5);
             assert_eq!(refused(Shape { size: 1024, ..shape }, 2047), 5);
+            for payload_words in [0, 5, 6, u32::MAX] {
+                assert_eq!(refused(Shape { payload_words, ..shape }, 10_300), 16);
+            }
+            for payload_words in 1..=4 {
+                let shape = Shape { payload_words, ..shape };
+                let each = payload_words as usize + 1;
+                assert!(accepted(shape, each));
+                assert_eq!(refused(shape, each - 1), 5);
+                assert!(accepted(Shape { size: 1024, ..shape }, 1024 * each));
+                assert_eq!(refused(Shape { size: 1024, ..shape }, 1024 * each - 1), 5);
+            }
         }
         assert_eq!(refused(Shape { kind: 0, ..LIFO }, 2), 1);
         assert_eq!(refused(Shape { kind: 4, ..LIFO }, 2), 1);
     }
 
     #[test]
-    fn fresh_refuses_in_the_order_1_to_5() {
-        let wrong = Shape { kind: 0, width: 0, size: 0, crew: 0 };
+    fn fresh_refuses_in_the_order_1_to_4_16_5() {
+        let wrong = Shape { kind: 0, width: 0, size: 0, crew: 0, payload_words: 0 };
         assert_eq!(refused(wrong, 0), 1);
         assert_eq!(refused(Shape { kind: 1, ..wrong }, 0), 2);
         assert_eq!(refused(Shape { kind: 1, width: 1, ..wrong }, 0), 3);
-        assert_eq!(refused(Shape { kind: 1, width: 1, size: 1, crew: 0 }, 0), 4);
+        assert_eq!(refused(Shape { kind: 1, width: 1, size: 1, ..wrong }, 0), 4);
+        assert_eq!(refused(Shape { kind: 1, width: 1, size: 1, crew: 1, ..wrong }, 0), 16);
         assert_eq!(refused(LIFO, 0), 5);
     }
 
     #[test]
     fn begin_refuses_in_the_order_6_9_7_10() {
         let mut bench = Bench::fresh(LIFO, &mut vec![0; 2]).unwrap();
-        let put = Operation::Put { payload: 5 };
         // The worker after the last one is in no crew, whatever it is told.
-        for operation in [put, Operation::Take, Operation::Steal] {
+        for operation in [PUT, Operation::Take, Operation::Steal] {
             assert_eq!(bench.begin(2, operation), Err(6));
         }
         assert_eq!(bench.begin(1, Operation::Steal), Ok(None));
         // P9: a busy thief told to put, and to take.
-        assert_eq!(bench.begin(1, put), Err(9));
+        assert_eq!(bench.begin(1, PUT), Err(9));
         assert_eq!(bench.begin(1, Operation::Take), Err(9));
         assert_eq!(bench.begin(1, Operation::Steal), Err(7));
-        assert_eq!(bench.begin(0, put), Ok(Some(1)));
+        assert_eq!(bench.begin(0, PUT), Ok(Some(1)));
         assert_eq!(bench.begin(0, Operation::Steal), Err(9));
         bench.numbers_used = LAST_NUMBER;
-        assert_eq!(bench.begin(0, put), Err(7), "busy before spent");
+        assert_eq!(bench.begin(0, PUT), Err(7), "busy before spent");
         for _ in 0..5 {
             bench.step(0, true, &mut Blind);
         }
-        assert_eq!(bench.begin(0, put), Err(10));
+        assert_eq!(bench.begin(0, PUT), Err(10));
         assert_eq!(bench.begin(0, Operation::Take), Ok(None), "a take needs no number");
     }
 
     #[test]
     fn numbers_are_1_2_3_to_65535() {
         let mut bench = Bench::fresh(LIFO, &mut vec![0; 2]).unwrap();
-        let put = Operation::Put { payload: 5 };
         // The array is full after the first, so the others end with FULL: a put
         // answered FULL has used its number.
         for number in 1..=65_535 {
-            assert_eq!(bench.begin(0, put), Ok(Some(number)));
+            assert_eq!(bench.begin(0, PUT), Ok(Some(number)));
             while bench.step(0, true, &mut Blind) == Outcome::GoesOn {}
         }
-        assert_eq!(bench.begin(0, put), Err(10));
+        assert_eq!(bench.begin(0, PUT), Err(10));
         assert_eq!(bench.numbers_used(), 65_535);
     }
 
@@ -260,15 +278,16 @@ mod tests {
                 let shape = Shape { kind, size: 1024, ..LIFO };
                 let mut bench = Bench::fresh(shape, &mut vec![0; words]).unwrap();
                 for number in 1..=1025 {
-                    bench.begin(0, Operation::Put { payload: 5 }).unwrap();
+                    bench.begin(0, PUT).unwrap();
                     let mut outcome = Outcome::GoesOn;
                     while outcome == Outcome::GoesOn {
                         outcome = bench.step(0, true, &mut Blind);
                     }
+                    let task = Task([number, 5, 0, 0, 0]);
                     if number <= 1024 {
-                        assert_eq!(outcome, Outcome::Finished { number, payload: 5 });
+                        assert_eq!(outcome, Outcome::Finished(task));
                     } else {
-                        assert_eq!(outcome, Outcome::Full { number, payload: 5 });
+                        assert_eq!(outcome, Outcome::Full(task));
                     }
                 }
                 assert_eq!((bench.store().published(), bench.store().arrays().len()), (1, 1));
@@ -292,9 +311,9 @@ mod tests {
                 bench.step(worker, true, &mut Blind);
             }
         };
-        bench.begin(0, Operation::Put { payload: 1 }).unwrap();
+        bench.begin(0, PUT).unwrap();
         steps(&mut bench, 0, 5);
-        bench.begin(0, Operation::Put { payload: 2 }).unwrap();
+        bench.begin(0, PUT).unwrap();
         steps(&mut bench, 0, 11); // the array grows on the way
         assert_eq!(bench.restarts(), 0, "X4 goes back to line 1 and is no restart");
         bench.begin(1, Operation::Steal).unwrap();

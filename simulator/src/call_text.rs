@@ -1,6 +1,7 @@
 //! What a line of a list of library calls says.
 
 use crate::bench::{Operation, Shape};
+use crate::task::{Payload, MOST_PAYLOAD};
 use crate::text::value;
 
 /// The longest store and the longest log, in words.
@@ -33,16 +34,21 @@ pub fn parse(line: &[u8]) -> Option<Line> {
             return (store <= LONGEST_STORE && log <= LONGEST_LOG)
                 .then_some(Line::Memory { store, log });
         }
-        [b"fresh", kind, width, size, crew] => Call::Fresh(Shape {
+        [b"fresh", kind, width, size, crew, payload_words] => Call::Fresh(Shape {
             kind: number(kind)?,
             width: number(width)?,
             size: number(size)?,
             crew: number(crew)?,
+            payload_words: number(payload_words)?,
         }),
-        [b"begin", worker, b"put", payload] => Call::Begin {
-            worker: number(worker)?,
-            operation: Operation::Put { payload: number(payload)? },
-        },
+        [b"begin", worker, b"put", ref words @ ..] if (1..=MOST_PAYLOAD).contains(&words.len()) => {
+            // Words that are not there are 0.
+            let mut payload = Payload::default();
+            for (word, text) in payload.iter_mut().zip(words) {
+                *word = number(text)?;
+            }
+            Call::Begin { worker: number(worker)?, operation: Operation::Put { payload } }
+        }
         [b"begin", worker, b"take"] => {
             Call::Begin { worker: number(worker)?, operation: Operation::Take }
         }
@@ -70,11 +76,15 @@ mod tests {
         assert_eq!(parse(b"memory 10300 20000"), Some(Line::Memory { store: 10_300, log: 20_000 }));
         assert_eq!(parse(b"memory 0 0"), Some(Line::Memory { store: 0, log: 0 }));
         assert_eq!(
-            parse(b"fresh 3 16 1024 8"),
-            Some(Line::Call(Call::Fresh(Shape { kind: 3, width: 16, size: 1024, crew: 8 })))
+            parse(b"fresh 3 16 1024 8 4"),
+            Some(Line::Call(Call::Fresh(Shape { kind: 3, width: 16, size: 1024, crew: 8, payload_words: 4 })))
         );
         let begin = |worker, operation| Some(Line::Call(Call::Begin { worker, operation }));
-        assert_eq!(parse(b"begin 0 put 65"), begin(0, Operation::Put { payload: 65 }));
+        let put = |payload| begin(0, Operation::Put { payload });
+        assert_eq!(parse(b"begin 0 put 65"), put([65, 0, 0, 0]));
+        assert_eq!(parse(b"begin 0 put 65 66"), put([65, 66, 0, 0]));
+        assert_eq!(parse(b"begin 0 put 65 66 67"), put([65, 66, 67, 0]));
+        assert_eq!(parse(b"begin 0 put 65 66 67 68"), put([65, 66, 67, 68]));
         assert_eq!(parse(b"begin 0 take"), begin(0, Operation::Take));
         assert_eq!(parse(b"begin 7 steal"), begin(7, Operation::Steal));
         assert_eq!(parse(b"step 0 0"), Some(Line::Call(Call::Step { worker: 0, count: 0 })));
@@ -85,8 +95,9 @@ mod tests {
     #[test]
     fn numbers_up_to_4294967295() {
         for line in [
-            "fresh 4294967295 4294967295 4294967295 4294967295",
+            "fresh 4294967295 4294967295 4294967295 4294967295 4294967295",
             "begin 4294967295 put 4294967295",
+            "begin 4294967295 put 4294967295 4294967295 4294967295 4294967295",
             "begin 4294967295 take",
             "begin 4294967295 steal",
             "step 4294967295 4294967295",
@@ -109,8 +120,9 @@ mod tests {
     #[test]
     fn not_of_the_form() {
         for line in [
-            "", " ", "memory", "memory 1", "memory 1 1 1", "fresh 1 1 1", "fresh 1 1 1 1 1",
-            "fresh 1 1 1 1 1 0", "begin 0", "begin 0 put", "begin 0 put 1 2", "begin put 1",
+            "", " ", "memory", "memory 1", "memory 1 1 1", "fresh 1 1 1", "fresh 1 1 1 1",
+            "fresh 1 1 1 1 1 1", "fresh 1 1 1 1 ", "fresh 1 1 1 1 x", "begin 0", "begin 0 put",
+            "begin 0 put ", "begin 0 put 1 ", "begin 0 put 1 2 3 4 5", "begin 0 put 1 x", "begin put 1",
             "begin 0 take 1", "begin 1 steal 1", "begin 0 commit", "step 0", "step 0 1 1",
             "step 0 -1", "step +0 1", "step 0 x", "step  0 1", " step 0 1", "step 0 1 ",
             "step\t0 1", "step 0 1\r", "STEP 0 1", "front 0", "fronts", "state 0", "states",

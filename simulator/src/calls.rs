@@ -5,18 +5,16 @@ use std::io::{self, Write};
 
 use crate::bench::{Bench, Operation, Shape};
 use crate::call_text::{self, Call, Line};
-use crate::listing::print;
+use crate::listing::{print, print_hand_out};
 use crate::log_judge::{EMPTY, FINISHED, FULL, HANDED_OUT};
 use crate::outcome::{refusal, Outcome, Place};
+use crate::task::Task;
 use crate::witness::Blind;
 
 /// What word 0 of the store and of the log is at the start; each later word is
 /// one more than the word before it.
 const STORE_FROM: u32 = 3_000_000_000;
 const LOG_FROM: u32 = 4_000_000_000;
-
-/// The words of an entry.
-const ENTRY: usize = 4;
 
 #[derive(Default)]
 pub struct Calls {
@@ -58,7 +56,7 @@ impl Calls {
 
     /// How many more entries the log can take.
     pub fn entries_left(&self) -> u32 {
-        self.lent.as_ref().map_or(0, |lent| (lent.words_left() / ENTRY) as u32)
+        self.lent.as_ref().map_or(0, |lent| (lent.words_left() / lent.entry()) as u32)
     }
 }
 
@@ -68,6 +66,8 @@ struct Lent {
     log: Vec<u32>,
     /// Words of the log written.
     written: usize,
+    /// The payload words of the last bench.
+    payload_words: u32,
     /// None before the first fresh and after a refused one.
     bench: Option<Bench>,
 }
@@ -78,12 +78,18 @@ impl Lent {
             store: (STORE_FROM..STORE_FROM + store).collect(),
             log: (LOG_FROM..LOG_FROM + log).collect(),
             written: 0,
+            payload_words: 1,
             bench: None,
         }
     }
 
     fn words_left(&self) -> usize {
         self.log.len() - self.written
+    }
+
+    /// The words of an entry.
+    fn entry(&self) -> usize {
+        self.payload_words as usize + 3
     }
 
     fn play(&mut self, call: Call, out: &mut impl Write) -> io::Result<()> {
@@ -119,6 +125,7 @@ impl Lent {
             self.store = bench.into_words();
         }
         self.bench = Some(Bench::fresh(shape, &mut self.store)?);
+        self.payload_words = shape.payload_words;
         self.written = 0;
         Ok(())
     }
@@ -128,35 +135,42 @@ impl Lent {
     }
 
     fn step(&mut self, worker: u32, out: &mut impl Write) -> io::Result<()> {
-        let room = self.words_left() >= ENTRY;
+        let room = self.words_left() >= self.entry();
         let Some(bench) = &mut self.bench else {
             return say(out, b'R', &[refusal::FOREIGN_STATE]);
         };
         match bench.step(worker, room, &mut Blind) {
             Outcome::GoesOn | Outcome::Restarted | Outcome::Published => say(out, b'G', &[]),
-            Outcome::Finished { number, payload } => {
-                self.enter([FINISHED, worker, number, payload]);
-                say(out, b'D', &[number])
+            Outcome::Finished(task) => {
+                self.enter(FINISHED, worker, task);
+                say(out, b'D', &[task.number()])
             }
-            Outcome::HandedOut { number, payload } => {
-                self.enter([HANDED_OUT, worker, number, payload]);
-                say(out, b'H', &[worker, number, payload])
+            Outcome::HandedOut(task) => {
+                self.enter(HANDED_OUT, worker, task);
+                let mut line = Vec::new();
+                print_hand_out(&mut line, worker, task.words(self.payload_words));
+                out.write_all(&line)
             }
             Outcome::Empty => {
-                self.enter([EMPTY, worker, 0, 0]);
+                self.enter(EMPTY, worker, Task::default());
                 say(out, b'E', &[worker])
             }
-            Outcome::Full { number, payload } => {
-                self.enter([FULL, worker, number, payload]);
-                say(out, b'F', &[number])
+            Outcome::Full(task) => {
+                self.enter(FULL, worker, task);
+                say(out, b'F', &[task.number()])
             }
             Outcome::Refused(number) => say(out, b'R', &[number]),
         }
     }
 
-    fn enter(&mut self, entry: [u32; ENTRY]) {
-        self.log[self.written..self.written + ENTRY].copy_from_slice(&entry);
-        self.written += ENTRY;
+    /// Writes an entry: kind, worker, put number and payload words.
+    fn enter(&mut self, kind: u32, worker: u32, task: Task) {
+        let end = self.written + self.entry();
+        let entry = &mut self.log[self.written..end];
+        entry[0] = kind;
+        entry[1] = worker;
+        entry[2..].copy_from_slice(task.words(self.payload_words));
+        self.written = end;
     }
 
     /// What is shared: the anchor; how many arrays are published and how many
@@ -166,8 +180,8 @@ impl Lent {
         let store = bench.store();
         let mut values = bench.anchor().to_vec();
         values.extend([store.published() as u32, store.arrays().len() as u32]);
-        for array in store.arrays() {
-            values.extend([array.offset, array.length()]);
+        for &array in store.arrays() {
+            values.extend([array.offset, store.length(array)]);
         }
         values.extend([bench.numbers_used(), self.written as u32, bench.restarts()]);
         values.extend(store.words());
@@ -204,7 +218,7 @@ mod tests {
         assert_eq!(answers(&format!("memory 2 4, {calls}")), answered);
         // Nor is there one after a refused fresh, whatever was before.
         assert_eq!(
-            answers(&format!("memory 2 4, fresh 1 1 1 2, begin 0 take, step 0 2, front, fresh 1 1 2 2, {calls}")),
+            answers(&format!("memory 2 4, fresh 1 1 1 2 1, begin 0 take, step 0 2, front, fresh 1 1 2 2 1, {calls}")),
             format!("A, A, G, E 0, L 3 0 0 0, R 5, {answered}")
         );
     }
@@ -213,7 +227,7 @@ mod tests {
     fn p1_call_by_call() {
         assert_eq!(
             answers(
-                "memory 12 40, fresh 1 1 2 2, begin 0 put 65, step 0 5, begin 1 steal, step 1 5, \
+                "memory 12 40, fresh 1 1 2 2 1, begin 0 put 65, step 0 5, begin 1 steal, step 1 5, \
                  begin 0 take, step 0 5, begin 0 put 66, step 0 5, begin 0 take, step 0 5, \
                  begin 0 put 67, step 0 5, step 1 1, front, state"
             ),
@@ -227,14 +241,14 @@ mod tests {
 
     #[test]
     fn fresh_zeroes_the_first_2c_words_and_touches_no_other() {
-        assert_eq!(answers("memory 3 0, fresh 3 1 1 1, state"), "A, S 0 0 0 1 1 0 2 0 0 0 0 0 3000000002");
+        assert_eq!(answers("memory 3 0, fresh 3 1 1 1 1, state"), "A, S 0 0 0 1 1 0 2 0 0 0 0 0 3000000002");
         // The one after it finds the words as they were left.
         assert_eq!(
-            answers("memory 4 9, fresh 2 1 2 1, begin 0 put 8, step 0 6, state, fresh 1 1 1 1, state, front"),
+            answers("memory 4 9, fresh 2 1 2 1 1, begin 0 put 8, step 0 6, state, fresh 1 1 1 1 1, state, front"),
             "A, N 1, G, G, G, G, G, D 1, S 0 1 0 1 1 0 4 1 4 0 1 8 0 0, A, S 0 0 0 1 1 0 2 0 0 0 0 0 0 0, L"
         );
         assert_eq!(
-            answers("memory 4 9, fresh 2 1 2 1, begin 0 put 8, step 0 6, fresh 2 1 0 1, fresh 1 1 1 1, \
+            answers("memory 4 9, fresh 2 1 2 1 1, begin 0 put 8, step 0 6, fresh 2 1 0 1 1, fresh 1 1 1 1 1, \
                      begin 0 put 9, step 0 4, state"),
             "A, N 1, G, G, G, G, G, D 1, R 3, A, N 1, G, G, G, G, S 0 0 0 1 1 0 2 1 0 0 1 9 0 0"
         );
@@ -246,7 +260,7 @@ mod tests {
         // X3 and X4.
         assert_eq!(
             answers(
-                "memory 7 8, fresh 1 2 1 1, begin 0 put 5, step 0 5, begin 0 put 6, step 0 3, state, \
+                "memory 7 8, fresh 1 2 1 1 1, begin 0 put 5, step 0 5, begin 0 put 6, step 0 3, state, \
                  step 0 2, state, step 0 1, state, step 0 5, state"
             ),
             "A, N 1, G, G, G, G, D 1, N 2, G, G, G, S 0 1 1 1 2 0 2 2 4 2 4 0 1 5 0 0 0 0 3000000006, \
@@ -261,12 +275,67 @@ mod tests {
         // Four words are left, and the ending step is accepted; with three it
         // is refused, and each step after it.
         assert_eq!(
-            answers("memory 2 7, fresh 1 1 1 2, begin 0 take, step 0 2, begin 1 steal, step 1 4, front"),
+            answers("memory 2 7, fresh 1 1 1 2 1, begin 0 take, step 0 2, begin 1 steal, step 1 4, front"),
             "A, A, G, E 0, A, G, R 11, R 11, R 11, L 3 0 0 0"
         );
         assert_eq!(
-            answers("memory 2 8, fresh 1 1 1 2, begin 0 take, step 0 2, begin 1 steal, step 1 3, front"),
+            answers("memory 2 8, fresh 1 1 1 2 1, begin 0 take, step 0 2, begin 1 steal, step 1 3, front"),
             "A, A, G, E 0, A, G, E 1, R 8, L 3 0 0 0 3 1 0 0"
+        );
+    }
+
+    #[test]
+    fn a_log_of_any_length_at_every_width() {
+        // Two EMPTY entries, and so many words more, fewer than an entry.
+        for payload_words in 1..=4 {
+            let entry = payload_words + 3;
+            let empty = |worker: u32| format!(" 3 {worker} 0{}", " 0".repeat(payload_words));
+            for rest in 0..entry {
+                let log = 2 * entry + rest;
+                assert_eq!(
+                    answers(&format!(
+                        "memory 5 {log}, fresh 1 1 1 2 {payload_words}, begin 0 take, step 0 2, \
+                         begin 1 steal, step 1 2, begin 0 take, step 0 3, front"
+                    )),
+                    format!("A, A, G, E 0, A, G, E 1, A, G, R 11, R 11, L{}{}", empty(0), empty(1))
+                );
+            }
+        }
+    }
+
+    #[test]
+    fn payload_words_past_the_width_are_not_looked_at_and_missing_ones_are_0() {
+        for (payload_words, shown) in [(1, "7"), (2, "7 8"), (3, "7 8 9"), (4, "7 8 9 10")] {
+            let steps = payload_words + 4;
+            let goes_on = "G, ".repeat(steps - 1);
+            assert_eq!(
+                answers(&format!(
+                    "memory 5 40, fresh 1 1 1 1 {payload_words}, begin 0 put 7 8 9 10, step 0 {steps}, \
+                     begin 0 take, step 0 {steps}, begin 0 put 11, step 0 {steps}, state"
+                )),
+                format!(
+                    "A, N 1, {goes_on}D 1, A, {goes_on}H 0 1 {shown}, N 2, {goes_on}D 2, \
+                     S 0 1 0 1 1 0 {} 2 {} 0 2 11{}{}",
+                    payload_words + 1,
+                    3 * (payload_words + 3),
+                    " 0".repeat(payload_words - 1),
+                    (payload_words + 1..5).map(|at| format!(" {}", 3_000_000_000u32 + at as u32)).collect::<String>()
+                )
+            );
+        }
+    }
+
+    #[test]
+    fn a_later_fresh_with_another_width() {
+        // Its first array is longer than the one before, and its log starts anew.
+        assert_eq!(
+            answers(
+                "memory 7 12, fresh 2 1 1 1 1, begin 0 put 8, step 0 6, front, fresh 2 1 1 1 4, front, state, \
+                 begin 0 put 1 2 3 4, step 0 9, front, fresh 2 1 1 1 0, fresh 2 1 2 1 4, fresh 2 1 2 1 2, state"
+            ),
+            "A, N 1, G, G, G, G, G, D 1, L 1 0 1 8, A, L, S 0 0 0 1 1 0 5 0 0 0 0 0 0 0 0 3000000005 3000000006, \
+             N 1, G, G, G, G, G, G, G, G, D 1, L 1 0 1 1 2 3 4, R 16, R 5, A, \
+             S 0 0 0 1 1 0 6 0 0 0 0 0 0 0 0 0 3000000006"
         );
     }
 
@@ -274,7 +343,7 @@ mod tests {
     fn a_failed_compare_is_the_one_restart() {
         assert_eq!(
             answers(
-                "memory 2 12, fresh 2 1 1 2, begin 0 put 4294967295, step 0 6, begin 1 steal, step 1 6, \
+                "memory 2 12, fresh 2 1 1 2 1, begin 0 put 4294967295, step 0 6, begin 1 steal, step 1 6, \
                  begin 0 take, step 0 6, step 1 1, state, begin 0 put 0, step 0 6"
             ),
             "A, N 1, G, G, G, G, G, D 1, A, G, G, G, G, G, G, A, G, G, G, G, G, H 0 1 4294967295, \

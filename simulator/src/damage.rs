@@ -5,18 +5,28 @@ use crate::random::Random;
 /// Words of a valid line of any kind, right or wrong for the moment.
 fn valid(random: &mut Random) -> Vec<u8> {
     match random.below(6) {
-        0 => format!("put {}", random.word()),
+        0 => {
+            // Too few or too many words for a bench, most times.
+            let mut line = "put".to_string();
+            for _ in 0..*random.pick(&[0, 1, 1, 2, 3, 4, 5]) {
+                line += &format!(" {}", random.word());
+            }
+            line
+        }
         1 => "take".to_string(),
         2 => format!("steal {}", random.below(9)),
         3 => "end".to_string(),
-        4 => format!(
-            "queue {} {} {} {} {}",
-            random.between(1, 3),
-            random.between(1, 16),
-            1 << random.below(11),
-            random.between(1, 8),
-            random.below(4095)
-        ),
+        4 => {
+            let sixth = *random.pick(&["", "", " 1", " 2", " 3", " 4", " 0", " 5", " 4294967295", " 1 1"]);
+            format!(
+                "queue {} {} {} {} {}{sixth}",
+                random.between(1, 3),
+                random.between(1, 16),
+                1 << random.below(11),
+                random.between(1, 8),
+                random.below(10_236)
+            )
+        }
         _ => format!("step {} {}", random.below(8), random.below(7)),
     }
     .into_bytes()
@@ -83,7 +93,7 @@ pub fn line(random: &mut Random) -> Vec<u8> {
         }
         17 => line = format!("step {} {}", random.below(8), random.between(65_536, 65_540)).into(),
         18 => {
-            let words = random.between(4095, 5000);
+            let words = random.between(10_236, 11_000);
             line = format!("queue {} 4 1 2 {words}", random.between(1, 3)).into();
         }
         19 => line[0] = line[0].to_ascii_uppercase(),

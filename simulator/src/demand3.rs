@@ -1,7 +1,7 @@
 //! Demand 3, checked from the history of the calls and not from the counts of
 //! `T`: after every step that moves the window, each finished put's task was
-//! handed out or stands whole in it; each pair handed out belongs to a put
-//! finished before it; each EMPTY was answered only if every put finished by
+//! handed out or stands whole in it; each task handed out belongs, with all its
+//! words, to a put finished before it; each EMPTY was answered only if every put finished by
 //! that attempt's line 1 had been handed out before.
 //!
 //! For the queues with a tag of w bits all that is promised under a premise:
@@ -10,11 +10,13 @@
 //! compare. Every front of a list is a list, so what goes wrong before the
 //! break is wrong, and what goes wrong from the break on is not.
 
+use crate::bench::Shape;
+use crate::task::Task;
 use crate::witness::Witness;
 
 #[derive(Clone, Copy, Default)]
 struct Put {
-    payload: u32,
+    task: Task,
     finished: bool,
     handed_out: bool,
     /// The last look at the window that found it there.
@@ -87,19 +89,20 @@ impl Default for Demand3 {
 }
 
 impl Witness for Demand3 {
-    fn fresh(&mut self, kind: u32, width: u32) {
-        self.limit = if kind == 2 { None } else { Some(1 << width) };
+    fn fresh(&mut self, shape: Shape) {
+        self.limit = if shape.kind == 2 { None } else { Some(1 << shape.width) };
     }
 
     fn call(&mut self) {
         self.calls += 1;
     }
 
-    fn put_begun(&mut self, number: u32, payload: u32) {
+    fn put_begun(&mut self, task: Task) {
+        let number = task.number();
         if number as usize != self.puts.len() {
             self.violation(format!("the put after {} was numbered {number}", self.puts.len() - 1));
         }
-        self.puts.push(Put { payload, ..Put::default() });
+        self.puts.push(Put { task, ..Put::default() });
     }
 
     fn line_one(&mut self, worker: usize) {
@@ -123,15 +126,15 @@ impl Witness for Demand3 {
         self.finished.push(number);
     }
 
-    fn handed_out(&mut self, worker: usize, number: u32, payload: u32) {
+    fn handed_out(&mut self, worker: usize, task: Task) {
         self.window_moved = true;
-        match self.puts.get_mut(number as usize) {
-            Some(put) if number > 0 && put.finished && put.payload == payload => {
+        match self.puts.get_mut(task.number() as usize) {
+            Some(put) if task.number() > 0 && put.finished && put.task == task => {
                 put.handed_out = true;
             }
             _ => self.violation(format!(
-                "worker {worker} was handed put {number} with payload {payload}, \
-                 which belongs to no finished put"
+                "worker {worker} was handed the words {:?}, which belong to no finished put",
+                task.0
             )),
         }
         self.skip_handed_out();
@@ -155,12 +158,12 @@ impl Witness for Demand3 {
         self.window_moved = true;
     }
 
-    fn window(&mut self, tasks: &mut dyn Iterator<Item = (u32, u32)>) {
+    fn window(&mut self, tasks: &mut dyn Iterator<Item = Task>) {
         self.window_moved = false;
         self.looks += 1;
-        for (number, payload) in tasks {
-            if let Some(put) = self.puts.get_mut(number as usize) {
-                if put.payload == payload {
+        for task in tasks {
+            if let Some(put) = self.puts.get_mut(task.number() as usize) {
+                if put.task == task {
                     put.seen_standing = self.looks;
                 }
             }
@@ -179,14 +182,23 @@ impl Witness for Demand3 {
 mod tests {
     use super::*;
 
+    fn shape(kind: u32, width: u32) -> Shape {
+        Shape { kind, width, size: 1, crew: 2, payload_words: 2 }
+    }
+
+    /// With another word behind it, which is the same for all.
+    fn task(number: u32, payload: u32) -> Task {
+        Task([number, payload, 99, 0, 0])
+    }
+
     fn with_put(width: u32) -> Demand3 {
         let mut history = Demand3::new();
-        history.fresh(1, width);
+        history.fresh(shape(1, width));
         history.call();
-        history.put_begun(1, 50);
+        history.put_begun(task(1, 50));
         history.call();
         history.finished(1);
-        history.window(&mut [(1, 50)].into_iter());
+        history.window(&mut [task(1, 50)].into_iter());
         history
     }
 
@@ -197,14 +209,15 @@ mod tests {
     #[test]
     fn a_task_handed_out_is_not_lost() {
         let mut history = with_put(1);
-        history.handed_out(1, 1, 50);
+        history.handed_out(1, task(1, 50));
         history.window(&mut [].into_iter());
         assert_eq!(history.finding, Finding::Kept);
     }
 
     #[test]
     fn a_task_neither_handed_out_nor_whole_in_the_window_is_lost() {
-        for window in [vec![], vec![(1, 51)], vec![(0, 50)]] {
+        let torn = Task([1, 50, 98, 0, 0]);
+        for window in [vec![], vec![task(1, 51)], vec![task(0, 50)], vec![torn]] {
             let mut history = with_put(1);
             history.window(&mut window.into_iter());
             assert!(violated(&history));
@@ -212,16 +225,20 @@ mod tests {
     }
 
     #[test]
-    fn invented_pairs() {
+    fn invented_tasks() {
         for (number, payload) in [(0, 0), (0, 50), (1, 51), (2, 50)] {
             let mut history = with_put(1);
-            history.handed_out(1, number, payload);
+            history.handed_out(1, task(number, payload));
             assert!(violated(&history), "{number} {payload}");
         }
+        // The last word is another's.
+        let mut history = with_put(1);
+        history.handed_out(1, Task([1, 50, 98, 0, 0]));
+        assert!(violated(&history));
         // Begun is not finished.
         let mut history = with_put(1);
-        history.put_begun(2, 60);
-        history.handed_out(1, 2, 60);
+        history.put_begun(task(2, 60));
+        history.handed_out(1, task(2, 60));
         assert!(violated(&history));
     }
 
@@ -234,8 +251,8 @@ mod tests {
 
         let mut history = with_put(1);
         history.line_one(1);
-        history.handed_out(2, 1, 50);
-        history.put_begun(2, 60);
+        history.handed_out(2, task(1, 50));
+        history.put_begun(task(2, 60));
         history.finished(2);
         history.empty(1);
         assert_eq!(history.finding, Finding::Kept, "put 2 finished after line 1");
@@ -248,13 +265,13 @@ mod tests {
     fn the_premise_breaks_at_the_compare_and_at_two_to_the_w() {
         let mut history = with_put(1);
         history.line_one(1);
-        history.put_begun(2, 60);
+        history.put_begun(task(2, 60));
         history.finished(2);
         history.compare(1);
         assert_eq!(history.finding, Finding::Kept, "one put is fewer than two");
         history.line_one(1);
         for number in 3..=4 {
-            history.put_begun(number, 60);
+            history.put_begun(task(number, 60));
             history.finished(number);
         }
         assert_eq!(history.finding, Finding::Kept, "no compare yet");
@@ -267,10 +284,10 @@ mod tests {
     #[test]
     fn the_fifo_queue_has_no_premise() {
         let mut history = Demand3::new();
-        history.fresh(2, 1);
+        history.fresh(shape(2, 1));
         history.line_one(1);
         for number in 1..=10 {
-            history.put_begun(number, 0);
+            history.put_begun(task(number, 0));
             history.finished(number);
         }
         history.compare(1);
@@ -283,7 +300,7 @@ mod tests {
         history.line_one(1);
         history.window(&mut [].into_iter());
         for number in 2..=3 {
-            history.put_begun(number, 60);
+            history.put_begun(task(number, 60));
             history.finished(number);
         }
         history.compare(1);

@@ -3,6 +3,7 @@
 
 use crate::outcome::{refusal, Outcome, Place};
 use crate::store::{Array, Store};
+use crate::task::{Payload, Task};
 use crate::witness::Witness;
 
 /// The head counts modulo this.
@@ -15,14 +16,14 @@ struct Anchor {
     g: u32,
 }
 
-/// A worker's program counter: the operation's letter and the line's number.
+/// A worker's program counter: the operation's letter and the line's number, and
+/// of a line that writes or reads a task the word that is next.
 #[derive(Clone, Copy, Debug, PartialEq, Eq)]
 enum Counter {
     Idle,
     P1,
     P2,
-    P3a,
-    P3b,
+    P3(usize),
     P4,
     X1,
     X2,
@@ -30,14 +31,12 @@ enum Counter {
     X4,
     T1,
     T2,
-    T3a,
-    T3b,
+    T3(usize),
     T4,
     S1,
     S2,
     S3,
-    S4a,
-    S4b,
+    S4(usize),
     S5,
     S6,
 }
@@ -47,8 +46,7 @@ struct Worker {
     counter: Counter,
     /// The anchor as line 1 read it.
     read: Anchor,
-    number: u32,
-    payload: u32,
+    task: Task,
     /// A thief's noted array.
     noted: Array,
     /// Line 5 of a steal.
@@ -71,8 +69,7 @@ impl DoubleEnded {
         let worker = Worker {
             counter: Counter::Idle,
             read: Anchor::default(),
-            number: 0,
-            payload: 0,
+            task: Task::default(),
             noted: Array::default(),
             h2: 0,
         };
@@ -90,10 +87,9 @@ impl DoubleEnded {
         self.workers[worker].counter != Counter::Idle
     }
 
-    pub fn begin_put(&mut self, number: u32, payload: u32) {
+    pub fn begin_put(&mut self, number: u32, payload: Payload) {
         let owner = &mut self.workers[0];
-        owner.number = number;
-        owner.payload = payload;
+        owner.task = Task::new(number, payload, self.store.payload_words());
         owner.counter = Counter::P1;
     }
 
@@ -116,21 +112,17 @@ impl DoubleEnded {
                 go(me, Counter::P2)
             }
             Counter::P2 if me.read.s == store.size() => go(me, Counter::X1),
-            Counter::P2 => go(me, Counter::P3a),
-            Counter::P3a => {
-                store.set_number(me.read.h + me.read.s, me.number);
-                go(me, Counter::P3b)
-            }
-            Counter::P3b => {
-                store.set_payload(me.read.h + me.read.s, me.payload);
-                go(me, Counter::P4)
+            Counter::P2 => go(me, Counter::P3(0)),
+            Counter::P3(word) => {
+                store.set_word(me.read.h + me.read.s, word, me.task.0[word]);
+                go(me, if store.more_words(word) { Counter::P3(word + 1) } else { Counter::P4 })
             }
             Counter::P4 if room => {
                 let Anchor { h, s, g } = me.read;
                 let g = if g == *largest_tag { 0 } else { g + 1 };
                 *anchor = Anchor { h, s: s + 1, g };
                 me.counter = Counter::Idle;
-                Outcome::Finished { number: me.number, payload: me.payload }
+                Outcome::Finished(me.task)
             }
             Counter::P4 => Outcome::Refused(refusal::LOG_FULL),
 
@@ -141,7 +133,7 @@ impl DoubleEnded {
                 }
                 None if room => {
                     me.counter = Counter::Idle;
-                    Outcome::Full { number: me.number, payload: me.payload }
+                    Outcome::Full(me.task)
                 }
                 None => Outcome::Refused(refusal::LOG_FULL),
             },
@@ -181,35 +173,27 @@ impl DoubleEnded {
                 me.counter = Counter::Idle;
                 Outcome::Empty
             }
-            Counter::T2 => go(me, Counter::T3a),
-            Counter::T3a => {
-                me.number = store.number(store.current(), me.read.h + me.read.s - 1);
-                go(me, Counter::T3b)
-            }
-            Counter::T3b => {
-                me.payload = store.payload(store.current(), me.read.h + me.read.s - 1);
-                go(me, Counter::T4)
+            Counter::T2 => go(me, Counter::T3(0)),
+            Counter::T3(word) => {
+                me.task.0[word] = store.word(store.current(), me.read.h + me.read.s - 1, word);
+                go(me, if store.more_words(word) { Counter::T3(word + 1) } else { Counter::T4 })
             }
             Counter::T4 if room => {
                 // Head and count of the pair read: this can undo steals.
                 *anchor = Anchor { s: me.read.s - 1, ..me.read };
                 me.counter = Counter::Idle;
-                Outcome::HandedOut { number: me.number, payload: me.payload }
+                Outcome::HandedOut(me.task)
             }
             Counter::T4 => Outcome::Refused(refusal::LOG_FULL),
 
             Counter::S2 => go(me, Counter::S3),
             Counter::S3 => {
                 me.noted = store.current();
-                go(me, Counter::S4a)
+                go(me, Counter::S4(0))
             }
-            Counter::S4a => {
-                me.number = store.number(me.noted, me.read.h);
-                go(me, Counter::S4b)
-            }
-            Counter::S4b => {
-                me.payload = store.payload(me.noted, me.read.h);
-                go(me, Counter::S5)
+            Counter::S4(word) => {
+                me.task.0[word] = store.word(me.noted, me.read.h, word);
+                go(me, if store.more_words(word) { Counter::S4(word + 1) } else { Counter::S5 })
             }
             Counter::S5 => {
                 me.h2 = (me.read.h + 1) % HEADS;
@@ -224,17 +208,16 @@ impl DoubleEnded {
                 witness.compare(worker);
                 *anchor = Anchor { h: me.h2, s: me.read.s - 1, g: me.read.g };
                 me.counter = Counter::Idle;
-                Outcome::HandedOut { number: me.number, payload: me.payload }
+                Outcome::HandedOut(me.task)
             }
             Counter::S6 => Outcome::Refused(refusal::LOG_FULL),
         }
     }
 
     /// The s tasks from h in the current array.
-    pub fn window(&self) -> impl Iterator<Item = (u32, u32)> + '_ {
-        let array = self.store.current();
+    pub fn window(&self) -> impl Iterator<Item = Task> + '_ {
         let Anchor { h, s, .. } = self.anchor;
-        (h..h + s).map(move |i| (self.store.number(array, i), self.store.payload(array, i)))
+        (h..h + s).map(|index| self.store.task(index))
     }
 
     /// What is shared: head, count and tag.
@@ -258,7 +241,7 @@ impl DoubleEnded {
     pub fn place(&self, worker: usize) -> Place {
         match self.workers[worker].counter {
             Counter::Idle => Place::Idle,
-            Counter::S4a => Place::Noted,
+            Counter::S4(0) => Place::Noted,
             Counter::P4 | Counter::T4 | Counter::S6 => Place::Last,
             Counter::X1 | Counter::X2 | Counter::X3 | Counter::X4 => Place::Expanding,
             _ => Place::Underway,
@@ -277,7 +260,15 @@ mod tests {
     use crate::witness::Blind;
 
     fn double_ended(width: u32, size: u32, words: usize) -> DoubleEnded {
-        DoubleEnded::new(width, Store::fresh(vec![0; words], size))
+        DoubleEnded::new(width, Store::fresh(vec![0; words], size, 1))
+    }
+
+    fn task(number: u32, payload: u32) -> Task {
+        Task::new(number, [payload, 0, 0, 0], 1)
+    }
+
+    fn begin_put(queue: &mut DoubleEnded, number: u32, payload: u32) {
+        queue.begin_put(number, [payload, 8, 8, 8]);
     }
 
     fn steps(queue: &mut DoubleEnded, worker: usize, count: u32) -> Outcome {
@@ -292,8 +283,35 @@ mod tests {
     }
 
     fn put(queue: &mut DoubleEnded, number: u32, payload: u32) {
-        queue.begin_put(number, payload);
-        assert_eq!(steps(queue, 0, 5), Outcome::Finished { number, payload });
+        begin_put(queue, number, payload);
+        assert_eq!(steps(queue, 0, 5), Outcome::Finished(task(number, payload)));
+    }
+
+    #[test]
+    fn each_word_has_a_step_of_its_own() {
+        for payload_words in 1..=4u32 {
+            let store = Store::fresh(vec![0; 20], 2, payload_words);
+            let mut queue = DoubleEnded::new(4, store);
+            let payload = [50, 51, 52, 53];
+            let whole = |number| Task::new(number, payload, payload_words);
+            for number in 1..=2 {
+                queue.begin_put(number, payload);
+                steps(&mut queue, 0, 2);
+                for word in 0..=payload_words as usize {
+                    let at = (number - 1) as usize * (payload_words as usize + 1) + word;
+                    assert_eq!(queue.store.words()[at], 0);
+                    steps(&mut queue, 0, 1);
+                    assert_eq!(queue.store.words()[at], whole(number).0[word]);
+                }
+                assert_eq!(steps(&mut queue, 0, 1), Outcome::Finished(whole(number)));
+            }
+            // Line 1, the test, the words, the last line; a thief notes and
+            // works out h2 besides.
+            queue.begin_steal(1);
+            assert_eq!(steps(&mut queue, 1, payload_words + 6), Outcome::HandedOut(whole(1)));
+            queue.begin_take();
+            assert_eq!(steps(&mut queue, 0, payload_words + 4), Outcome::HandedOut(whole(2)));
+        }
     }
 
     #[test]
@@ -303,9 +321,9 @@ mod tests {
             put(&mut queue, number, 10 * number);
         }
         queue.begin_take();
-        assert_eq!(steps(&mut queue, 0, 5), Outcome::HandedOut { number: 3, payload: 30 });
+        assert_eq!(steps(&mut queue, 0, 5), Outcome::HandedOut(task(3, 30)));
         queue.begin_steal(1);
-        assert_eq!(steps(&mut queue, 1, 7), Outcome::HandedOut { number: 1, payload: 10 });
+        assert_eq!(steps(&mut queue, 1, 7), Outcome::HandedOut(task(1, 10)));
         assert_eq!(queue.anchor, Anchor { h: 1, s: 1, g: 3 });
     }
 
@@ -326,7 +344,7 @@ mod tests {
         steps(&mut queue, 0, 5);
         put(&mut queue, 3, 30);
         assert_eq!(steps(&mut queue, 1, 1), Outcome::Restarted);
-        assert_eq!(steps(&mut queue, 1, 7), Outcome::HandedOut { number: 3, payload: 30 });
+        assert_eq!(steps(&mut queue, 1, 7), Outcome::HandedOut(task(3, 30)));
     }
 
     #[test]
@@ -337,7 +355,7 @@ mod tests {
         put(&mut queue, 2, 20);
         for number in 1..=2 {
             queue.begin_steal(1);
-            assert_eq!(steps(&mut queue, 1, 7), Outcome::HandedOut { number, payload: 10 * number });
+            assert_eq!(steps(&mut queue, 1, 7), Outcome::HandedOut(task(number, 10 * number)));
         }
         assert_eq!(queue.anchor, Anchor { h: 1, s: 0, g: 2 });
     }
@@ -346,14 +364,14 @@ mod tests {
     fn expansion_with_nothing_left_to_copy() {
         let mut queue = double_ended(4, 1, 6);
         put(&mut queue, 1, 10);
-        queue.begin_put(2, 20);
+        begin_put(&mut queue, 2, 20);
         steps(&mut queue, 0, 2);
         queue.begin_steal(1);
         steps(&mut queue, 1, 7);
         assert_eq!(steps(&mut queue, 0, 3), Outcome::Published);
         assert_eq!(queue.store.size(), 2, "twice the size, not twice the count");
-        assert_eq!(steps(&mut queue, 0, 5), Outcome::Finished { number: 2, payload: 20 });
-        assert_eq!(queue.window().collect::<Vec<_>>(), [(2, 20)]);
+        assert_eq!(steps(&mut queue, 0, 5), Outcome::Finished(task(2, 20)));
+        assert_eq!(queue.window().collect::<Vec<_>>(), [task(2, 20)]);
     }
 
     #[test]
@@ -362,25 +380,25 @@ mod tests {
         queue.anchor.h = 2047;
         put(&mut queue, 1, 10);
         put(&mut queue, 2, 20);
-        queue.begin_put(3, 30);
+        begin_put(&mut queue, 3, 30);
         // Lines 1 and 2, X1, X2, two copies, X4.
         assert_eq!(steps(&mut queue, 0, 7), Outcome::Published);
-        assert_eq!(steps(&mut queue, 0, 5), Outcome::Finished { number: 3, payload: 30 });
-        assert_eq!(queue.window().collect::<Vec<_>>(), [(1, 10), (2, 20), (3, 30)]);
+        assert_eq!(steps(&mut queue, 0, 5), Outcome::Finished(task(3, 30)));
+        assert_eq!(queue.window().collect::<Vec<_>>(), [task(1, 10), task(2, 20), task(3, 30)]);
         // 2047 lies in slot 3 of the new array, 2048 and 2049 in slots 0 and 1.
-        assert_eq!(queue.store.number(queue.store.current(), 3), 1);
+        assert_eq!(queue.store.task(3).number(), 1);
     }
 
     #[test]
     fn a_put_writes_back_the_head_it_read() {
         let mut queue = double_ended(4, 4, 8);
         put(&mut queue, 1, 10);
-        queue.begin_put(2, 20);
+        begin_put(&mut queue, 2, 20);
         steps(&mut queue, 0, 4);
         queue.begin_steal(1);
         steps(&mut queue, 1, 7);
         assert_eq!(queue.anchor, Anchor { h: 1, s: 0, g: 1 });
-        assert_eq!(steps(&mut queue, 0, 1), Outcome::Finished { number: 2, payload: 20 });
+        assert_eq!(steps(&mut queue, 0, 1), Outcome::Finished(task(2, 20)));
         assert_eq!(queue.anchor, Anchor { h: 0, s: 2, g: 2 });
     }
 
@@ -391,15 +409,15 @@ mod tests {
         steps(&mut queue, 0, 1);
         assert_eq!(queue.step(0, false, &mut Blind), Outcome::Refused(11));
         assert_eq!(queue.step(0, true, &mut Blind), Outcome::Empty);
-        queue.begin_put(1, 10);
+        begin_put(&mut queue, 1, 10);
         steps(&mut queue, 0, 4);
         assert_eq!(queue.step(0, false, &mut Blind), Outcome::Refused(11));
-        let finished = Outcome::Finished { number: 1, payload: 10 };
+        let finished = Outcome::Finished(task(1, 10));
         assert_eq!(queue.step(0, true, &mut Blind), finished);
-        queue.begin_put(2, 20);
+        begin_put(&mut queue, 2, 20);
         steps(&mut queue, 0, 2);
         assert_eq!(queue.step(0, false, &mut Blind), Outcome::Refused(11));
-        let full = Outcome::Full { number: 2, payload: 20 };
+        let full = Outcome::Full(task(2, 20));
         assert_eq!(queue.step(0, true, &mut Blind), full);
         queue.begin_steal(1);
         steps(&mut queue, 1, 6);

@@ -183,7 +183,7 @@ pub fn tag_comes_round(script: &mut Script) {
                 script.step_until(thief, 20, |place| matches!(place, Place::Noted | Place::Idle));
             }
             _ => {
-                let count = script.random.between(1, 5);
+                let count = script.random.between(1, script.shape.payload_words + 4);
                 script.step_until(thief, count, |place| matches!(place, Place::Last | Place::Idle));
             }
         }
@@ -224,13 +224,15 @@ pub fn tag_comes_round(script: &mut Script) {
         }
         script.put();
         left -= 1;
-        // A waiting thief that has not read both words yet may read one or both
-        // while the put has written only one.
+        // A waiting thief that has not read all words yet may read some while
+        // the put has written only some.
         let pause = if left == 0 { 50 } else { 15 };
         if script.random.chance(pause) {
-            script.step(0, if script.shape.kind == 2 { 4 } else { 3 });
+            let words = script.shape.payload_words;
+            let written = script.random.between(1, words);
+            script.step(0, written + if script.shape.kind == 2 { 3 } else { 2 });
             for &thief in &waiting {
-                let count = script.random.between(1, 2);
+                let count = script.random.between(1, words + 1);
                 script.step_until(thief, count, |place| matches!(place, Place::Last | Place::Idle));
             }
         }
@@ -259,7 +261,8 @@ pub fn noted_before_growth(script: &mut Script) {
         }
         script.step_until(thief, 20, |place| matches!(place, Place::Noted | Place::Idle));
         if script.random.chance(25) {
-            script.step(thief, 1);
+            let count = script.random.between(1, script.shape.payload_words);
+            script.step(thief, count);
         }
         waiting.push(thief);
     }
@@ -372,6 +375,7 @@ pub fn refusals(script: &mut Script) {
             2 => script.say(&format!("step {beyond} 1")),
             3 => script.say(&format!("step {beyond} 0")),
             4 => script.put(),
+            5 if script.random.chance(50) => script.put_of_other_length(),
             5 => script.take(),
             6 => {
                 let worker = script.random.below(script.shape.crew);

@@ -4,9 +4,11 @@
 
 use crate::outcome::{refusal, Outcome, Place};
 use crate::store::{Array, Store};
+use crate::task::{Payload, Task};
 use crate::witness::Witness;
 
-/// What the owner is doing, with the line it does next by the figure's number.
+/// What the owner is doing, with the line it does next by the figure's number; a
+/// line that writes or reads a task has the word that is next.
 #[derive(Clone, Copy, Debug, PartialEq, Eq)]
 enum Doing {
     Nothing,
@@ -19,8 +21,7 @@ enum PutLine {
     L1,
     L2,
     L3,
-    L4a,
-    L4b,
+    L4(usize),
     L5,
     X1,
     X2,
@@ -33,8 +34,7 @@ enum TakeLine {
     L1,
     L2,
     L3,
-    L4a,
-    L4b,
+    L4(usize),
     L5,
 }
 
@@ -45,8 +45,7 @@ enum StealLine {
     L2,
     L3,
     L4,
-    L5a,
-    L5b,
+    L5(usize),
     L6,
 }
 
@@ -56,8 +55,7 @@ struct Thief {
     head: u32,
     tail: u32,
     noted: Array,
-    number: u32,
-    payload: u32,
+    task: Task,
 }
 
 #[derive(Clone, Debug)]
@@ -70,8 +68,7 @@ pub struct Fifo {
     /// The owner's own reads of head and tail. Its last line works from these.
     head_read: u32,
     tail_read: u32,
-    number: u32,
-    payload: u32,
+    task: Task,
     /// X3: the next index to copy, and the tail X2 noted.
     copying: u32,
     copy_end: u32,
@@ -86,8 +83,7 @@ impl Fifo {
             head: 0,
             tail: 0,
             noted: Array::default(),
-            number: 0,
-            payload: 0,
+            task: Task::default(),
         };
         Fifo {
             store,
@@ -96,8 +92,7 @@ impl Fifo {
             doing: Doing::Nothing,
             head_read: 0,
             tail_read: 0,
-            number: 0,
-            payload: 0,
+            task: Task::default(),
             copying: 0,
             copy_end: 0,
             thieves: [thief; 8],
@@ -112,10 +107,9 @@ impl Fifo {
         }
     }
 
-    pub fn begin_put(&mut self, number: u32, payload: u32) {
+    pub fn begin_put(&mut self, number: u32, payload: Payload) {
         self.doing = Doing::Put(PutLine::L1);
-        self.number = number;
-        self.payload = payload;
+        self.task = Task::new(number, payload, self.store.payload_words());
     }
 
     pub fn begin_take(&mut self) {
@@ -151,16 +145,16 @@ impl Fifo {
                 if self.tail_read == self.head_read + self.store.size() {
                     PutLine::X1
                 } else {
-                    PutLine::L4a
+                    PutLine::L4(0)
                 }
             }
-            PutLine::L4a => {
-                self.store.set_number(self.tail_read, self.number);
-                PutLine::L4b
-            }
-            PutLine::L4b => {
-                self.store.set_payload(self.tail_read, self.payload);
-                PutLine::L5
+            PutLine::L4(word) => {
+                self.store.set_word(self.tail_read, word, self.task.0[word]);
+                if self.store.more_words(word) {
+                    PutLine::L4(word + 1)
+                } else {
+                    PutLine::L5
+                }
             }
             PutLine::L5 => {
                 if !room {
@@ -168,7 +162,7 @@ impl Fifo {
                 }
                 self.tail = self.tail_read + 1;
                 self.doing = Doing::Nothing;
-                return Outcome::Finished { number: self.number, payload: self.payload };
+                return Outcome::Finished(self.task);
             }
             PutLine::X1 => {
                 let Some(array) = self.store.next_array() else {
@@ -176,7 +170,7 @@ impl Fifo {
                         return Outcome::Refused(refusal::LOG_FULL);
                     }
                     self.doing = Doing::Nothing;
-                    return Outcome::Full { number: self.number, payload: self.payload };
+                    return Outcome::Full(self.task);
                 };
                 self.store.claim(array);
                 PutLine::X2
@@ -230,15 +224,15 @@ impl Fifo {
                     self.doing = Doing::Nothing;
                     return Outcome::Empty;
                 }
-                TakeLine::L4a
+                TakeLine::L4(0)
             }
-            TakeLine::L4a => {
-                self.number = self.store.number(self.store.current(), self.head_read);
-                TakeLine::L4b
-            }
-            TakeLine::L4b => {
-                self.payload = self.store.payload(self.store.current(), self.head_read);
-                TakeLine::L5
+            TakeLine::L4(word) => {
+                self.task.0[word] = self.store.word(self.store.current(), self.head_read, word);
+                if self.store.more_words(word) {
+                    TakeLine::L4(word + 1)
+                } else {
+                    TakeLine::L5
+                }
             }
             TakeLine::L5 => {
                 if !room {
@@ -248,7 +242,7 @@ impl Fifo {
                 // the head read, and their tasks are then handed out again.
                 self.head = self.head_read + 1;
                 self.doing = Doing::Nothing;
-                return Outcome::HandedOut { number: self.number, payload: self.payload };
+                return Outcome::HandedOut(self.task);
             }
         };
         self.doing = Doing::Take(next);
@@ -280,15 +274,15 @@ impl Fifo {
             }
             StealLine::L4 => {
                 thief.noted = self.store.current();
-                StealLine::L5a
+                StealLine::L5(0)
             }
-            StealLine::L5a => {
-                thief.number = self.store.number(thief.noted, thief.head);
-                StealLine::L5b
-            }
-            StealLine::L5b => {
-                thief.payload = self.store.payload(thief.noted, thief.head);
-                StealLine::L6
+            StealLine::L5(word) => {
+                thief.task.0[word] = self.store.word(thief.noted, thief.head, word);
+                if self.store.more_words(word) {
+                    StealLine::L5(word + 1)
+                } else {
+                    StealLine::L6
+                }
             }
             StealLine::L6 => {
                 let equal = self.head == thief.head;
@@ -302,17 +296,15 @@ impl Fifo {
                 }
                 self.head += 1;
                 thief.line = StealLine::Nothing;
-                return Outcome::HandedOut { number: thief.number, payload: thief.payload };
+                return Outcome::HandedOut(thief.task);
             }
         };
         Outcome::GoesOn
     }
 
     /// The tasks of head to tail−1 in the current array.
-    pub fn window(&self) -> impl Iterator<Item = (u32, u32)> + '_ {
-        let array = self.store.current();
-        (self.head..self.tail)
-            .map(move |i| (self.store.number(array, i), self.store.payload(array, i)))
+    pub fn window(&self) -> impl Iterator<Item = Task> + '_ {
+        (self.head..self.tail).map(|index| self.store.task(index))
     }
 
     /// What is shared, with 0 for the tag, which this queue has not.
@@ -337,7 +329,7 @@ impl Fifo {
         if worker > 0 {
             return match self.thieves[worker].line {
                 StealLine::Nothing => Place::Idle,
-                StealLine::L5a => Place::Noted,
+                StealLine::L5(0) => Place::Noted,
                 StealLine::L6 => Place::Last,
                 _ => Place::Underway,
             };
@@ -357,7 +349,15 @@ mod tests {
     use crate::witness::Blind;
 
     fn fifo(size: u32, words: usize) -> Fifo {
-        Fifo::new(Store::fresh(vec![0; words], size))
+        Fifo::new(Store::fresh(vec![0; words], size, 1))
+    }
+
+    fn task(number: u32, payload: u32) -> Task {
+        Task::new(number, [payload, 0, 0, 0], 1)
+    }
+
+    fn begin_put(queue: &mut Fifo, number: u32, payload: u32) {
+        queue.begin_put(number, [payload, 8, 8, 8]);
     }
 
     fn steps(queue: &mut Fifo, worker: usize, count: u32) -> Outcome {
@@ -372,8 +372,33 @@ mod tests {
     }
 
     fn put(queue: &mut Fifo, number: u32, payload: u32) {
-        queue.begin_put(number, payload);
-        assert_eq!(steps(queue, 0, 6), Outcome::Finished { number, payload });
+        begin_put(queue, number, payload);
+        assert_eq!(steps(queue, 0, 6), Outcome::Finished(task(number, payload)));
+    }
+
+    #[test]
+    fn each_word_has_a_step_of_its_own() {
+        for payload_words in 1..=4u32 {
+            let mut queue = Fifo::new(Store::fresh(vec![0; 20], 2, payload_words));
+            let payload = [50, 51, 52, 53];
+            let whole = |number| Task::new(number, payload, payload_words);
+            for number in 1..=2 {
+                queue.begin_put(number, payload);
+                steps(&mut queue, 0, 3);
+                for word in 0..=payload_words as usize {
+                    let at = (number - 1) as usize * (payload_words as usize + 1) + word;
+                    assert_eq!(queue.store.words()[at], 0);
+                    steps(&mut queue, 0, 1);
+                    assert_eq!(queue.store.words()[at], whole(number).0[word]);
+                }
+                assert_eq!(steps(&mut queue, 0, 1), Outcome::Finished(whole(number)));
+            }
+            // Lines 1 to 3, the words, the last line; a thief notes besides.
+            queue.begin_steal(1);
+            assert_eq!(steps(&mut queue, 1, payload_words + 6), Outcome::HandedOut(whole(1)));
+            queue.begin_take();
+            assert_eq!(steps(&mut queue, 0, payload_words + 5), Outcome::HandedOut(whole(2)));
+        }
     }
 
     #[test]
@@ -382,9 +407,9 @@ mod tests {
         put(&mut queue, 1, 10);
         put(&mut queue, 2, 20);
         queue.begin_take();
-        assert_eq!(steps(&mut queue, 0, 6), Outcome::HandedOut { number: 1, payload: 10 });
+        assert_eq!(steps(&mut queue, 0, 6), Outcome::HandedOut(task(1, 10)));
         queue.begin_steal(2);
-        assert_eq!(steps(&mut queue, 2, 7), Outcome::HandedOut { number: 2, payload: 20 });
+        assert_eq!(steps(&mut queue, 2, 7), Outcome::HandedOut(task(2, 20)));
         queue.begin_steal(2);
         assert_eq!(steps(&mut queue, 2, 3), Outcome::Empty);
         queue.begin_take();
@@ -401,12 +426,12 @@ mod tests {
         steps(&mut queue, 0, 5);
         for number in 1..=3 {
             queue.begin_steal(1);
-            assert_eq!(steps(&mut queue, 1, 7), Outcome::HandedOut { number, payload: number });
+            assert_eq!(steps(&mut queue, 1, 7), Outcome::HandedOut(task(number, number)));
         }
         assert_eq!(queue.head, 3);
-        assert_eq!(steps(&mut queue, 0, 1), Outcome::HandedOut { number: 1, payload: 1 });
+        assert_eq!(steps(&mut queue, 0, 1), Outcome::HandedOut(task(1, 1)));
         assert_eq!(queue.head, 1);
-        assert_eq!(queue.window().collect::<Vec<_>>(), [(2, 2), (3, 3)]);
+        assert_eq!(queue.window().collect::<Vec<_>>(), [task(2, 2), task(3, 3)]);
     }
 
     #[test]
@@ -416,7 +441,7 @@ mod tests {
         queue.begin_steal(1);
         steps(&mut queue, 1, 6);
         put(&mut queue, 2, 2);
-        assert_eq!(steps(&mut queue, 1, 1), Outcome::HandedOut { number: 1, payload: 1 });
+        assert_eq!(steps(&mut queue, 1, 1), Outcome::HandedOut(task(1, 1)));
         queue.begin_steal(1);
         steps(&mut queue, 1, 6);
         queue.begin_take();
@@ -430,29 +455,29 @@ mod tests {
         let mut queue = fifo(2, 12);
         put(&mut queue, 1, 10);
         put(&mut queue, 2, 20);
-        queue.begin_put(3, 30);
+        begin_put(&mut queue, 3, 30);
         steps(&mut queue, 0, 4); // lines 1 to 3, X1
         queue.begin_steal(1);
         steps(&mut queue, 1, 7);
         // X2 finds one task left, X3 copies it, X4.
         assert_eq!(steps(&mut queue, 0, 3), Outcome::Published);
         assert_eq!(queue.store.size(), 4);
-        assert_eq!(queue.store.number(queue.store.current(), 0), 0);
-        assert_eq!(queue.store.number(queue.store.current(), 1), 2);
-        assert_eq!(steps(&mut queue, 0, 6), Outcome::Finished { number: 3, payload: 30 });
-        assert_eq!(queue.window().collect::<Vec<_>>(), [(2, 20), (3, 30)]);
+        assert_eq!(queue.store.task(0).number(), 0);
+        assert_eq!(queue.store.task(1).number(), 2);
+        assert_eq!(steps(&mut queue, 0, 6), Outcome::Finished(task(3, 30)));
+        assert_eq!(queue.window().collect::<Vec<_>>(), [task(2, 20), task(3, 30)]);
     }
 
     #[test]
     fn tasks_stolen_after_x2_are_copied_all_the_same() {
         let mut queue = fifo(1, 6);
         put(&mut queue, 1, 10);
-        queue.begin_put(2, 20);
+        begin_put(&mut queue, 2, 20);
         steps(&mut queue, 0, 5); // lines 1 to 3, X1, X2
         queue.begin_steal(1);
         steps(&mut queue, 1, 7);
         assert_eq!(steps(&mut queue, 0, 2), Outcome::Published);
-        assert_eq!(queue.store.number(queue.store.current(), 0), 1);
+        assert_eq!(queue.store.task(0).number(), 1);
         assert_eq!(queue.window().count(), 0);
     }
 
@@ -460,10 +485,10 @@ mod tests {
     fn full_and_the_log() {
         let mut queue = fifo(1, 5);
         put(&mut queue, 1, 10);
-        queue.begin_put(2, 20);
+        begin_put(&mut queue, 2, 20);
         steps(&mut queue, 0, 3);
         assert_eq!(queue.step(0, false, &mut Blind), Outcome::Refused(11));
-        let full = Outcome::Full { number: 2, payload: 20 };
+        let full = Outcome::Full(task(2, 20));
         assert_eq!(queue.step(0, true, &mut Blind), full);
         assert_eq!(queue.step(0, true, &mut Blind), Outcome::Refused(8));
         queue.begin_steal(7);

@@ -7,8 +7,8 @@
 
 use std::io::{self, ErrorKind, Read, Write};
 
-/// More than the longest line of a given form, a `queue` of 54 bytes.
-const KEPT: usize = 64;
+/// More than the longest line of a given form, a `queue` of 66 bytes.
+const KEPT: usize = 80;
 
 /// How much is read at once.
 const CHUNK: usize = 1 << 16;

@@ -8,7 +8,8 @@
 //! nothing shared between them but the store.
 //!
 //! - [`lifo`], [`fifo`], [`double_ended`]: figures 1, 2 and 3, a step a line;
-//! - [`store`]: the lent words and the directory of arrays;
+//! - [`task`]: a task's words; [`store`]: the lent words and the directory of
+//!   arrays;
 //! - [`bench`]: fresh, begin and step, the refusals and their order;
 //! - [`account`]: the log's room and the six counts of `T`;
 //! - [`text`]: what a line of the input says; [`input`]: where it ends;
@@ -39,5 +40,6 @@ pub mod play;
 pub mod random;
 pub mod script;
 pub mod store;
+pub mod task;
 pub mod text;
 pub mod witness;

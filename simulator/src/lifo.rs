@@ -3,16 +3,17 @@
 
 use crate::outcome::{refusal, Outcome, Place};
 use crate::store::{Array, Store};
+use crate::task::{Payload, Task};
 use crate::witness::Witness;
 
-/// The line the owner does next.
+/// The line the owner does next; of a line that writes or reads a task, the word
+/// that is next.
 #[derive(Clone, Copy, Debug, PartialEq, Eq)]
 enum OwnerAt {
     Idle,
     PutReadAnchor,
     PutTestFull,
-    PutWriteNumber,
-    PutWritePayload,
+    PutWrite(usize),
     PutSetAnchor,
     X1Claim,
     X2Note,
@@ -20,8 +21,7 @@ enum OwnerAt {
     X4Publish,
     TakeReadAnchor,
     TakeTestEmpty,
-    TakeReadNumber,
-    TakeReadPayload,
+    TakeRead(usize),
     TakeSetAnchor,
 }
 
@@ -29,8 +29,7 @@ enum OwnerAt {
 struct Owner {
     at: OwnerAt,
     /// The task being put, or as much as has been read of the one being taken.
-    number: u32,
-    payload: u32,
+    task: Task,
     /// The anchor as line 1 read it. It is kept to the last line, whatever the
     /// thieves do to the anchor meanwhile.
     t: u32,
@@ -40,15 +39,14 @@ struct Owner {
     stop: u32,
 }
 
-/// The line a thief does next.
+/// The line a thief does next, with the word that it reads next.
 #[derive(Clone, Copy, Debug, PartialEq, Eq)]
 enum ThiefAt {
     Idle,
     ReadAnchor,
     TestEmpty,
     NoteArray,
-    ReadNumber,
-    ReadPayload,
+    Read(usize),
     Compare,
 }
 
@@ -58,8 +56,7 @@ struct Thief {
     t: u32,
     g: u32,
     noted: Array,
-    number: u32,
-    payload: u32,
+    task: Task,
 }
 
 #[derive(Clone, Debug)]
@@ -81,8 +78,7 @@ impl Lifo {
             t: 0,
             g: 0,
             noted: Array::default(),
-            number: 0,
-            payload: 0,
+            task: Task::default(),
         };
         Lifo {
             store,
@@ -91,8 +87,7 @@ impl Lifo {
             largest_tag: (1 << width) - 1,
             owner: Owner {
                 at: OwnerAt::Idle,
-                number: 0,
-                payload: 0,
+                task: Task::default(),
                 t: 0,
                 g: 0,
                 next: 0,
@@ -106,9 +101,8 @@ impl Lifo {
         self.place(worker) != Place::Idle
     }
 
-    pub fn begin_put(&mut self, number: u32, payload: u32) {
-        self.owner.number = number;
-        self.owner.payload = payload;
+    pub fn begin_put(&mut self, number: u32, payload: Payload) {
+        self.owner.task = Task::new(number, payload, self.store.payload_words());
         self.owner.at = OwnerAt::PutReadAnchor;
     }
 
@@ -144,16 +138,16 @@ impl Lifo {
                 owner.at = if owner.t == self.store.size() {
                     OwnerAt::X1Claim
                 } else {
-                    OwnerAt::PutWriteNumber
+                    OwnerAt::PutWrite(0)
                 };
             }
-            OwnerAt::PutWriteNumber => {
-                self.store.set_number(owner.t, owner.number);
-                owner.at = OwnerAt::PutWritePayload;
-            }
-            OwnerAt::PutWritePayload => {
-                self.store.set_payload(owner.t, owner.payload);
-                owner.at = OwnerAt::PutSetAnchor;
+            OwnerAt::PutWrite(word) => {
+                self.store.set_word(owner.t, word, owner.task.0[word]);
+                owner.at = if self.store.more_words(word) {
+                    OwnerAt::PutWrite(word + 1)
+                } else {
+                    OwnerAt::PutSetAnchor
+                };
             }
             OwnerAt::PutSetAnchor => {
                 if !room {
@@ -162,7 +156,7 @@ impl Lifo {
                 self.t = owner.t + 1;
                 self.g = if owner.g == self.largest_tag { 0 } else { owner.g + 1 };
                 owner.at = OwnerAt::Idle;
-                return Outcome::Finished { number: owner.number, payload: owner.payload };
+                return Outcome::Finished(owner.task);
             }
 
             OwnerAt::X1Claim => match self.store.next_array() {
@@ -175,7 +169,7 @@ impl Lifo {
                         return Outcome::Refused(refusal::LOG_FULL);
                     }
                     owner.at = OwnerAt::Idle;
-                    return Outcome::Full { number: owner.number, payload: owner.payload };
+                    return Outcome::Full(owner.task);
                 }
             },
             OwnerAt::X2Note => {
@@ -212,15 +206,15 @@ impl Lifo {
                     owner.at = OwnerAt::Idle;
                     return Outcome::Empty;
                 }
-                owner.at = OwnerAt::TakeReadNumber;
+                owner.at = OwnerAt::TakeRead(0);
             }
-            OwnerAt::TakeReadNumber => {
-                owner.number = self.store.number(self.store.current(), owner.t - 1);
-                owner.at = OwnerAt::TakeReadPayload;
-            }
-            OwnerAt::TakeReadPayload => {
-                owner.payload = self.store.payload(self.store.current(), owner.t - 1);
-                owner.at = OwnerAt::TakeSetAnchor;
+            OwnerAt::TakeRead(word) => {
+                owner.task.0[word] = self.store.word(self.store.current(), owner.t - 1, word);
+                owner.at = if self.store.more_words(word) {
+                    OwnerAt::TakeRead(word + 1)
+                } else {
+                    OwnerAt::TakeSetAnchor
+                };
             }
             OwnerAt::TakeSetAnchor => {
                 if !room {
@@ -229,7 +223,7 @@ impl Lifo {
                 self.t = owner.t - 1;
                 self.g = owner.g;
                 owner.at = OwnerAt::Idle;
-                return Outcome::HandedOut { number: owner.number, payload: owner.payload };
+                return Outcome::HandedOut(owner.task);
             }
         }
         Outcome::GoesOn
@@ -257,15 +251,15 @@ impl Lifo {
             }
             ThiefAt::NoteArray => {
                 thief.noted = self.store.current();
-                thief.at = ThiefAt::ReadNumber;
+                thief.at = ThiefAt::Read(0);
             }
-            ThiefAt::ReadNumber => {
-                thief.number = self.store.number(thief.noted, thief.t - 1);
-                thief.at = ThiefAt::ReadPayload;
-            }
-            ThiefAt::ReadPayload => {
-                thief.payload = self.store.payload(thief.noted, thief.t - 1);
-                thief.at = ThiefAt::Compare;
+            ThiefAt::Read(word) => {
+                thief.task.0[word] = self.store.word(thief.noted, thief.t - 1, word);
+                thief.at = if self.store.more_words(word) {
+                    ThiefAt::Read(word + 1)
+                } else {
+                    ThiefAt::Compare
+                };
             }
             ThiefAt::Compare => {
                 if (self.t, self.g) != (thief.t, thief.g) {
@@ -279,16 +273,15 @@ impl Lifo {
                 witness.compare(worker);
                 self.t = thief.t - 1;
                 thief.at = ThiefAt::Idle;
-                return Outcome::HandedOut { number: thief.number, payload: thief.payload };
+                return Outcome::HandedOut(thief.task);
             }
         }
         Outcome::GoesOn
     }
 
     /// The tasks in slots 0 to t−1 of the current array.
-    pub fn window(&self) -> impl Iterator<Item = (u32, u32)> + '_ {
-        let array = self.store.current();
-        (0..self.t).map(move |i| (self.store.number(array, i), self.store.payload(array, i)))
+    pub fn window(&self) -> impl Iterator<Item = Task> + '_ {
+        (0..self.t).map(|index| self.store.task(index))
     }
 
     /// What is shared, with 0 for the head, which this queue has not.
@@ -322,7 +315,7 @@ impl Lifo {
         }
         match self.thieves[worker].at {
             ThiefAt::Idle => Place::Idle,
-            ThiefAt::ReadNumber => Place::Noted,
+            ThiefAt::Read(0) => Place::Noted,
             ThiefAt::Compare => Place::Last,
             _ => Place::Underway,
         }
@@ -335,7 +328,15 @@ mod tests {
     use crate::witness::Blind;
 
     fn lifo(width: u32, size: u32, words: usize) -> Lifo {
-        Lifo::new(width, Store::fresh(vec![0; words], size))
+        Lifo::new(width, Store::fresh(vec![0; words], size, 1))
+    }
+
+    fn task(number: u32, payload: u32) -> Task {
+        Task::new(number, [payload, 0, 0, 0], 1)
+    }
+
+    fn begin_put(queue: &mut Lifo, number: u32, payload: u32) {
+        queue.begin_put(number, [payload, 8, 8, 8]);
     }
 
     fn steps(queue: &mut Lifo, worker: usize, count: u32) -> Outcome {
@@ -350,24 +351,67 @@ mod tests {
     }
 
     fn put(queue: &mut Lifo, number: u32, payload: u32) {
-        queue.begin_put(number, payload);
-        assert_eq!(steps(queue, 0, 5), Outcome::Finished { number, payload });
+        begin_put(queue, number, payload);
+        assert_eq!(steps(queue, 0, 5), Outcome::Finished(task(number, payload)));
     }
 
     #[test]
     fn a_put_is_five_lines() {
         let mut queue = lifo(2, 2, 4);
-        queue.begin_put(1, 50);
+        begin_put(&mut queue, 1, 50);
         steps(&mut queue, 0, 2);
-        assert_eq!(queue.store.number(queue.store.current(), 0), 0);
+        assert_eq!(queue.store.task(0), task(0, 0));
         steps(&mut queue, 0, 1);
-        assert_eq!(queue.store.number(queue.store.current(), 0), 1);
-        assert_eq!(queue.store.payload(queue.store.current(), 0), 0);
+        assert_eq!(queue.store.task(0), task(1, 0));
         steps(&mut queue, 0, 1);
-        assert_eq!(queue.store.payload(queue.store.current(), 0), 50);
+        assert_eq!(queue.store.task(0), task(1, 50));
         assert_eq!((queue.t, queue.g), (0, 0));
-        assert_eq!(steps(&mut queue, 0, 1), Outcome::Finished { number: 1, payload: 50 });
+        assert_eq!(steps(&mut queue, 0, 1), Outcome::Finished(task(1, 50)));
         assert_eq!((queue.t, queue.g), (1, 1));
+    }
+
+    #[test]
+    fn each_word_has_a_step_of_its_own() {
+        for payload_words in 1..=4u32 {
+            let store = Store::fresh(vec![0; 20], 2, payload_words);
+            let mut queue = Lifo::new(2, store);
+            let payload = [50, 51, 52, 53];
+            let whole = Task::new(1, payload, payload_words);
+            queue.begin_put(1, payload);
+            steps(&mut queue, 0, 2);
+            for word in 0..=payload_words as usize {
+                assert_eq!(queue.store.words()[word], 0);
+                steps(&mut queue, 0, 1);
+                assert_eq!(queue.store.words()[..=word], whole.0[..=word]);
+            }
+            assert_eq!(steps(&mut queue, 0, 1), Outcome::Finished(whole));
+            // Line 1, the test, the words, the last line; a thief notes besides.
+            queue.begin_steal(1);
+            assert_eq!(steps(&mut queue, 1, payload_words + 5), Outcome::HandedOut(whole));
+            queue.begin_put(2, payload);
+            steps(&mut queue, 0, payload_words + 4);
+            queue.begin_take();
+            let second = Task::new(2, payload, payload_words);
+            assert_eq!(steps(&mut queue, 0, payload_words + 4), Outcome::HandedOut(second));
+        }
+    }
+
+    #[test]
+    fn a_thief_reads_words_of_two_puts() {
+        let mut queue = Lifo::new(1, Store::fresh(vec![0; 3], 1, 2));
+        queue.begin_put(1, [10, 11, 0, 0]);
+        steps(&mut queue, 0, 6);
+        queue.begin_steal(1);
+        steps(&mut queue, 1, 5); // up to the number and the first payload word
+        for number in 2..=3 {
+            queue.begin_take();
+            steps(&mut queue, 0, 6);
+            queue.begin_put(number, [10 * number, 10 * number + 1, 0, 0]);
+            steps(&mut queue, 0, 6);
+        }
+        steps(&mut queue, 1, 1);
+        // The tag has come round: the number and a word of put 1, a word of put 3.
+        assert_eq!(steps(&mut queue, 1, 1), Outcome::HandedOut(Task([1, 10, 31, 0, 0])));
     }
 
     #[test]
@@ -376,7 +420,7 @@ mod tests {
         put(&mut queue, 1, 0);
         assert_eq!(queue.g, 1);
         queue.begin_take();
-        assert_eq!(steps(&mut queue, 0, 5), Outcome::HandedOut { number: 1, payload: 0 });
+        assert_eq!(steps(&mut queue, 0, 5), Outcome::HandedOut(task(1, 0)));
         assert_eq!((queue.t, queue.g), (0, 1));
         put(&mut queue, 2, 0);
         assert_eq!((queue.t, queue.g), (1, 0));
@@ -392,10 +436,10 @@ mod tests {
         for expected in [2, 1] {
             queue.begin_steal(1);
             let answer = steps(&mut queue, 1, 6);
-            assert_eq!(answer, Outcome::HandedOut { number: expected, payload: 10 * expected });
+            assert_eq!(answer, Outcome::HandedOut(task(expected, 10 * expected)));
         }
         assert_eq!(queue.t, 0);
-        assert_eq!(steps(&mut queue, 0, 1), Outcome::HandedOut { number: 2, payload: 20 });
+        assert_eq!(steps(&mut queue, 0, 1), Outcome::HandedOut(task(2, 20)));
         assert_eq!(queue.t, 1, "t-1 of the pair read, not of the anchor");
     }
 
@@ -406,12 +450,12 @@ mod tests {
         queue.begin_steal(1);
         steps(&mut queue, 1, 3);
         assert_eq!(queue.place(1), Place::Noted);
-        queue.begin_put(2, 20);
+        begin_put(&mut queue, 2, 20);
         assert_eq!(steps(&mut queue, 0, 6), Outcome::Published);
         // The old array is still there to be read, and the anchor did not move.
-        assert_eq!(steps(&mut queue, 1, 3), Outcome::HandedOut { number: 1, payload: 10 });
-        assert_eq!(steps(&mut queue, 0, 5), Outcome::Finished { number: 2, payload: 20 });
-        assert_eq!(queue.window().collect::<Vec<_>>(), [(2, 20)]);
+        assert_eq!(steps(&mut queue, 1, 3), Outcome::HandedOut(task(1, 10)));
+        assert_eq!(steps(&mut queue, 0, 5), Outcome::Finished(task(2, 20)));
+        assert_eq!(queue.window().collect::<Vec<_>>(), [task(2, 20)]);
     }
 
     #[test]
@@ -419,23 +463,23 @@ mod tests {
         let mut queue = lifo(4, 2, 12);
         put(&mut queue, 1, 10);
         put(&mut queue, 2, 20);
-        queue.begin_put(3, 30);
+        begin_put(&mut queue, 3, 30);
         steps(&mut queue, 0, 2);
         queue.begin_steal(1);
         steps(&mut queue, 1, 6);
         // X1, X2, two copies though only one task is left, X4.
         assert_eq!(steps(&mut queue, 0, 5), Outcome::Published);
-        assert_eq!(queue.store.number(queue.store.current(), 1), 2);
+        assert_eq!(queue.store.task(1), task(2, 20));
     }
 
     #[test]
     fn a_full_log_stops_only_lines_that_would_end() {
         let mut queue = lifo(1, 1, 2);
-        queue.begin_put(1, 10);
+        begin_put(&mut queue, 1, 10);
         steps(&mut queue, 0, 4);
         assert_eq!(queue.step(0, false, &mut Blind), Outcome::Refused(11));
         assert_eq!((queue.t, queue.g), (0, 0));
-        let finished = Outcome::Finished { number: 1, payload: 10 };
+        let finished = Outcome::Finished(task(1, 10));
         assert_eq!(queue.step(0, true, &mut Blind), finished);
         queue.begin_steal(1);
         steps(&mut queue, 1, 5);

@@ -1,5 +1,7 @@
 //! A line of output.
 
+use crate::task::MOST_PAYLOAD;
+
 /// Puts a line behind `listing`: a letter and its values in base ten, each with
 /// one space before it.
 pub fn print(listing: &mut Vec<u8>, letter: u8, values: &[u32]) {
@@ -22,6 +24,14 @@ pub fn print(listing: &mut Vec<u8>, letter: u8, values: &[u32]) {
     listing.push(b'\n');
 }
 
+/// The line `H`: the worker and the words of the task it was handed.
+pub fn print_hand_out(listing: &mut Vec<u8>, worker: u32, task: &[u32]) {
+    let mut values = [0; MOST_PAYLOAD + 2];
+    values[0] = worker;
+    values[1..=task.len()].copy_from_slice(task);
+    print(listing, b'H', &values[..=task.len()]);
+}
+
 #[cfg(test)]
 mod tests {
     use super::*;
@@ -32,5 +42,13 @@ mod tests {
         print(&mut listing, b'L', &[]);
         print(&mut listing, b'H', &[0, 10, u32::MAX]);
         assert_eq!(listing, b"D 1\nL\nH 0 10 4294967295\n");
+    }
+
+    #[test]
+    fn a_hand_out_shows_all_words() {
+        let mut listing = Vec::new();
+        print_hand_out(&mut listing, 7, &[1, 65]);
+        print_hand_out(&mut listing, 0, &[1, 2, 3, 4, 5]);
+        assert_eq!(listing, b"H 7 1 65\nH 0 1 2 3 4 5\n");
     }
 }

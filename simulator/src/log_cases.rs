@@ -3,25 +3,37 @@
 
 use std::collections::HashSet;
 
-use crate::log_judge::{EMPTY, ENTRY, FINISHED, FULL, HANDED_OUT, LONGEST, NUMBER};
+use crate::bench::Shape;
+use crate::log_judge::{entry_bytes, EMPTY, FINISHED, FULL, HANDED_OUT, LONGEST, NUMBER};
 use crate::play::Player;
 use crate::random::Random;
+use crate::task::Task;
 use crate::witness::Witness;
 
-/// A log and the list that comes with it.
+/// An entry's words.
+type Entry = Vec<u32>;
+
+fn entry(kind: u32, worker: u32, number: u32, payload: &[u32]) -> Entry {
+    [&[kind, worker, number], payload].concat()
+}
+
+/// A log with so many payload words in an entry, and the list that comes with it.
 #[derive(Clone, Default)]
 pub struct Case {
+    pub words: u32,
     pub log: Vec<u8>,
     pub list: Vec<u8>,
 }
 
 impl Case {
-    fn of(entries: &[[u32; 4]], list: &[u32]) -> Case {
-        Case { log: bytes(&entries.concat()), list: bytes(list) }
+    fn of(words: u32, entries: &[Entry], list: &[u32]) -> Case {
+        Case { words, log: bytes(&entries.concat()), list: bytes(list) }
     }
 
-    /// Both lengths, four bytes each, lowest first, and the bytes of both.
+    /// The payload words and both lengths, four bytes each, lowest first, and
+    /// the bytes of both.
     pub fn write(&self, out: &mut Vec<u8>) {
+        out.extend_from_slice(&self.words.to_le_bytes());
         out.extend_from_slice(&(self.log.len() as u32).to_le_bytes());
         out.extend_from_slice(&(self.list.len() as u32).to_le_bytes());
         out.extend_from_slice(&self.log);
@@ -30,9 +42,10 @@ impl Case {
 
     /// Takes the case that `from` begins with; none if it is cut short.
     pub fn read(from: &mut &[u8]) -> Option<Case> {
+        let words = length(from)? as u32;
         let log = length(from)?;
         let list = length(from)?;
-        Some(Case { log: take(from, log)?.to_vec(), list: take(from, list)?.to_vec() })
+        Some(Case { words, log: take(from, log)?.to_vec(), list: take(from, list)?.to_vec() })
     }
 }
 
@@ -55,18 +68,19 @@ fn bytes(words: &[u32]) -> Vec<u8> {
 
 /// A case of any sort.
 pub fn random(random: &mut Random) -> Case {
+    let words = *random.pick(&[1, 1, 2, 3, 4]);
     match random.below(200) {
-        0 => return largest(random),
+        0 => return largest(random, words),
         1 => {
-            let whole = largest(random);
+            let whole = largest(random, words);
             return damaged(random, whole);
         }
         2 => {
-            let whole = largest(random);
+            let whole = largest(random, words);
             return lengthened(random, whole);
         }
-        3..=5 => return Case::default(),
-        6..=15 => return noise(random),
+        3..=5 => return Case { words, ..Case::default() },
+        6..=15 => return noise(random, words),
         _ => {}
     }
     let entries = match random.below(10) {
@@ -74,7 +88,7 @@ pub fn random(random: &mut Random) -> Case {
         4..=8 => random.between(4, 80),
         _ => random.between(80, 600),
     };
-    let whole = valid(random, entries as usize, None);
+    let whole = valid(random, words, entries as usize, None);
     if random.chance(40) {
         whole
     } else {
@@ -83,14 +97,14 @@ pub fn random(random: &mut Random) -> Case {
 }
 
 /// An accepted case with a log and a list as long as they may be.
-pub fn largest(random: &mut Random) -> Case {
-    valid(random, LONGEST / ENTRY, Some(LONGEST / NUMBER))
+pub fn largest(random: &mut Random, words: u32) -> Case {
+    valid(random, words, LONGEST / entry_bytes(words), Some(LONGEST / NUMBER))
 }
 
 /// A history that has to be accepted. With a count, the list is that long.
-fn valid(random: &mut Random, count: usize, listed: Option<usize>) -> Case {
+fn valid(random: &mut Random, words: u32, count: usize, listed: Option<usize>) -> Case {
     let mut entries = Vec::new();
-    let mut puts: Vec<(u32, u32)> = Vec::new();
+    let mut puts: Vec<(u32, Vec<u32>)> = Vec::new();
     let mut handed_out = HashSet::new();
     // Small steps mostly; a large one uses up the numbers sooner than the log.
     let widest = *random.pick(&[1, 1, 3, 300, 900_000]);
@@ -104,11 +118,12 @@ fn valid(random: &mut Random, count: usize, listed: Option<usize>) -> Case {
         let worker = if random.chance(2) { random.word() } else { random.below(8) };
         let draw = random.below(100);
         if draw < putting && !spent {
-            let payload = if random.chance(50) { random.below(3) } else { random.word() };
+            let payload: Vec<u32> =
+                (0..words).map(|_| if random.chance(50) { random.below(3) } else { random.word() }).collect();
             if random.chance(12) {
-                entries.push([FULL, worker, next, payload]);
+                entries.push(entry(FULL, worker, next, &payload));
             } else {
-                entries.push([FINISHED, worker, next, payload]);
+                entries.push(entry(FINISHED, worker, next, &payload));
                 puts.push((next, payload));
             }
             match next.checked_add(random.between(1, widest)) {
@@ -119,13 +134,14 @@ fn valid(random: &mut Random, count: usize, listed: Option<usize>) -> Case {
             // Late ones mostly, so that some are never handed out.
             let back = if random.chance(70) { 4 } else { puts.len() as u32 };
             let place = puts.len() - 1 - random.below(back.min(puts.len() as u32)) as usize;
-            let (number, payload) = puts[place];
-            entries.push([HANDED_OUT, worker, number, payload]);
-            handed_out.insert(number);
+            let (number, payload) = &puts[place];
+            entries.push(entry(HANDED_OUT, worker, *number, payload));
+            handed_out.insert(*number);
         } else {
             // Its number and payload are not judged.
-            let (number, payload) = if random.chance(80) { (0, 0) } else { (next, random.word()) };
-            entries.push([EMPTY, worker, number, payload]);
+            let odd = random.chance(20);
+            let payload: Vec<u32> = (0..words).map(|_| if odd { random.word() } else { 0 }).collect();
+            entries.push(entry(EMPTY, worker, if odd { next } else { 0 }, &payload));
         }
     }
     let mut list: Vec<u32> =
@@ -144,7 +160,7 @@ fn valid(random: &mut Random, count: usize, listed: Option<usize>) -> Case {
         list.push(number);
     }
     shuffle(random, &mut list);
-    Case::of(&entries, &list)
+    Case::of(words, &entries, &list)
 }
 
 fn shuffle(random: &mut Random, list: &mut [u32]) {
@@ -156,11 +172,12 @@ fn shuffle(random: &mut Random, list: &mut [u32]) {
 
 /// The case with one thing done to it. It may be accepted all the same.
 fn damaged(random: &mut Random, mut case: Case) -> Case {
-    let entries = case.log.len() / ENTRY;
-    match random.below(12) {
+    let each = entry_bytes(case.words);
+    let entries = case.log.len() / each;
+    match random.below(13) {
         0 | 1 if entries > 0 => {
             // One word: near what it was, a small one, or any.
-            let at = 4 * random.below(4 * entries as u32) as usize;
+            let at = 4 * random.below((case.log.len() / 4) as u32) as usize;
             let word = &mut case.log[at..at + 4];
             let old = u32::from_le_bytes([word[0], word[1], word[2], word[3]]);
             let new = match random.below(4) {
@@ -190,8 +207,8 @@ fn damaged(random: &mut Random, mut case: Case) -> Case {
         6 if entries > 1 => {
             let one = random.below(entries as u32) as usize;
             let other = if random.chance(50) { (one + 1) % entries } else { random.below(entries as u32) as usize };
-            for byte in 0..ENTRY {
-                case.log.swap(ENTRY * one + byte, ENTRY * other + byte);
+            for byte in 0..each {
+                case.log.swap(each * one + byte, each * other + byte);
             }
         }
         7 if !case.list.is_empty() => {
@@ -199,22 +216,23 @@ fn damaged(random: &mut Random, mut case: Case) -> Case {
             case.list.drain(at..at + NUMBER);
         }
         8 if entries > 0 => {
-            let at = ENTRY * random.below(entries as u32) as usize;
-            case.log.drain(at..at + ENTRY);
+            let at = each * random.below(entries as u32) as usize;
+            case.log.drain(at..at + each);
         }
         9 if entries > 0 => {
             // An entry again, somewhere later: a put's number no longer rises.
             let from = random.below(entries as u32) as usize;
-            let to = ENTRY * random.between(from as u32 + 1, entries as u32) as usize;
-            let entry = case.log[ENTRY * from..ENTRY * (from + 1)].to_vec();
+            let to = each * random.between(from as u32 + 1, entries as u32) as usize;
+            let entry = case.log[each * from..each * (from + 1)].to_vec();
             case.log.splice(to..to, entry);
         }
         10 if entries > 0 => {
             // Another kind: a put handed out becomes a FULL handed out, a FULL
             // a put that nobody listed, a put a hand-out before any put.
-            let at = ENTRY * random.below(entries as u32) as usize;
+            let at = each * random.below(entries as u32) as usize;
             case.log[at] = random.between(0, 5) as u8;
         }
+        11 => case.words = *random.pick(&[0, 1, 2, 3, 4, 5, 16, u32::MAX]),
         _ => case = lengthened(random, case),
     }
     case
@@ -225,7 +243,7 @@ fn lengthened(random: &mut Random, mut case: Case) -> Case {
     let both = random.chance(20);
     let first = random.chance(50);
     if both || first {
-        let more = *random.pick(&[1, 4, 8, 15, 16, 17]);
+        let more = *random.pick(&[1, 4, 8, 15, 16, 17, 20, 24, 28]);
         case.log.extend((0..more).map(|_| random.word() as u8));
     }
     if both || !first {
@@ -236,48 +254,61 @@ fn lengthened(random: &mut Random, mut case: Case) -> Case {
 }
 
 /// Random bytes, or entries of small random words.
-fn noise(random: &mut Random) -> Case {
+fn noise(random: &mut Random, words: u32) -> Case {
     if random.chance(30) {
         let lengths = (random.below(200), random.below(60));
         let log = (0..lengths.0).map(|_| random.word() as u8).collect();
-        return Case { log, list: (0..lengths.1).map(|_| random.word() as u8).collect() };
+        return Case { words, log, list: (0..lengths.1).map(|_| random.word() as u8).collect() };
     }
-    let entries: Vec<[u32; 4]> = (0..random.between(1, 4))
-        .map(|_| [random.between(1, 4), random.below(8), random.below(4), random.below(2)])
+    let entries: Vec<Entry> = (0..random.between(1, 4))
+        .map(|_| {
+            let front = [random.between(1, 4), random.below(8), random.below(4)];
+            let payload: Vec<u32> = (0..words).map(|_| random.below(2)).collect();
+            [&front[..], &payload].concat()
+        })
         .collect();
     let list: Vec<u32> = (0..random.below(4)).map(|_| random.below(4)).collect();
-    Case::of(&entries, &list)
+    Case::of(words, &entries, &list)
 }
 
 /// Writes down the log of a run.
 #[derive(Default)]
 struct Scribe {
-    payloads: Vec<u32>,
-    entries: Vec<[u32; 4]>,
+    payload_words: u32,
+    /// What was put; numbers are given from 1 on, in turn.
+    tasks: Vec<Task>,
+    entries: Vec<Entry>,
 }
 
 impl Scribe {
-    /// What was put under a number; numbers are given from 1 on, in turn.
-    fn payload(&self, number: u32) -> u32 {
-        self.payloads[number as usize - 1]
+    fn enter(&mut self, kind: u32, worker: usize, task: Task) {
+        let task = task.words(self.payload_words);
+        self.entries.push(entry(kind, worker as u32, task[0], &task[1..]));
+    }
+
+    fn put(&self, number: u32) -> Task {
+        self.tasks[number as usize - 1]
     }
 }
 
 impl Witness for Scribe {
-    fn put_begun(&mut self, _number: u32, payload: u32) {
-        self.payloads.push(payload);
+    fn fresh(&mut self, shape: Shape) {
+        self.payload_words = shape.payload_words;
+    }
+    fn put_begun(&mut self, task: Task) {
+        self.tasks.push(task);
     }
     fn finished(&mut self, number: u32) {
-        self.entries.push([FINISHED, 0, number, self.payload(number)]);
+        self.enter(FINISHED, 0, self.put(number));
     }
-    fn handed_out(&mut self, worker: usize, number: u32, payload: u32) {
-        self.entries.push([HANDED_OUT, worker as u32, number, payload]);
+    fn handed_out(&mut self, worker: usize, task: Task) {
+        self.enter(HANDED_OUT, worker, task);
     }
     fn empty(&mut self, worker: usize) {
-        self.entries.push([EMPTY, worker as u32, 0, 0]);
+        self.enter(EMPTY, worker, Task::default());
     }
     fn full(&mut self, number: u32) {
-        self.entries.push([FULL, 0, number, self.payload(number)]);
+        self.enter(FULL, 0, self.put(number));
     }
 }
 
@@ -292,43 +323,48 @@ pub fn of_run(text: &[u8]) -> Case {
             break;
         }
     }
-    Case::of(&player.witness().entries, &player.standing())
+    let Scribe { payload_words, entries, .. } = player.witness();
+    // A run without a queue has an empty log of any width.
+    Case::of((*payload_words).max(1), entries, &player.standing())
 }
 
 #[cfg(test)]
 mod tests {
     use super::*;
-    use crate::log_judge::{judge_log, ACCEPTED};
+use crate::log_judge::{judge_log, ACCEPTED};
 
     #[test]
     fn valid_histories_are_accepted() {
         for seed in 0..300 {
             let mut random = Random::new(seed);
             let count = random.below(100) as usize;
-            let case = valid(&mut random, count, None);
-            assert_eq!(case.log.len(), ENTRY * count);
-            assert!(judge_log(&case.log, &case.list) >= ACCEPTED, "seed {seed}");
+            let words = 1 + seed as u32 % 4;
+            let case = valid(&mut random, words, count, None);
+            assert_eq!(case.log.len(), entry_bytes(words) * count);
+            assert!(judge_log(case.words, &case.log, &case.list) >= ACCEPTED, "seed {seed}");
         }
     }
 
     #[test]
     fn the_largest_are_accepted_and_as_long_as_they_may_be() {
         for seed in 0..5 {
-            let case = largest(&mut Random::new(seed));
-            assert_eq!((case.log.len(), case.list.len()), (LONGEST, LONGEST));
-            assert!(judge_log(&case.log, &case.list) >= ACCEPTED, "seed {seed}");
+            let words = 1 + seed as u32 % 4;
+            let case = largest(&mut Random::new(seed), words);
+            assert!(case.log.len() <= LONGEST && case.log.len() + entry_bytes(words) > LONGEST);
+            assert_eq!(case.list.len(), LONGEST);
+            assert!(judge_log(case.words, &case.log, &case.list) >= ACCEPTED, "seed {seed}");
         }
     }
 
     #[test]
     fn a_case_is_read_as_it_was_written() {
-        let case = Case { log: vec![1, 2, 3], list: vec![4] };
+        let case = Case { words: 3, log: vec![1, 2, 3], list: vec![4] };
         let mut out = Vec::new();
         case.write(&mut out);
         Case::default().write(&mut out);
         let mut from = &out[..];
         let back = Case::read(&mut from).unwrap();
-        assert_eq!((back.log, back.list), (case.log, case.list));
+        assert_eq!((back.words, back.log, back.list), (case.words, case.log, case.list));
         assert!(Case::read(&mut from).unwrap().log.is_empty());
         assert!(Case::read(&mut from).is_none());
         assert!(Case::read(&mut &out[..10]).is_none());
@@ -342,10 +378,21 @@ mod tests {
         let entries = [[1, 0, 1, 5], [2, 1, 1, 5], [2, 0, 1, 5], [1, 0, 2, 6]];
         assert_eq!(case.log, bytes(&entries.concat()));
         assert_eq!(case.list, bytes(&[2]));
-        assert_eq!(judge_log(&case.log, &case.list), ACCEPTED + 2 * 65_536 + 1);
+        assert_eq!(judge_log(case.words, &case.log, &case.list), ACCEPTED + 2 * 65_536 + 1);
         // A tag of one bit comes round, and put 3 is lost.
         let run = b"queue 1 1 2 2 12\nput 65\nstep 0 5\nsteal 1\nstep 1 5\ntake\nstep 0 5\nput 66\nstep 0 5\ntake\nstep 0 5\nput 67\nstep 0 5\nstep 1 1\n";
         let case = of_run(run);
-        assert_eq!(judge_log(&case.log, &case.list), 0);
+        assert_eq!(judge_log(case.words, &case.log, &case.list), 0);
+    }
+
+    #[test]
+    fn the_log_of_a_wider_run() {
+        let run = b"queue 1 1 1 2 4 3\nput 5 6 7\nstep 0 7\nput 8 9 10\nstep 0 3\nsteal 1\nstep 1 8\ntake\nstep 0 2\nend\n";
+        let case = of_run(run);
+        assert_eq!(case.words, 3);
+        let entries = [[1, 0, 1, 5, 6, 7], [4, 0, 2, 8, 9, 10], [2, 1, 1, 5, 6, 7], [3, 0, 0, 0, 0, 0]];
+        assert_eq!(case.log, bytes(&entries.concat()));
+        assert!(case.list.is_empty());
+        assert_eq!(judge_log(case.words, &case.log, &case.list), ACCEPTED + 65_536);
     }
 }

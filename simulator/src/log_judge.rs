@@ -1,11 +1,12 @@
 //! A matcher's own log, judged from its bytes.
 //!
-//! The log is a row of entries of four words: kind, worker, put number and
-//! payload, each word four bytes, lowest first. Beside it comes a list of the
-//! put numbers that the matcher says are still stored. The log is accepted
-//! exactly when its kinds are 1 to 4, the numbers of kinds 1 and 4 together
-//! strictly rise, each hand-out repeats the number and the payload of a put
-//! finished earlier in the log, and each finished put is handed out or listed.
+//! The log is a row of entries: kind, worker, put number and 1 to 4 payload
+//! words, as many as are said, each word four bytes, lowest first. Beside it
+//! comes a list of the put numbers that the matcher says are still stored. The
+//! log is accepted exactly when its kinds are 1 to 4, the numbers of kinds 1 and
+//! 4 together strictly rise, each hand-out repeats the number and the whole
+//! payload of a put finished earlier in the log, and each finished put is handed
+//! out or listed.
 
 use std::collections::{HashMap, HashSet};
 
@@ -13,6 +14,8 @@ use std::collections::{HashMap, HashSet};
 pub const RAGGED: u64 = 14;
 /// The log or the list is too long.
 pub const TOO_LONG: u64 = 15;
+/// The payload words of an entry are not 1 to 4.
+pub const PAYLOAD_WORDS: u64 = 16;
 /// The log is not accepted.
 pub const NO: u64 = 0;
 /// What an accepting answer is counted from.
@@ -20,9 +23,13 @@ pub const ACCEPTED: u64 = 1 << 32;
 
 /// The longest log and the longest list, in bytes.
 pub const LONGEST: usize = 65_536;
-/// The bytes of an entry and of a listed number.
-pub const ENTRY: usize = 16;
+/// The bytes of a listed number.
 pub const NUMBER: usize = 4;
+
+/// The bytes of an entry with so many payload words.
+pub const fn entry_bytes(words: u32) -> usize {
+    4 * (3 + words as usize)
+}
 
 pub const FINISHED: u32 = 1;
 pub const HANDED_OUT: u32 = 2;
@@ -30,28 +37,31 @@ pub const EMPTY: u32 = 3;
 pub const FULL: u32 = 4;
 
 /// The refusal, 0 for no, or 2^32 + 65,536 × hand-outs + repeats.
-pub fn judge_log(log: &[u8], list: &[u8]) -> u64 {
+pub fn judge_log(payload_words: u32, log: &[u8], list: &[u8]) -> u64 {
+    if !(1..=4).contains(&payload_words) {
+        return PAYLOAD_WORDS;
+    }
     if log.len() > LONGEST || list.len() > LONGEST {
         return TOO_LONG;
     }
-    if log.len() % ENTRY != 0 || list.len() % NUMBER != 0 {
+    if log.len() % entry_bytes(payload_words) != 0 || list.len() % NUMBER != 0 {
         return RAGGED;
     }
-    match judge_entries(&words(log), &words(list)) {
+    match judge_entries(3 + payload_words as usize, &words(log), &words(list)) {
         None => NO,
         Some((hand_outs, repeats)) => ACCEPTED + 65_536 * hand_outs + repeats,
     }
 }
 
 /// The hand-outs and the repeats of an accepted log; none if it is not.
-fn judge_entries(log: &[u32], list: &[u32]) -> Option<(u64, u64)> {
+fn judge_entries(entry_words: usize, log: &[u32], list: &[u32]) -> Option<(u64, u64)> {
     // None before the first entry that has to rise: 0 may be the first number.
     let mut last_number = None;
     let mut payloads = HashMap::new();
     let mut handed_out = HashSet::new();
     let mut hand_outs = 0;
-    for entry in log.chunks_exact(4) {
-        let (kind, number, payload) = (entry[0], entry[2], entry[3]);
+    for entry in log.chunks_exact(entry_words) {
+        let (kind, number, payload) = (entry[0], entry[2], &entry[3..]);
         match kind {
             FINISHED | FULL => {
                 if last_number.is_some_and(|last| number <= last) {
@@ -95,7 +105,7 @@ mod tests {
     }
 
     fn judged(entries: &[[u32; 4]], list: &[u32]) -> u64 {
-        judge_log(&bytes(&entries.concat()), &bytes(list))
+        judge_log(1, &bytes(&entries.concat()), &bytes(list))
     }
 
     fn accepted(hand_outs: u64, repeats: u64) -> u64 {
@@ -158,18 +168,43 @@ mod tests {
     #[test]
     fn refusals_and_their_order() {
         for length in [1, 4, 15, 17] {
-            assert_eq!(judge_log(&vec![3; length], &[]), 14);
+            assert_eq!(judge_log(1, &vec![3; length], &[]), 14);
         }
         for length in [1, 3, 5] {
-            assert_eq!(judge_log(&[], &vec![0; length]), 14);
+            assert_eq!(judge_log(1, &[], &vec![0; length]), 14);
         }
-        assert_eq!(judge_log(&[0; 16], &[0]), 14, "before no");
-        assert_eq!(judge_log(&[0; 65_537], &[]), 15);
-        assert_eq!(judge_log(&[], &[0; 65_537]), 15);
-        assert_eq!(judge_log(&[0; 65_552], &[]), 15);
-        assert_eq!(judge_log(&[], &[0; 65_540]), 15);
-        assert_eq!(judge_log(&[0; 15], &[0; 65_540]), 15, "15 before 14");
-        assert_eq!(judge_log(&[0; 65_552], &[0; 3]), 15, "15 before 14");
-        assert_eq!(judge_log(&bytes(&[3; 1]).repeat(16_384), &[0; 65_536]), accepted(0, 0));
+        assert_eq!(judge_log(1, &[0; 16], &[0]), 14, "before no");
+        assert_eq!(judge_log(1, &[0; 65_537], &[]), 15);
+        assert_eq!(judge_log(1, &[], &[0; 65_537]), 15);
+        assert_eq!(judge_log(1, &[0; 65_552], &[]), 15);
+        assert_eq!(judge_log(1, &[], &[0; 65_540]), 15);
+        assert_eq!(judge_log(1, &[0; 15], &[0; 65_540]), 15, "15 before 14");
+        assert_eq!(judge_log(1, &[0; 65_552], &[0; 3]), 15, "15 before 14");
+        assert_eq!(judge_log(1, &bytes(&[3; 1]).repeat(16_384), &[0; 65_536]), accepted(0, 0));
+    }
+
+    #[test]
+    fn wider_payloads_are_compared_whole() {
+        for width in 2..=4 {
+            let whole: Vec<u32> = (0..width).map(|k| 10 + k).collect();
+            let entry = |kind: u32, worker: u32, number: u32, payload: &[u32]| [&[kind, worker, number], payload].concat();
+            let put = entry(1, 0, 1, &whole);
+            assert_eq!(judge_log(width, &bytes(&[put.clone(), entry(2, 3, 1, &whole)].concat()), &[]), accepted(1, 0));
+            for k in 0..width as usize {
+                let mut torn = whole.clone();
+                torn[k] += 1;
+                assert_eq!(judge_log(width, &bytes(&[put.clone(), entry(2, 3, 1, &torn)].concat()), &bytes(&[1])), 0);
+            }
+            assert_eq!(judge_log(width, &bytes(&put)[4..], &[]), 14);
+        }
+    }
+
+    #[test]
+    fn payload_words_are_judged_first() {
+        for width in [0, 5, 16, u32::MAX] {
+            assert_eq!(judge_log(width, &[], &[]), 16);
+            assert_eq!(judge_log(width, &[0; 65_537], &[0; 3]), 16, "16 before 15");
+            assert_eq!(judge_log(width, &[0; 1], &[]), 16, "16 before 14");
+        }
     }
 }

@@ -1,5 +1,7 @@
 //! What a call answers.
 
+use crate::task::Task;
+
 /// The refusals that a listing or a list of calls can show, by their numbers.
 pub mod refusal {
     pub const UNKNOWN_QUEUE: u32 = 1;
@@ -15,6 +17,7 @@ pub mod refusal {
     pub const LOG_FULL: u32 = 11;
     pub const FOREIGN_STATE: u32 = 12;
     pub const BAD_LINE: u32 = 13;
+    pub const PAYLOAD_WORDS: u32 = 16;
 }
 
 /// What one step did. A machine that answers `Refused` has changed nothing.
@@ -27,13 +30,13 @@ pub enum Outcome {
     /// X4: the put goes on at line 1 again, and counts as no restart.
     Published,
     /// A put finished.
-    Finished { number: u32, payload: u32 },
+    Finished(Task),
     /// A take or a steal was handed a task.
-    HandedOut { number: u32, payload: u32 },
+    HandedOut(Task),
     /// A take or a steal found nothing.
     Empty,
     /// X1 could not claim an array.
-    Full { number: u32, payload: u32 },
+    Full(Task),
     Refused(u32),
 }
 

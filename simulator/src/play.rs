@@ -3,21 +3,27 @@
 
 use crate::account::Account;
 use crate::bench::{Bench, Operation, Shape};
-use crate::listing::print;
+use crate::listing::{print, print_hand_out};
 use crate::outcome::{refusal, Outcome, Place};
+use crate::task::{Payload, Task};
 use crate::text::{self, Command};
 use crate::witness::Witness;
 
 pub struct Player<W> {
     /// None until a `queue` is accepted.
-    bench: Option<Bench>,
-    account: Account,
+    game: Option<Game>,
     witness: W,
+}
+
+struct Game {
+    bench: Bench,
+    account: Account,
+    payload_words: u32,
 }
 
 impl<W: Witness> Player<W> {
     pub fn new(witness: W) -> Player<W> {
-        Player { bench: None, account: Account::new(), witness }
+        Player { game: None, witness }
     }
 
     pub fn witness(&self) -> &W {
@@ -26,22 +32,23 @@ impl<W: Witness> Player<W> {
 
     /// How far a worker is; none without a bench or such a worker.
     pub fn place(&self, worker: u32) -> Option<Place> {
-        self.bench.as_ref()?.place(worker)
+        self.game.as_ref()?.bench.place(worker)
     }
 
     /// Whether the current array is full.
     pub fn full(&self) -> bool {
-        self.bench.as_ref().is_some_and(Bench::full)
+        self.game.as_ref().is_some_and(|game| game.bench.full())
     }
 
     /// The put numbers in the window; none without a bench.
     pub fn standing(&self) -> Vec<u32> {
-        self.bench.as_ref().map_or(Vec::new(), |bench| bench.window().map(|(number, _)| number).collect())
+        let window = self.game.iter().flat_map(|game| game.bench.window());
+        window.map(|task| task.number()).collect()
     }
 
-    /// How many more entries the log can take.
+    /// How many more entries the log can take; none without a bench.
     pub fn entries_left(&self) -> u32 {
-        self.account.entries_left()
+        self.game.as_ref().map_or(0, |game| game.account.entries_left())
     }
 
     /// Plays one line, its newline taken off, and puts what it prints behind
@@ -51,8 +58,8 @@ impl<W: Witness> Player<W> {
             None => Err(refusal::BAD_LINE),
             Some(Command::Queue { shape, words }) => self.fresh(shape, words),
             // Nothing but a queue is in place before one is accepted.
-            Some(_) if self.bench.is_none() => Err(refusal::BAD_LINE),
-            Some(Command::Put { payload }) => self.begin(0, Operation::Put { payload }),
+            Some(_) if self.game.is_none() => Err(refusal::BAD_LINE),
+            Some(Command::Put { words, payload }) => self.put(words, payload),
             Some(Command::Take) => self.begin(0, Operation::Take),
             Some(Command::Steal { worker }) => self.begin(worker, Operation::Steal),
             Some(Command::Step { worker, count }) => self.steps(worker, count, listing),
@@ -68,28 +75,40 @@ impl<W: Witness> Player<W> {
     }
 
     fn fresh(&mut self, shape: Shape, words: u32) -> Result<(), u32> {
-        if self.bench.is_some() {
+        if self.game.is_some() {
             return Err(refusal::BAD_LINE);
         }
-        self.bench = Some(Bench::fresh(shape, &mut vec![0; words as usize])?);
-        self.witness.fresh(shape.kind, shape.width);
+        let bench = Bench::fresh(shape, &mut vec![0; words as usize])?;
+        let payload_words = shape.payload_words;
+        self.game = Some(Game { bench, account: Account::new(payload_words), payload_words });
+        self.witness.fresh(shape);
         Ok(())
     }
 
+    /// A put of so many words, which have to be as many as the bench has.
+    fn put(&mut self, words: usize, payload: Payload) -> Result<(), u32> {
+        let game = self.game.as_ref().ok_or(refusal::BAD_LINE)?;
+        if words != game.payload_words as usize {
+            return Err(refusal::BAD_LINE);
+        }
+        self.begin(0, Operation::Put { payload })
+    }
+
     fn begin(&mut self, worker: u32, operation: Operation) -> Result<(), u32> {
+        let game = self.game.as_mut().ok_or(refusal::BAD_LINE)?;
         self.witness.call();
-        let bench = self.bench.as_mut().ok_or(refusal::BAD_LINE)?;
-        let number = bench.begin(worker, operation)?;
+        let number = game.bench.begin(worker, operation)?;
         if let (Some(number), Operation::Put { payload }) = (number, operation) {
-            self.account.begin_put(number, payload);
-            self.witness.put_begun(number, payload);
+            let task = Task::new(number, payload, game.payload_words);
+            game.account.begin_put(task);
+            self.witness.put_begun(task);
         }
         Ok(())
     }
 
     fn steps(&mut self, worker: u32, count: u32, listing: &mut Vec<u8>) -> Result<(), u32> {
-        let bench = self.bench.as_mut().ok_or(refusal::BAD_LINE)?;
-        let account = &mut self.account;
+        let game = self.game.as_mut().ok_or(refusal::BAD_LINE)?;
+        let Game { bench, account, payload_words } = game;
         let witness = &mut self.witness;
         for _ in 0..count {
             witness.call();
@@ -97,25 +116,26 @@ impl<W: Witness> Player<W> {
                 Outcome::GoesOn => continue,
                 Outcome::Restarted => {}
                 Outcome::Published => witness.published(),
-                Outcome::Finished { number, .. } => {
+                Outcome::Finished(task) => {
+                    let number = task.number();
                     account.finish(number);
                     witness.finished(number);
                     print(listing, b'D', &[number]);
                 }
-                Outcome::HandedOut { number, payload } => {
-                    account.hand_out(number, payload);
-                    witness.handed_out(worker as usize, number, payload);
-                    print(listing, b'H', &[worker, number, payload]);
+                Outcome::HandedOut(task) => {
+                    account.hand_out(task);
+                    witness.handed_out(worker as usize, task);
+                    print_hand_out(listing, worker, task.words(*payload_words));
                 }
                 Outcome::Empty => {
                     account.other_entry();
                     witness.empty(worker as usize);
                     print(listing, b'E', &[worker]);
                 }
-                Outcome::Full { number, .. } => {
+                Outcome::Full(task) => {
                     account.other_entry();
-                    witness.full(number);
-                    print(listing, b'F', &[number]);
+                    witness.full(task.number());
+                    print(listing, b'F', &[task.number()]);
                 }
                 Outcome::Refused(number) => return Err(number),
             }
@@ -127,9 +147,8 @@ impl<W: Witness> Player<W> {
     }
 
     fn totals(&mut self, listing: &mut Vec<u8>) {
-        if let Some(bench) = &self.bench {
-            let counts = self.account.totals(bench.window(), bench.restarts());
-            print(listing, b'T', &counts);
+        if let Some(Game { bench, account, .. }) = &self.game {
+            print(listing, b'T', &account.totals(bench.window(), bench.restarts()));
         }
     }
 }
@@ -211,6 +230,59 @@ mod tests {
         assert_eq!(listing("queue 2 0 1 1 2"), "R 2", "checked for FIFO too");
         assert_eq!(listing("queue 2 17 4294967295 1 2"), "R 2");
         assert_eq!(listing("queue 1 1 2147483648 1 2"), "R 3");
+    }
+
+    #[test]
+    fn payload_words_are_the_sixth_number_and_refused_after_the_crew() {
+        for words in [0, 5, 4294967295u32] {
+            assert_eq!(listing(&format!("queue 1 1 1 1 2 {words}")), "R 16");
+            assert_eq!(listing(&format!("queue 1 1 1 1 0 {words}")), "R 16", "before 5");
+            assert_eq!(listing(&format!("queue 1 1 1 9 2 {words}")), "R 4");
+            assert_eq!(listing(&format!("queue 1 1 3 1 2 {words}")), "R 3");
+            assert_eq!(listing(&format!("queue 1 0 1 1 2 {words}")), "R 2");
+            assert_eq!(listing(&format!("queue 4 1 1 1 2 {words}")), "R 1");
+            assert_eq!(listing(&format!("queue 1 1 1 1 10236 {words}")), "R 13");
+        }
+        assert_eq!(listing("queue 1 1 1 1 2 4294967296, queue 1 1 1 1 2 01"), "R 13, R 13");
+        for words in 1..=4 {
+            assert_eq!(listing(&format!("queue 1 1 1 1 {words} {words}")), "R 5");
+            assert_eq!(listing(&format!("queue 1 1 1 1 {} {words}, end", words + 1)), "T 0 0 0 0 0 0");
+        }
+    }
+
+    #[test]
+    fn a_put_has_as_many_words_as_the_bench() {
+        let puts = ["put 1", "put 1 2", "put 1 2 3", "put 1 2 3 4"];
+        for words in 1..=4 {
+            let mut lines = format!("queue 1 1 1 1 5 {words}, put, put 1 2 3 4 5");
+            let mut expected = "R 13, R 13".to_string();
+            for (at, put) in puts.iter().enumerate() {
+                lines += &format!(", {put}");
+                if at + 1 != words {
+                    expected += ", R 13";
+                }
+            }
+            // Busy by now: 13 comes before 7.
+            lines += ", put 1 2 3 4 5, put, step 0 9, take, step 0 9";
+            let payload = &puts[words - 1][4..];
+            expected += &format!(", R 13, R 13, D 1, R 8, H 0 1 {payload}, R 8");
+            assert_eq!(listing(&lines), expected);
+        }
+        for put in puts {
+            assert_eq!(listing(put), "R 13", "no queue yet");
+        }
+    }
+
+    #[test]
+    fn a_torn_task_belongs_to_no_put() {
+        // The thief reads number and first word of put 1, and put 3's second.
+        assert_eq!(
+            listing(
+                "queue 1 1 1 2 3 2, put 10 11, step 0 6, steal 1, step 1 5, take, step 0 6, put 20 21, \
+                 step 0 6, take, step 0 6, put 30 31, step 0 6, step 1 2, end"
+            ),
+            "D 1, H 0 1 10 11, D 2, H 0 2 20 21, D 3, H 1 1 10 31, T 3 3 2 0 0 1"
+        );
     }
 
     #[test]

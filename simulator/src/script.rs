@@ -2,7 +2,7 @@
 //! calls. Each line is played as it is written, so that whoever writes it knows
 //! where every worker stands and can pause one there.
 
-use crate::bench::{Operation, Shape};
+use crate::bench::Shape;
 use crate::calls::Calls;
 use crate::outcome::Place;
 use crate::play::Player;
@@ -43,7 +43,7 @@ impl Script {
 
     /// A list of library calls.
     pub fn calls(random: Random, store: u32, log: u32) -> Script {
-        let none = Shape { kind: 0, width: 0, size: 0, crew: 0 };
+        let none = Shape { kind: 0, width: 0, size: 0, crew: 0, payload_words: 1 };
         let mut script = Script::new(random, none, Form::Calls(Calls::new()));
         script.say(&format!("memory {store} {log}"));
         script
@@ -118,8 +118,8 @@ impl Script {
 
     /// A library call; whether it is accepted.
     pub fn fresh(&mut self, shape: Shape) -> bool {
-        let Shape { kind, width, size, crew } = shape;
-        self.say(&format!("fresh {kind} {width} {size} {crew}"));
+        let Shape { kind, width, size, crew, payload_words } = shape;
+        self.say(&format!("fresh {kind} {width} {size} {crew} {payload_words}"));
         let accepted = self.heard.first() == Some(&b'A');
         if accepted {
             self.shape = shape;
@@ -127,40 +127,68 @@ impl Script {
         accepted
     }
 
-    /// Begins an operation. The program has no line for a thief that puts or
-    /// takes.
-    pub fn begin(&mut self, worker: u32, operation: Operation) {
-        let line = match (&self.form, operation) {
-            (Form::Program(_), Operation::Put { payload }) => format!("put {payload}"),
-            (Form::Program(_), Operation::Take) => "take".to_string(),
-            (Form::Program(_), Operation::Steal) => format!("steal {worker}"),
-            (Form::Calls(_), Operation::Put { payload }) => format!("begin {worker} put {payload}"),
-            (Form::Calls(_), Operation::Take) => format!("begin {worker} take"),
-            (Form::Calls(_), Operation::Steal) => format!("begin {worker} steal"),
+    /// Begins a put. The program has no line for a thief that puts, and wants as
+    /// many words as its bench has; the library takes one to four.
+    pub fn begin_put(&mut self, worker: u32) {
+        let words = self.shape.payload_words;
+        let line = match self.form {
+            Form::Program(_) => format!("put{}", self.payload(words)),
+            Form::Calls(_) => {
+                let words = if self.random.chance(80) { words } else { self.random.between(1, 4) };
+                format!("begin {worker} put{}", self.payload(words))
+            }
         };
         self.say(&line);
     }
 
-    /// A payload that is at times like another one's.
-    pub fn payload(&mut self) -> u32 {
-        match self.random.below(4) {
-            0 => self.random.word(),
-            1 => self.random.below(3),
-            _ => self.random.below(1000),
+    /// A put with too few or too many words for the program, which refuses it.
+    pub fn put_of_other_length(&mut self) {
+        let words = self.shape.payload_words;
+        if let Form::Calls(_) = self.form {
+            return self.put();
+        }
+        let other = *self.random.pick(&[0, 1, 1, 2, 3, 4, 5, 5, 6, 20]);
+        let other = if other == words { words + 1 } else { other };
+        let line = format!("put{}", self.payload(other));
+        self.say(&line);
+    }
+
+    /// Begins a take. The program has no line for a thief that takes.
+    pub fn begin_take(&mut self, worker: u32) {
+        match self.form {
+            Form::Program(_) => self.say("take"),
+            Form::Calls(_) => self.say(&format!("begin {worker} take")),
         }
     }
 
+    /// So many payload words, each with a space before it. At times they are
+    /// like another one's.
+    pub fn payload(&mut self, words: u32) -> String {
+        let mut text = String::new();
+        for _ in 0..words {
+            let word = match self.random.below(4) {
+                0 => self.random.word(),
+                1 => self.random.below(3),
+                _ => self.random.below(1000),
+            };
+            text += &format!(" {word}");
+        }
+        text
+    }
+
     pub fn put(&mut self) {
-        let payload = self.payload();
-        self.begin(0, Operation::Put { payload });
+        self.begin_put(0);
     }
 
     pub fn take(&mut self) {
-        self.begin(0, Operation::Take);
+        self.begin_take(0);
     }
 
     pub fn steal(&mut self, worker: u32) {
-        self.begin(worker, Operation::Steal);
+        match self.form {
+            Form::Program(_) => self.say(&format!("steal {worker}")),
+            Form::Calls(_) => self.say(&format!("begin {worker} steal")),
+        }
     }
 
     /// The most steps that are worth asking for. The program stops at the first

@@ -1,9 +1,10 @@
 //! What a line of the input says.
 
 use crate::bench::Shape;
+use crate::task::{Payload, MOST_PAYLOAD};
 
 /// The most words a store can have.
-const MOST_WORDS: u32 = 4094;
+pub const MOST_WORDS: u32 = 10_235;
 
 /// The most steps one `step` can ask for.
 const MOST_STEPS: u32 = 65_535;
@@ -11,7 +12,8 @@ const MOST_STEPS: u32 = 65_535;
 #[derive(Clone, Copy, Debug, PartialEq, Eq)]
 pub enum Command {
     Queue { shape: Shape, words: u32 },
-    Put { payload: u32 },
+    /// So many words, one to four; the others are 0.
+    Put { words: usize, payload: Payload },
     Take,
     Steal { worker: u32 },
     Step { worker: u32, count: u32 },
@@ -27,8 +29,8 @@ pub fn parse(line: &[u8]) -> Option<Command> {
         return (rest.is_empty() && count <= MOST_STEPS).then_some(Command::Step { worker, count });
     }
     if let Some(rest) = line.strip_prefix(b"put ") {
-        let (payload, rest) = value(rest)?;
-        return rest.is_empty().then_some(Command::Put { payload });
+        let (words, payload) = payload(rest)?;
+        return Some(Command::Put { words, payload });
     }
     if let Some(rest) = line.strip_prefix(b"steal ") {
         let (worker, rest) = value(rest)?;
@@ -40,14 +42,37 @@ pub fn parse(line: &[u8]) -> Option<Command> {
         let (size, rest) = value(rest.strip_prefix(b" ")?)?;
         let (crew, rest) = value(rest.strip_prefix(b" ")?)?;
         let (words, rest) = value(rest.strip_prefix(b" ")?)?;
-        return (rest.is_empty() && words <= MOST_WORDS)
-            .then_some(Command::Queue { shape: Shape { kind, width, size, crew }, words });
+        // The sixth number may be left out.
+        let (payload_words, rest) = match rest.strip_prefix(b" ") {
+            Some(rest) => value(rest)?,
+            None => (1, rest),
+        };
+        return (rest.is_empty() && words <= MOST_WORDS).then_some(Command::Queue {
+            shape: Shape { kind, width, size, crew, payload_words },
+            words,
+        });
     }
     match line {
         b"take" => Some(Command::Take),
         b"end" => Some(Command::End),
         _ => None,
     }
+}
+
+/// One to four values and nothing else, and how many they are.
+fn payload(text: &[u8]) -> Option<(usize, Payload)> {
+    let mut payload = Payload::default();
+    let (first, mut rest) = value(text)?;
+    payload[0] = first;
+    let mut words = 1;
+    while !rest.is_empty() {
+        if words == MOST_PAYLOAD {
+            return None;
+        }
+        (payload[words], rest) = value(rest.strip_prefix(b" ")?)?;
+        words += 1;
+    }
+    Some((words, payload))
 }
 
 /// A value at the front of `text`, and what follows it: base ten, no sign, no
@@ -73,12 +98,20 @@ mod tests {
 
     #[test]
     fn each_form() {
-        assert_eq!(
-            parse(b"queue 1 16 1024 8 4094"),
-            Some(Command::Queue { shape: Shape { kind: 1, width: 16, size: 1024, crew: 8 }, words: 4094 })
-        );
-        assert_eq!(parse(b"put 4294967295"), Some(Command::Put { payload: u32::MAX }));
-        assert_eq!(parse(b"put 0"), Some(Command::Put { payload: 0 }));
+        let shape = Shape { kind: 1, width: 16, size: 1024, crew: 8, payload_words: 1 };
+        assert_eq!(parse(b"queue 1 16 1024 8 10235"), Some(Command::Queue { shape, words: 10_235 }));
+        for payload_words in [0, 1, 2, 3, 4, 5, 10, u32::MAX] {
+            assert_eq!(
+                parse(format!("queue 1 16 1024 8 4094 {payload_words}").as_bytes()),
+                Some(Command::Queue { shape: Shape { payload_words, ..shape }, words: 4094 })
+            );
+        }
+        let put = |words, payload| Some(Command::Put { words, payload });
+        assert_eq!(parse(b"put 4294967295"), put(1, [u32::MAX, 0, 0, 0]));
+        assert_eq!(parse(b"put 0"), put(1, [0; 4]));
+        assert_eq!(parse(b"put 1 0"), put(2, [1, 0, 0, 0]));
+        assert_eq!(parse(b"put 1 2 3"), put(3, [1, 2, 3, 0]));
+        assert_eq!(parse(b"put 1 2 3 4294967295"), put(4, [1, 2, 3, u32::MAX]));
         assert_eq!(parse(b"take"), Some(Command::Take));
         assert_eq!(parse(b"steal 7"), Some(Command::Steal { worker: 7 }));
         assert_eq!(parse(b"step 0 65535"), Some(Command::Step { worker: 0, count: 65_535 }));
@@ -90,7 +123,13 @@ mod tests {
         assert_eq!(
             parse(b"queue 4294967295 4294967295 4294967295 4294967295 0"),
             Some(Command::Queue {
-                shape: Shape { kind: u32::MAX, width: u32::MAX, size: u32::MAX, crew: u32::MAX },
+                shape: Shape {
+                    kind: u32::MAX,
+                    width: u32::MAX,
+                    size: u32::MAX,
+                    crew: u32::MAX,
+                    payload_words: 1
+                },
                 words: 0
             })
         );
@@ -101,12 +140,19 @@ mod tests {
     #[test]
     fn above_a_range() {
         for line in [
-            "queue 1 1 1 1 4095",
+            "queue 1 1 1 1 10236",
+            "queue 1 1 1 1 10236 1",
+            "queue 1 1 1 1 10236 0",
+            "queue 1 1 1 1 2 4294967296",
+            "queue 1 1 1 1 2 10000000000",
             "queue 4294967296 1 1 1 2",
             "queue 1 4294967296 1 1 2",
             "queue 1 1 4294967296 1 2",
             "queue 1 1 1 4294967296 2",
             "put 4294967296",
+            "put 1 4294967296",
+            "put 1 2 4294967296",
+            "put 1 2 3 4294967296",
             "put 10000000000",
             "put 99999999999999999999999999",
             "steal 4294967296",
@@ -122,13 +168,16 @@ mod tests {
     fn no_given_form() {
         for line in [
             "", " ", "put", "put ", "put  1", " put 1", "put 1 ", "put 01", "put 00", "put +1",
-            "put -1", "put -0", "put 1 2", "put\t1", "put 1\r", "put 1\0", "\0put 1", "put x",
+            "put -1", "put -0", "put 1 2 3 4 5", "put 1 2 3 4 ", "put 1  2", "put 1 02", "put 1 x",
+            "put 1 2 3 4x", "put 1,2", "put 1\t2", "put\t1", "put 1\r", "put 1\0", "\0put 1", "put x",
             "put 1x", "put 0x1", "put 1.0", "put 1_0", "Put 1", "PUT 1", "pu 1", "putt 1",
             "take 0", "take ", " take", "tak", "takes", "take\r", "steal", "steal ", "steal 1 1",
             "steal 01", "step", "step 0", "step 0 ", "step  0 1", "step 0  1", "step 0 1 ",
             "step 0 1 1", "step 0 01", "step 00 1", "step 0\t1", "end ", " end", "ends", "en",
             "END", "end 0", "queue", "queue 1 1 1 1", "queue 1 1 1 1 ", "queue 1 1 1 1 2 ",
-            "queue 1 1 1 1 2 2", "queue 1 1 1 01 2", "queue 1  1 1 1 2", "queue,1,1,1,1,2",
+            "queue 1 1 1 1 2 1 ", "queue 1 1 1 1 2 1 1", "queue 1 1 1 1 2  1", "queue 1 1 1 1 2 01",
+            "queue 1 1 1 1 2 00", "queue 1 1 1 1 2 +1", "queue 1 1 1 1 2 -1", "queue 1 1 1 1 2 x",
+            "queue 1 1 1 1 2 1x", "queue 1 1 1 1 2\t1", "queue 1 1 1 01 2", "queue 1  1 1 1 2", "queue,1,1,1,1,2",
             "# put 1",
         ] {
             assert_eq!(parse(line.as_bytes()), None, "{line:?}");

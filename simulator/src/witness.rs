@@ -2,18 +2,21 @@
 //! speaks of, the program tells it of everything a call answered. `Blind` hears
 //! nothing and costs nothing.
 
+use crate::bench::Shape;
+use crate::task::Task;
+
 pub trait Witness {
     /// A fresh bench was accepted.
-    fn fresh(&mut self, _kind: u32, _width: u32) {}
+    fn fresh(&mut self, _shape: Shape) {}
     /// A begin or a step, refused or not, is about to be made.
     fn call(&mut self) {}
-    fn put_begun(&mut self, _number: u32, _payload: u32) {}
+    fn put_begun(&mut self, _task: Task) {}
     /// An accepted step did line 1 of a take or a steal.
     fn line_one(&mut self, _worker: usize) {}
     /// An accepted step did the compare of a steal, whichever way it went.
     fn compare(&mut self, _worker: usize) {}
     fn finished(&mut self, _number: u32) {}
-    fn handed_out(&mut self, _worker: usize, _number: u32, _payload: u32) {}
+    fn handed_out(&mut self, _worker: usize, _task: Task) {}
     fn empty(&mut self, _worker: usize) {}
     fn full(&mut self, _number: u32) {}
     /// X4: the window is now seen in another array.
@@ -22,8 +25,8 @@ pub trait Witness {
     fn wants_window(&self) -> bool {
         false
     }
-    /// The words of each task in the window.
-    fn window(&mut self, _tasks: &mut dyn Iterator<Item = (u32, u32)>) {}
+    /// Each task in the window.
+    fn window(&mut self, _tasks: &mut dyn Iterator<Item = Task>) {}
 }
 
 pub struct Blind;

@@ -1,10 +1,11 @@
-// Judges logs through the call that C and C++ have.
+// Judges logs through the calls that C and C++ have.
 //
 //     judge_cases < CASES             an answer a line
 //     judge_cases bench TIMES < CASE  nanoseconds to judge the first case
 //
-// A case is the log's length and the list's, four bytes each, lowest first, and
-// then the bytes of both.
+// A case is an entry's payload words, the log's length and the list's, four bytes
+// each, lowest first, and then the bytes of both. With one payload word both
+// calls are made, and have to agree.
 
 #include "../../include/bomqelir.h"
 
@@ -19,17 +20,23 @@ namespace {
 enum class Reading { Case, End, CutShort };
 
 struct Case {
+    uint32_t words;
     std::vector<uint8_t> log, list;
 };
 
 // Each of the two has its own memory of just its length, so that a read past
 // the end is one that a checker of memory sees. An empty one has a null pointer.
 uint64_t judge(const Case &c) {
-    return bomqelir_judge(c.log.data(), c.log.size(), c.list.data(), c.list.size());
+    return bomqelir_judge_words(c.words, c.log.data(), c.log.size(), c.list.data(), c.list.size());
 }
 
-size_t length(const uint8_t *word) {
-    return size_t(word[0]) | size_t(word[1]) << 8 | size_t(word[2]) << 16 | size_t(word[3]) << 24;
+// By the call that has one payload word and no other.
+bool agrees(const Case &c, uint64_t answer) {
+    return c.words != 1 || bomqelir_judge(c.log.data(), c.log.size(), c.list.data(), c.list.size()) == answer;
+}
+
+uint32_t value(const uint8_t *word) {
+    return uint32_t(word[0]) | uint32_t(word[1]) << 8 | uint32_t(word[2]) << 16 | uint32_t(word[3]) << 24;
 }
 
 bool fill(std::vector<uint8_t> &bytes, size_t count) {
@@ -38,12 +45,13 @@ bool fill(std::vector<uint8_t> &bytes, size_t count) {
 }
 
 Reading read(Case &c) {
-    uint8_t head[8];
+    uint8_t head[12];
     size_t got = std::fread(head, 1, sizeof head, stdin);
     if (got == 0) return std::ferror(stdin) ? Reading::CutShort : Reading::End;
-    if (got < sizeof head || !fill(c.log, length(head)) || !fill(c.list, length(head + 4))) {
+    if (got < sizeof head || !fill(c.log, value(head + 4)) || !fill(c.list, value(head + 8))) {
         return Reading::CutShort;
     }
+    c.words = value(head);
     return Reading::Case;
 }
 
@@ -56,9 +64,16 @@ int judge_all() {
     Case c;
     for (;;) {
         switch (read(c)) {
-            case Reading::Case:
-                std::printf("%llu\n", static_cast<unsigned long long>(judge(c)));
+            case Reading::Case: {
+                const uint64_t answer = judge(c);
+                if (!agrees(c, answer)) {
+                    std::fflush(stdout);
+                    std::fprintf(stderr, "judge_cases: one case, and the two calls differ\n");
+                    return 1;
+                }
+                std::printf("%llu\n", static_cast<unsigned long long>(answer));
                 break;
+            }
             case Reading::End:
                 return std::fflush(stdout) == 0 ? 0 : 1;
             case Reading::CutShort:

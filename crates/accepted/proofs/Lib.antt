@@ -1,3 +1,3 @@
-pub mod Examples
 pub mod RunsAccepted
 pub mod RunsJudged
+pub mod Examples

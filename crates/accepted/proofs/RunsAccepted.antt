@@ -10,24 +10,27 @@ use native.Mathlib.Nat.{eq-or-lt-of-le}
 use lib.ListN.{length, getD, length-append, List·getD-append}
 use lib.Seq.{getD-append-seam}
 use borrow.Author.Tests.{eq-eqb, le-leb, lt-ltb}
-use Rattle.model.specs.Tests.{_and_, _or_}
+use Rattle.model.specs.declared.Task.{Task}
+use Rattle.model.proofs.Tasks.{number-gathered}
+use Rattle.model.specs.Tests.{_or_}
 use Rattle.model.specs.Answers.{entryOf, ends}
 use Rattle.model.specs.World.{World}
 use Rattle.model.specs.Calls.{freshOf, Call}
 use Rattle.model.specs.Run.{Played, played, after}
 use Rattle.model.specs.Window.{windowSize, windowWord}
-use Rattle.model.specs.Counts.{entryAt, taskAt, isKind, someBelow, outWhole}
+use Rattle.model.specs.Counts.{entryAt, isKind, someBelow, outWhole}
 use Rattle.model.proofs.Tests.{and-both, or-cases, or-either}
 use Rattle.model.proofs.Below.{some-at}
 use Rattle.theorems.specs.Demand3.{At, Finishes, Stands, Demand3}
 use Rattle.order.specs.Order.{entries}
 use Rattle.theorems.proofs.Translate.{at-map}
-use Rattle.order.proofs.Entries.{place, place-rises, earlier, count, entries-known}
+use Rattle.order.proofs.Entries.{AllCut, place, place-rises, earlier, count, entries-known}
 use Rattle.order.proofs.EndedPuts.{EndsPut, ended-puts-rise}
 use Rattle.order.proofs.FrontEntries.{entries-many}
-use Rattle.order.proofs.KeptEntries.{number-of, is-entry, wrote, hands-out, kept-entry}
+use Rattle.order.proofs.KeptEntries.{task-of, is-entry, wrote, hands-out, kept-entry}
 use Rattle.theorems.proofs.NothingLost.{demand3}
 use Rattle.order.proofs.LogFront.{log-is-answers}
+use Rattle.order.proofs.CutAnswers.{answers-cut, words-le}
 use Rattle.judgement.specs.Judgement.{allBelow, known, numbered, rises, finishedAs, justified, listed, kept, accepts}
 use Rattle.judgement.proofs.All.{all-true}
 use Rattle.accepted.specs.Runs.{windowNumbers, stored, RunsAccepted}
@@ -52,40 +55,41 @@ window-number W (suc n) i h =
     (λ q. List·getD-append (windowNumbers W n) (windowWord W n 0 ∷ []) 0 i (omega (arith, q, window-long W n)) ∙ window-number W n i q)
     (eq-or-lt-of-le (let le : i ≤ n = omega arith in le))
 
-module _ (W : World) (cs : List Call) (D : Demand3 W cs)
+module _ (ω : ℕ) (W : World) (cs : List Call) (g : ω ≤ 4) (C : AllCut ω (played W cs)) (D : Demand3 W cs)
     (R : (i j m n : ℕ) → i < j → At (played W cs) i (EndsPut m) → At (played W cs) j (EndsPut n) → m < n) where
   abbrev T : List Played
   T = played W cs
 
   abbrev l : List ℕ
-  l = entries T
+  l = entries ω T
 
-  known-all : allBelow (known l) (count T) ≡ true
-  known-all = all-true (known l) (count T) (λ j h. let (a, b) = entries-known T j h in and-both _ _ (le-leb 1 _ a) (le-leb _ 4 b))
+  known-all : allBelow (known ω l) (count T) ≡ true
+  known-all = all-true (known ω l) (count T) (λ j h. let (a, b) = entries-known ω T g j h in and-both _ _ (le-leb 1 _ a) (le-leb _ 4 b))
 
   -- numbers of ended puts rise
-  ends-put : (j : ℕ) → numbered l j ≡ true → At T (place T j) (EndsPut (entryAt l j .number))
-  ends-put j e = go (or-cases (isKind l 1 j) (isKind l 4 j) e)
+  ends-put : (j : ℕ) → numbered ω l j ≡ true → At T (place T j) (EndsPut (entryAt ω l j .task .number))
+  ends-put j e = go (or-cases (isKind ω l 1 j) (isKind ω l 4 j) e)
     where
-      go : (isKind l 1 j ≡ true) ⊎ (isKind l 4 j ≡ true) → At T (place T j) (EndsPut (entryAt l j .number))
-      go (inl q) = at-map T (place T j) _ _ (λ s (a, k). (inl k, number-of a)) (wrote T 1 j (omega arith) q)
-      go (inr q) = at-map T (place T j) _ _ (λ s (a, k). (inr k, number-of a)) (wrote T 4 j (omega arith) q)
+      go : (isKind ω l 1 j ≡ true) ⊎ (isKind ω l 4 j ≡ true) → At T (place T j) (EndsPut (entryAt ω l j .task .number))
+      go (inl q) = at-map T (place T j) _ _ (λ s (a, k). (inl k, ap (λ (t : Task). t .number) (task-of a))) (wrote ω T g C 1 j (omega arith) q)
+      go (inr q) = at-map T (place T j) _ _ (λ s (a, k). (inr k, ap (λ (t : Task). t .number) (task-of a))) (wrote ω T g C 4 j (omega arith) q)
 
-  rises-all : allBelow (rises l) (count T) ≡ true
+  rises-all : allBelow (rises ω l) (count T) ≡ true
   rises-all =
-      all-true (rises l) (count T)
-      (λ j h. only-if (numbered l j) _ (λ e. all-true _ j (λ i g. only-if (numbered l i) _ (λ f.
-      lt-ltb _ _ (R (place T i) (place T j) _ _ (place-rises T i j g) (ends-put i f) (ends-put j e))))))
+      all-true (rises ω l) (count T)
+      (λ j h. only-if (numbered ω l j) _ (λ e. all-true _ j (λ i f. only-if (numbered ω l i) _ (λ d.
+      lt-ltb _ _ (R (place T i) (place T j) _ _ (place-rises T i j f) (ends-put i d) (ends-put j e))))))
 
   -- a hand-out repeats a put finished before it
-  justified-all : allBelow (justified l) (count T) ≡ true
-  justified-all = all-true (justified l) (count T) (λ j h. only-if (isKind l 2 j) _ (repeats j))
+  justified-all : allBelow (justified ω l) (count T) ≡ true
+  justified-all = all-true (justified ω l) (count T) (λ j h. only-if (isKind ω l 2 j) _ (repeats j))
     where
-      repeats : (j : ℕ) → isKind l 2 j ≡ true → someBelow (finishedAs l j) j ≡ true
+      repeats : (j : ℕ) → isKind ω l 2 j ≡ true → someBelow (finishedAs ω l j) j ≡ true
       repeats j e =
-          let (b, k, h, d) = D .belongs (place T j) (taskAt l j) (hands-out T j e) in
-          let (i, g, (s, (w, a), q)) = earlier T j k (Finishes (taskAt l j)) (λ s (w, a). ap ends a) h (d .finished) in
-          sym (some-at (finishedAs l j) j i g refl (is-entry l i 1 w (taskAt l j) (taskAt l j) (q ∙ ap entryOf a) (refl, refl)))
+          let t = entryAt ω l j .task in
+          let (b, k, h, d) = D .belongs (place T j) t (hands-out ω T g C j e) in
+          let (i, f, (s, (w, a), q)) = earlier ω T g C j k (Finishes t) (λ s (w, a). ap ends a) h (d .finished) in
+          sym (some-at (finishedAs ω l j) j i f refl (is-entry ω l i 1 w t (q ∙ ap entryOf a)))
 
   abbrev U : World
   U = after W cs
@@ -94,22 +98,24 @@ module _ (W : World) (cs : List Call) (D : Demand3 W cs)
   size = windowSize U
 
   -- a finished put is handed out, or stands in the window
-  kept-all : allBelow (kept l (count T) (stored U) size) (count T) ≡ true
-  kept-all = all-true (kept l (count T) (stored U) size) (count T) (λ j h. only-if (isKind l 1 j) _ (λ e. or-either _ _ (go j (kept-entry W cs D j e))))
+  kept-all : allBelow (kept ω l (count T) (stored U) size) (count T) ≡ true
+  kept-all = all-true (kept ω l (count T) (stored U) size) (count T) (λ j h. only-if (isKind ω l 1 j) _ (λ e. or-either _ _ (go j (kept-entry ω W cs g C D j e))))
     where
-      go : (j : ℕ) → (someBelow (outWhole l (taskAt l j)) (count T) ≡ true) ⊎ Stands U (taskAt l j)
-          → (someBelow (outWhole l (taskAt l j)) (count T) ≡ true) ⊎ (someBelow (listed (stored U) (entryAt l j .number)) size ≡ true)
+      go : (j : ℕ) → (someBelow (outWhole ω l (entryAt ω l j .task)) (count T) ≡ true) ⊎ Stands U (entryAt ω l j .task)
+          → (someBelow (outWhole ω l (entryAt ω l j .task)) (count T) ≡ true) ⊎ (someBelow (listed (stored U) (entryAt ω l j .task .number)) size ≡ true)
       go j (inl x) = inl x
-      go j (inr (i, h, x, y)) =
-          inr (sym (some-at (listed (stored U) (entryAt l j .number)) size i h refl (eq-eqb _ _ (window-number U size i h ∙ x))))
+      go j (inr (i, h, x)) =
+          inr (sym (some-at (listed (stored U) (entryAt ω l j .task .number)) size i h refl
+          (eq-eqb _ _ (window-number U size i h ∙ sym (number-gathered (U .bench .words) (windowWord U i)) ∙ ap (λ (t : Task). t .number) x))))
 
-  all-accepted : accepts l (count T) (stored U) size ≡ true
+  all-accepted : accepts ω l (count T) (stored U) size ≡ true
   all-accepted = and-both _ _ known-all (and-both _ _ rises-all (and-both _ _ justified-all kept-all))
 
 pub runs-accepted : RunsAccepted
 runs-accepted s m l e cs f =
-    subst₂ (λ (l : List ℕ) (n : ℕ). accepts l n (stored (after W cs)) (windowSize (after W cs)) ≡ true)
-    (sym (log-is-answers s m l e cs)) (entries-many s m l e cs) (all-accepted W cs (demand3 s m l e cs f) (ended-puts-rise s m l e cs))
+    subst₂ (λ (l : List ℕ) (n : ℕ). accepts (W .bench .words) l n (stored (after W cs)) (windowSize (after W cs)) ≡ true)
+    (sym (log-is-answers s m l e cs)) (entries-many s m l e cs)
+    (all-accepted (W .bench .words) W cs (words-le s m l e) (answers-cut s m l e cs) (demand3 s m l e cs f) (ended-puts-rise s m l e cs))
   where
     W : World
     W = freshOf s m l .world

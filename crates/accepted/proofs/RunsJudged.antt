@@ -1,16 +1,19 @@
 -- From the words to the bytes: the lengths are such as the judge takes, and the entries of the front are the log's.
-use mathlib.Core.Path.{_≡_, _∙_, ap}
+use mathlib.Core.Path.{_≡_, sym, _∙_, ap}
+use mathlib.Core.Bool.{true}
 use mathlib.Core.List.{List}
-use Prim.Native.Nat.{ℕ, _-_, _*_, _/_, _%_, _≤_}
+use Prim.Native.Nat.{ℕ, _-_, _*_, _/_, _%_, _≤_, _<_}
+use native.Mathlib.Nat.{mul-mod-right, mul-div-cancel-left}
 use native.Mathlib.Omega.{arith}
 use lib.ListN.{length}
-use borrow.Author.Tests.{eq-eqb, le-leb}
+use borrow.Author.Tests.{eq-eqb, le-leb, lt-ltb}
 use Rattle.model.specs.declared.Kind.{Kind}
 use Rattle.model.specs.declared.Kind.the-variants.{Lifo, Fifo, Deque}
 use Rattle.model.specs.declared.Anchor.{Anchor}
-use Rattle.model.specs.Tests.{_and_}
 use Rattle.model.specs.World.{World}
 use Rattle.model.specs.Calls.{freshOf}
+use Rattle.model.specs.Answers.{entryLength}
+use Rattle.model.specs.Limits.{wordsOk}
 use Rattle.model.specs.Run.{played, after}
 use Rattle.model.specs.Window.{tasks, windowSize}
 use Rattle.model.specs.Counts.{countBelow, outFirst, entriesIn, countsOf}
@@ -24,10 +27,9 @@ use Rattle.theorems.proofs.Fresh.{fresh-started}
 use Rattle.order.specs.Order.{logFront}
 use Rattle.order.proofs.Entries.{entries-long}
 use Rattle.order.proofs.LogFront.{log-is-answers}
-use Rattle.order.proofs.FrontEntries.{handouts-same, different-same, entries-many}
-use Rattle.judgement.specs.declared.Verdict.{Verdict}
+use Rattle.order.proofs.FrontEntries.{words-kept, handouts-same, different-same, entries-many}
 use Rattle.judgement.specs.declared.Verdict.the-variants.{Accepted}
-use Rattle.judgement.specs.Judgement.{wordsOf, handouts, repeats, judgedWords, judged}
+use Rattle.judgement.specs.Judgement.{wordsOf, entryBytes, handouts, repeats, judgedWords, judged}
 use Rattle.accepted.specs.Bytes.{RunsJudged}
 use Rattle.accepted.proofs.RunsAccepted.{window-long, runs-accepted}
 
@@ -44,27 +46,37 @@ window-small W H =
     let z = size-le (now (S .arrays) .0) in omega (arith, t, z)
 
 -- what is judged where the lengths are right
-judged-words : (log list : List ℕ) (n m : ℕ) → length log ≡ 16 * n → length list ≡ 4 * m → length log ≤ 65536 → length list ≤ 65536
-    → judged log list ≡ judgedWords (wordsOf log) n (wordsOf list) m
+judged-words : (v : ℕ) (log list : List ℕ) (n m : ℕ) → wordsOk v ≡ true → length log ≡ entryBytes v * n → length list ≡ 4 * m → length log ≤ 65536 → length list ≤ 65536
+    → judged v log list ≡ judgedWords v (wordsOf log) n (wordsOf list) m
 unfolding judged
-judged-words log list n m e f g h =
-    if-true _ (and-both _ _ (le-leb _ _ g) (le-leb _ _ h))
-    ∙ if-true _ (and-both _ _ (eq-eqb (length log % 16) 0 (omega (arith, e))) (eq-eqb (length list % 4) 0 (omega (arith, f))))
-    ∙ ap (λ (k : ℕ). judgedWords (wordsOf log) k (wordsOf list) (length list / 4)) (let z : length log / 16 ≡ n = omega (arith, e) in z)
-    ∙ ap (λ (k : ℕ). judgedWords (wordsOf log) n (wordsOf list) k) (let z : length list / 4 ≡ m = omega (arith, f) in z)
+judged-words v log list n m o e f g h =
+    if-true _ o ∙ if-true _ (and-both _ _ (le-leb _ _ g) (le-leb _ _ h))
+    ∙ if-true _ (and-both _ _ (eq-eqb (length log % entryBytes v) 0 (ap (λ (x : ℕ). x % entryBytes v) e ∙ mul-mod-right (entryBytes v) n)) (eq-eqb (length list % 4) 0 (omega (arith, f))))
+    ∙ ap (λ (k : ℕ). judgedWords v (wordsOf log) k (wordsOf list) (length list / 4)) (ap (λ (x : ℕ). x / entryBytes v) e ∙ mul-div-cancel-left n (let z : 0 < entryBytes v = omega arith in z))
+    ∙ ap (λ (k : ℕ). judgedWords v (wordsOf log) n (wordsOf list) k) (let z : length list / 4 ≡ m = omega (arith, f) in z)
 
 pub runs-judged : RunsJudged
 unfolding countsOf
 runs-judged s m l e cs f log list (a, b) (x, y) short =
-    judged-words log list N size whole stored short (omega (arith, stored, window-small U (whole-run cs W (fresh-started s m l e .whole))))
-    ∙ ap (λ (v : List ℕ). judgedWords v N (wordsOf list) size) b
-    ∙ ap (λ (v : List ℕ). judgedWords (logFront U) N v size) y
+    judged-words v log list N size fine whole stored short (omega (arith, stored, window-small U (whole-run cs W H)))
+    ∙ ap (λ (z : List ℕ). judgedWords v z N (wordsOf list) size) b
+    ∙ ap (λ (z : List ℕ). judgedWords v (logFront U) N z size) y
     ∙ if-true _ (runs-accepted s m l e cs f)
-    ∙ ap (λ (h : ℕ). Accepted h (repeats (logFront U) N)) (handouts-same U)
+    ∙ ap (λ (u : ℕ). Accepted (handouts u (logFront U) N) (repeats u (logFront U) N)) (sym (words-kept cs W))
+    ∙ ap (λ (h : ℕ). Accepted h (repeats (U .bench .words) (logFront U) N)) (handouts-same U)
     ∙ ap (λ (r : ℕ). Accepted (countsOf U .handouts) r) same
   where
     W : World
     W = freshOf s m l .world
+
+    v : ℕ
+    v = W .bench .words
+
+    H : Whole W
+    H = fresh-started s m l e .whole
+
+    fine : wordsOk v ≡ true
+    fine = and-both _ _ (lt-ltb _ _ (H .words .0)) (le-leb _ _ (H .words .1))
 
     U : World
     U = after W cs
@@ -75,11 +87,14 @@ runs-judged s m l e cs f log list (a, b) (x, y) short =
     size : ℕ
     size = windowSize U
 
-    whole : length log ≡ 16 * N
-    whole = omega (arith, a, ap length (log-is-answers s m l e cs), entries-long (played W cs), entries-many s m l e cs)
+    whole : length log ≡ entryBytes v * N
+    whole =
+        a
+        ∙ ap (λ (x : ℕ). 4 * x) (ap length (log-is-answers s m l e cs) ∙ entries-long v (played W cs) (H .words .1) ∙ ap (λ (x : ℕ). entryLength v * x) (entries-many s m l e cs))
+        ∙ omega arith
 
     stored : length list ≡ 4 * size
     stored = omega (arith, x, window-long U size)
 
-    same : repeats (logFront U) N ≡ countsOf U .handouts - countsOf U .different
-    same = ap (λ (h : ℕ). h - countBelow (outFirst (logFront U)) N) (handouts-same U) ∙ ap (λ (d : ℕ). countsOf U .handouts - d) (different-same U)
+    same : repeats (U .bench .words) (logFront U) N ≡ countsOf U .handouts - countsOf U .different
+    same = ap (λ (h : ℕ). h - countBelow (outFirst (U .bench .words) (logFront U)) N) (handouts-same U) ∙ ap (λ (d : ℕ). countsOf U .handouts - d) (different-same U)

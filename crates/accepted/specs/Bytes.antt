@@ -23,4 +23,4 @@ RunsJudged =
     FromFresh
     (λ W. (cs : List Call) → FewPuts W cs
     → (log list : List ℕ) → Encodes log (logFront (after W cs)) → Encodes list (stored (after W cs)) → length log ≤ 65536
-    → judged log list ≡ Accepted (countsOf (after W cs) .handouts) (countsOf (after W cs) .handouts - countsOf (after W cs) .different))
+    → judged (W .bench .words) log list ≡ Accepted (countsOf (after W cs) .handouts) (countsOf (after W cs) .handouts - countsOf (after W cs) .different))

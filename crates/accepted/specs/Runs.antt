@@ -25,4 +25,4 @@ abbrev pub RunsAccepted : Type 0
 RunsAccepted =
     FromFresh
     (λ W. (cs : List Call) → FewPuts W cs
-    → accepts (logFront (after W cs)) (entriesIn (after W cs)) (stored (after W cs)) (windowSize (after W cs)) ≡ true)
+    → accepts (W .bench .words) (logFront (after W cs)) (entriesIn (after W cs)) (stored (after W cs)) (windowSize (after W cs)) ≡ true)

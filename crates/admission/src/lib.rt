@@ -1,9 +1,9 @@
-// What fresh and begin admit: the ranges of fresh's four numbers, who may begin what, and whether a put number is left.
+// What fresh and begin admit: the ranges of fresh's five numbers, who may begin what, and whether a put number is left.
 // Uses `model`. It is used by `limits` and `opening`.
 ghost use mathlib.Core.Path.{_≡_};
 ghost use lib.Dec.{ltb, leb};
 ghost use Rattle.model.specs.Tests.{_and_};
-ghost use Rattle.model.specs.Limits.{isSize, widthOk, crewOk};
+ghost use Rattle.model.specs.Limits.{isSize, widthOk, crewOk, wordsOk};
 ghost use Rattle.model.specs.Calls.{kindOf, rightHand, numbersLeft};
 use model::Kind;
 use model::Operation;
@@ -46,6 +46,13 @@ pub fn crew_ok(crew: u32) -> bool
     ensures { λ r. ⌜ r ≡ crewOk crew ⌝ }
 {
     0 < crew && crew <= 8
+}
+
+// The payload words of a task.
+pub fn words_ok(words: u32) -> bool
+    ensures { λ r. ⌜ r ≡ wordsOk words ⌝ }
+{
+    0 < words && words <= 4
 }
 
 // The owner puts and takes, a thief steals.

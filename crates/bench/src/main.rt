@@ -83,7 +83,7 @@ fn play_some(
 ) -> Turn
     requires { ⌜ n ≤ length (now buf) ⌝ }
     requires { ⌜ Reachable (programOf session (now store) (now log)) ⌝ }
-    ensures { λ r. ⌜ (r .have ≤ 61) × (r .have ≤ length (now (buf .exit))) ⌝ }
+    ensures { λ r. ⌜ (r .have ≤ 72) × (r .have ≤ length (now (buf .exit))) ⌝ }
     ensures { λ r. ⌜ (r .goes ≡ true → Reachable (programOf (r .session) (now (store .exit)) (now (log .exit)))) ⌝ }
 {
     let mut current = session;
@@ -120,7 +120,7 @@ fn play_some(
 
 // Plays the input on the program's own store and log, as the definition of its listing has them.
 fn run(buf: &mut [u8], store: &mut [u32], log: &mut [u32], out: &mut [u8])
-    requires { ⌜ 61 < length (now buf) ⌝ }
+    requires { ⌜ 72 < length (now buf) ⌝ }
     requires { ⌜ (now store ≡ programStore) × (now log ≡ programLog) ⌝ }
 {
     let mut session = replies::start();
@@ -145,7 +145,7 @@ fn run(buf: &mut [u8], store: &mut [u32], log: &mut [u32], out: &mut [u8])
 }
 
 fn main() {
-    let mut store = [0u32; 4094];
+    let mut store = [0u32; 10235];
     let mut log = [0u32; 16384];
     let mut buf = [0u8; 65536];
     let mut out = [0u8; 65536];

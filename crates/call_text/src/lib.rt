@@ -1,8 +1,10 @@
 // The text of a list of library calls: a line's bytes read as what it asks for, and an answer's words written as a line. The form is
 // in docs/CALLS.md. What is proved is that text is read and written safely; what it means is compared with the second simulator.
-// Uses `text`. It is used by `calls`.
+// Uses `model` and `text`. It is used by `calls`.
+ghost use mathlib.Core.Path.{_≡_};
 ghost use Prim.Native.Nat.{_+_, _≤_, _<_};
 ghost use lib.ListN.{length};
+use model::Payload;
 use text::Value;
 
 // What a bench is asked for: to be made anew, a call made so many times (operation, worker and payload as `plays` has them), or to
@@ -15,11 +17,12 @@ pub enum Request {
         width: u32,
         size: u32,
         workers: u32,
+        words: u32,
     },
     Calls {
         operation: u32,
         worker: u32,
-        payload: u32,
+        payload: Payload,
         times: u32,
     },
 }
@@ -43,13 +46,13 @@ enum Key {
 // The numbers of a line. The count is one more than a line may have where there are more, or where a word is no number.
 struct Values {
     count: usize,
-    v: [u32; 4],
+    v: [u32; 5],
 }
 
-const MANY: usize = 5;
+const MANY: usize = 6;
 
-// The longest line of an answer: H and three numbers. A number with the space before it.
-pub const ANSWER: usize = 35;
+// The longest line of an answer: H and six numbers. A number with the space before it.
+pub const ANSWER: usize = 68;
 
 pub const WORD: usize = 11;
 
@@ -124,10 +127,10 @@ fn numbers(line: &[u8], end: usize) -> Values
     requires { ⌜ end ≤ length (now line) ⌝ }
 {
     let mut at = end;
-    let mut v = [0u32; 4];
+    let mut v = [0u32; 5];
     let mut n = 0;
     while at < line.len() {
-        if n == 4 {
+        if n == 5 {
             return Values { count: MANY, v };
         }
         let from = at + 1;
@@ -143,7 +146,7 @@ fn numbers(line: &[u8], end: usize) -> Values
 }
 
 // The keyword with as many numbers as it takes, those with a range within it.
-fn form(key: Key, count: usize, v: [u32; 4]) -> ListLine {
+fn form(key: Key, count: usize, v: [u32; 5]) -> ListLine {
     match key {
         Key::Other => ListLine::Bad,
         Key::Memory => {
@@ -162,7 +165,7 @@ fn form(key: Key, count: usize, v: [u32; 4]) -> ListLine {
             }
         }
         Key::Fresh => {
-            if count != 4 {
+            if count != 5 {
                 return ListLine::Bad;
             }
             ListLine::Asks {
@@ -171,6 +174,7 @@ fn form(key: Key, count: usize, v: [u32; 4]) -> ListLine {
                     width: v[1],
                     size: v[2],
                     workers: v[3],
+                    words: v[4],
                 },
             }
         }
@@ -182,7 +186,7 @@ fn form(key: Key, count: usize, v: [u32; 4]) -> ListLine {
                 asked: Request::Calls {
                     operation: 0,
                     worker: v[0],
-                    payload: 0,
+                    payload: payload_of(0, 0, 0, 0),
                     times: v[1],
                 },
             }
@@ -203,6 +207,15 @@ fn form(key: Key, count: usize, v: [u32; 4]) -> ListLine {
                 asked: Request::State,
             }
         }
+    }
+}
+
+fn payload_of(first: u32, second: u32, third: u32, fourth: u32) -> Payload {
+    Payload {
+        first,
+        second,
+        third,
+        fourth,
     }
 }
 
@@ -230,22 +243,28 @@ fn begin(line: &[u8], end: usize) -> ListLine
     begun(operation, worker, count, v)
 }
 
-fn begun(operation: u32, worker: u32, count: usize, v: [u32; 4]) -> ListLine {
+// A put has one to four words; those that it has not are 0.
+fn begun(operation: u32, worker: u32, count: usize, v: [u32; 5]) -> ListLine {
     if operation == 0 {
         return ListLine::Bad;
     }
-    let mut payloads = 0;
+    let mut fewest = 0;
+    let mut most = 0;
     if operation == 1 {
-        payloads = 1;
+        fewest = 1;
+        most = 4;
     }
-    if count != payloads {
+    if count < fewest {
+        return ListLine::Bad;
+    }
+    if most < count {
         return ListLine::Bad;
     }
     ListLine::Asks {
         asked: Request::Calls {
             operation,
             worker,
-            payload: v[0],
+            payload: payload_of(v[0], v[1], v[2], v[3]),
             times: 1,
         },
     }
@@ -264,25 +283,25 @@ pub fn parse(line: &[u8]) -> ListLine {
 }
 
 fn bare(out: &mut [u8], at: usize, letter: u8) -> usize
-    requires { ⌜ at + 35 ≤ length (now out) ⌝ }
-    ensures { λ r. ⌜ r ≤ at + 35 ⌝ }
+    requires { ⌜ at + 68 ≤ length (now out) ⌝ }
+    ensures { λ r. ⌜ r ≤ at + 68 ⌝ }
 {
     out[at] = letter;
     out[at + 1] = b'\n';
     at + 2
 }
 
-// A letter and up to three numbers.
+// A letter and up to six numbers.
 fn print(out: &mut [u8], at: usize, letter: u8, v: &[u32]) -> usize
-    requires { ⌜ (at + 35 ≤ length (now out)) × (length (now v) ≤ 3) ⌝ }
-    ensures { λ r. ⌜ r ≤ at + 35 ⌝ }
+    requires { ⌜ (at + 68 ≤ length (now out)) × (length (now v) ≤ 6) ⌝ }
+    ensures { λ r. ⌜ r ≤ at + 68 ⌝ }
 {
     text::print(out, at, letter, v)
 }
 
 fn one(out: &mut [u8], at: usize, letter: u8, n: u32) -> usize
-    requires { ⌜ at + 35 ≤ length (now out) ⌝ }
-    ensures { λ r. ⌜ r ≤ at + 35 ⌝ }
+    requires { ⌜ at + 68 ≤ length (now out) ⌝ }
+    ensures { λ r. ⌜ r ≤ at + 68 ⌝ }
 {
     let v = [n];
     print(out, at, letter, &v)
@@ -290,8 +309,8 @@ fn one(out: &mut [u8], at: usize, letter: u8, n: u32) -> usize
 
 // An answer that ends no operation.
 fn show_other(out: &mut [u8], at: usize, which: u32, number: u32) -> usize
-    requires { ⌜ at + 35 ≤ length (now out) ⌝ }
-    ensures { λ r. ⌜ r ≤ at + 35 ⌝ }
+    requires { ⌜ at + 68 ≤ length (now out) ⌝ }
+    ensures { λ r. ⌜ r ≤ at + 68 ⌝ }
 {
     match which {
         0 => bare(out, at, b'G'),
@@ -301,17 +320,29 @@ fn show_other(out: &mut [u8], at: usize, which: u32, number: u32) -> usize
     }
 }
 
-// Puts the line of an answer's four words into the output from `at` on, and answers where it ends.
-pub fn show(out: &mut [u8], at: usize, kind: u32, worker: u32, number: u32, payload: u32) -> usize
-    requires { ⌜ at + 35 ≤ length (now out) ⌝ }
-    ensures { λ r. ⌜ r ≤ at + 35 ⌝ }
+// A hand-out: the worker, the number, and the payload's words, of which there are `words`.
+fn show_out(out: &mut [u8], at: usize, words: u32, answer: &[u32]) -> usize
+    requires { ⌜ (at + 68 ≤ length (now out)) × (length (now answer) ≡ 7) ⌝ }
+    ensures { λ r. ⌜ r ≤ at + 68 ⌝ }
 {
-    match kind {
+    if words < 4 {
+        let end = 3 + words as usize;
+        return print(out, at, b'H', &answer[1..end]);
+    }
+    print(out, at, b'H', &answer[1..7])
+}
+
+// Puts the line of an answer's words (a log entry's, with four of a payload) into the output from `at` on, and answers where it ends. Of a
+// payload it shows `words`.
+pub fn show(out: &mut [u8], at: usize, words: u32, answer: &[u32]) -> usize
+    requires { ⌜ (at + 68 ≤ length (now out)) × (length (now answer) ≡ 7) ⌝ }
+    ensures { λ r. ⌜ r ≤ at + 68 ⌝ }
+{
+    let worker = answer[1];
+    let number = answer[2];
+    match answer[0] {
         1 => one(out, at, b'D', number),
-        2 => {
-            let v = [worker, number, payload];
-            print(out, at, b'H', &v)
-        }
+        2 => show_out(out, at, words, answer),
         3 => one(out, at, b'E', worker),
         4 => one(out, at, b'F', number),
         _ => show_other(out, at, worker, number),

@@ -7,6 +7,7 @@ ghost use lib.ListN.{length};
 use call_text::ListLine;
 use call_text::Request;
 use libc::STDIN_FILENO;
+use model::Payload;
 use output::Text;
 use queues::Bench;
 
@@ -99,12 +100,15 @@ fn read_more(buf: &mut [u8], have: usize) -> Input
 }
 
 // A call, again and again.
-fn fill_calls(calls: &mut [u32], operation: u32, worker: u32, payload: u32) {
+fn fill_calls(calls: &mut [u32], operation: u32, worker: u32, payload: Payload) {
     let mut at = 0;
     while plays::CALL <= calls.len() - at {
         calls[at] = operation;
         calls[at + 1] = worker;
-        calls[at + 2] = payload;
+        calls[at + 2] = payload.first;
+        calls[at + 3] = payload.second;
+        calls[at + 4] = payload.third;
+        calls[at + 5] = payload.fourth;
         at += plays::CALL;
     }
 }
@@ -118,14 +122,15 @@ fn make_some(
     text: Text,
     out: &mut [u8],
 ) -> After
-    requires { ⌜ (text .end ≤ length (now out)) × (35 ≤ length (now out)) ⌝ }
+    requires { ⌜ (text .end ≤ length (now out)) × (68 ≤ length (now out)) ⌝ }
     ensures { λ r. ⌜ r .text .end ≤ length (now (out .exit)) ⌝ }
 {
-    let mut answers = [0u32; 128];
+    let mut answers = [0u32; 224];
     let run = plays::play(bench, calls, store, log, &mut answers);
     let made = run.made * plays::ANSWER;
-    let shown = output::show_answers(text, &answers[..made], out);
     let next = run.bench;
+    let state = next.state;
+    let shown = output::show_answers(text, state.words, &answers[..made], out);
     After {
         bench: next,
         text: shown,
@@ -142,8 +147,8 @@ fn make_calls(
     text: Text,
     out: &mut [u8],
 ) -> After
-    requires { ⌜ (text .end ≤ length (now out)) × (35 ≤ length (now out)) ⌝ }
-    requires { ⌜ 96 ≤ length (now calls) ⌝ }
+    requires { ⌜ (text .end ≤ length (now out)) × (68 ≤ length (now out)) ⌝ }
+    requires { ⌜ 192 ≤ length (now calls) ⌝ }
     ensures { λ r. ⌜ r .text .end ≤ length (now (out .exit)) ⌝ }
 {
     let mut made = After { bench, text };
@@ -170,7 +175,7 @@ fn ask(
     text: Text,
     out: &mut [u8],
 ) -> After
-    requires { ⌜ (text .end ≤ length (now out)) × (35 ≤ length (now out)) ⌝ }
+    requires { ⌜ (text .end ≤ length (now out)) × (68 ≤ length (now out)) ⌝ }
     ensures { λ r. ⌜ r .text .end ≤ length (now (out .exit)) ⌝ }
 {
     match asked {
@@ -187,17 +192,19 @@ fn ask(
             width,
             size,
             workers,
+            words,
         } => {
             let setup = model::Setup {
                 kind,
                 width,
                 size,
                 crew: workers,
+                words,
             };
             let made = Bench::fresh(setup, store);
             let answer = made.answer;
-            let words = plays::words_of(answer);
-            let shown = output::show_answers(text, &words, out);
+            let said = plays::words_of(answer);
+            let shown = output::show_answers(text, words, &said, out);
             let next = made.bench;
             After {
                 bench: next,
@@ -210,7 +217,7 @@ fn ask(
             payload,
             times,
         } => {
-            let mut calls = [0u32; 96];
+            let mut calls = [0u32; 192];
             fill_calls(&mut calls, operation, worker, payload);
             make_calls(bench, &calls, times, store, log, text, out)
         }
@@ -253,7 +260,7 @@ fn play_line(
     text: Text,
     out: &mut [u8],
 ) -> Turn
-    requires { ⌜ (text .end ≤ length (now out)) × (35 ≤ length (now out)) ⌝ }
+    requires { ⌜ (text .end ≤ length (now out)) × (68 ≤ length (now out)) ⌝ }
     ensures { λ r. ⌜ r .text .end ≤ length (now (out .exit)) ⌝ }
 {
     match line {
@@ -310,7 +317,7 @@ fn play_line(
 
 // Plays the lines that end in the buffer. A line without an end that is longer than any of the form has none.
 fn play_lines(game: Game, buf: &[u8], store: &mut [u32], log: &mut [u32], out: &mut [u8]) -> Lines
-    requires { ⌜ 35 ≤ length (now out) ⌝ }
+    requires { ⌜ 68 ≤ length (now out) ⌝ }
     ensures { λ r. ⌜ (r .text .end ≤ length (now (out .exit))) × (r .used ≤ length (now (buf .entry))) ⌝ }
 {
     let mut current = game;
@@ -372,7 +379,7 @@ fn play_some(
     log: &mut [u32],
     out: &mut [u8],
 ) -> Next
-    requires { ⌜ (have < length (now buf)) × (35 ≤ length (now out)) ⌝ }
+    requires { ⌜ (have < length (now buf)) × (68 ≤ length (now out)) ⌝ }
     ensures { λ r. ⌜ r .have ≤ 64 ⌝ }
 {
     let input = read_more(buf, have);
@@ -396,7 +403,7 @@ fn play_some(
 }
 
 fn run(buf: &mut [u8], store: &mut [u32], log: &mut [u32], out: &mut [u8])
-    requires { ⌜ (64 < length (now buf)) × (35 ≤ length (now out)) ⌝ }
+    requires { ⌜ (64 < length (now buf)) × (68 ≤ length (now out)) ⌝ }
 {
     // a refused fresh: no bench
     let nothing = model::Setup {
@@ -404,6 +411,7 @@ fn run(buf: &mut [u8], store: &mut [u32], log: &mut [u32], out: &mut [u8])
         width: 0,
         size: 0,
         crew: 0,
+        words: 0,
     };
     let none = Bench::fresh(nothing, store);
     let bench = none.bench;

@@ -43,7 +43,7 @@ fn room(text: Text, need: usize, out: &[u8]) -> Text
 }
 
 fn show_byte(text: Text, byte: u8, out: &mut [u8]) -> Text
-    requires { ⌜ (text .end ≤ length (now out)) × (35 ≤ length (now out)) ⌝ }
+    requires { ⌜ (text .end ≤ length (now out)) × (68 ≤ length (now out)) ⌝ }
     ensures { λ r. ⌜ r .end ≤ length (now (out .exit)) ⌝ }
 {
     let free = room(text, 1, out);
@@ -55,20 +55,14 @@ fn show_byte(text: Text, byte: u8, out: &mut [u8]) -> Text
     }
 }
 
-// The line of an answer's four words.
-fn show_answer(
-    text: Text,
-    kind: u32,
-    worker: u32,
-    number: u32,
-    payload: u32,
-    out: &mut [u8],
-) -> Text
-    requires { ⌜ (text .end ≤ length (now out)) × (35 ≤ length (now out)) ⌝ }
+// The line of an answer's words, of a bench with so many payload words.
+fn show_answer(text: Text, words: u32, answer: &[u32], out: &mut [u8]) -> Text
+    requires { ⌜ (text .end ≤ length (now out)) × (68 ≤ length (now out)) ⌝ }
+    requires { ⌜ length (now answer) ≡ 7 ⌝ }
     ensures { λ r. ⌜ r .end ≤ length (now (out .exit)) ⌝ }
 {
     let free = room(text, call_text::ANSWER, out);
-    let end = call_text::show(out, free.end, kind, worker, number, payload);
+    let end = call_text::show(out, free.end, words, answer);
     Text {
         end,
         good: free.good,
@@ -76,29 +70,23 @@ fn show_answer(
 }
 
 // The lines of answers.
-pub fn show_answers(text: Text, answers: &[u32], out: &mut [u8]) -> Text
-    requires { ⌜ (text .end ≤ length (now out)) × (35 ≤ length (now out)) ⌝ }
+pub fn show_answers(text: Text, words: u32, answers: &[u32], out: &mut [u8]) -> Text
+    requires { ⌜ (text .end ≤ length (now out)) × (68 ≤ length (now out)) ⌝ }
     ensures { λ r. ⌜ r .end ≤ length (now (out .exit)) ⌝ }
 {
     let mut shown = text;
     let mut at = 0;
     while plays::ANSWER <= answers.len() - at {
-        shown = show_answer(
-            shown,
-            answers[at],
-            answers[at + 1],
-            answers[at + 2],
-            answers[at + 3],
-            out,
-        );
-        at += plays::ANSWER;
+        let next = at + plays::ANSWER;
+        shown = show_answer(shown, words, &answers[at..next], out);
+        at = next;
     }
     shown
 }
 
 // Numbers of a line of many.
 pub fn show_words(text: Text, words: &[u32], out: &mut [u8]) -> Text
-    requires { ⌜ (text .end ≤ length (now out)) × (35 ≤ length (now out)) ⌝ }
+    requires { ⌜ (text .end ≤ length (now out)) × (68 ≤ length (now out)) ⌝ }
     ensures { λ r. ⌜ r .end ≤ length (now (out .exit)) ⌝ }
 {
     let mut shown = text;
@@ -116,7 +104,7 @@ pub fn show_words(text: Text, words: &[u32], out: &mut [u8]) -> Text
 }
 
 pub fn show_front(text: Text, bench: Bench, log: &[u32], out: &mut [u8]) -> Text
-    requires { ⌜ (text .end ≤ length (now out)) × (35 ≤ length (now out)) ⌝ }
+    requires { ⌜ (text .end ≤ length (now out)) × (68 ≤ length (now out)) ⌝ }
     ensures { λ r. ⌜ r .end ≤ length (now (out .exit)) ⌝ }
 {
     let mut shown = show_byte(text, b'L', out);
@@ -126,7 +114,7 @@ pub fn show_front(text: Text, bench: Bench, log: &[u32], out: &mut [u8]) -> Text
 
 // The anchor, how many arrays are published and how many claimed, and offset and length of each of those.
 fn show_queue(text: Text, queue: model::Queue, out: &mut [u8]) -> Text
-    requires { ⌜ (text .end ≤ length (now out)) × (35 ≤ length (now out)) ⌝ }
+    requires { ⌜ (text .end ≤ length (now out)) × (68 ≤ length (now out)) ⌝ }
     ensures { λ r. ⌜ r .end ≤ length (now (out .exit)) ⌝ }
 {
     let anchor = queue.anchor;
@@ -151,11 +139,12 @@ fn show_queue(text: Text, queue: model::Queue, out: &mut [u8]) -> Text
 
 // What is shared, in the order that the form gives. A crew of 0 is no bench.
 pub fn show_state(text: Text, state: model::Bench, store: &[u32], out: &mut [u8]) -> Text
-    requires { ⌜ (text .end ≤ length (now out)) × (35 ≤ length (now out)) ⌝ }
+    requires { ⌜ (text .end ≤ length (now out)) × (68 ≤ length (now out)) ⌝ }
     ensures { λ r. ⌜ r .end ≤ length (now (out .exit)) ⌝ }
 {
     if state.crew == 0 {
-        return show_answer(text, 0, 3, 12, 0, out);
+        let foreign = [0, 3, 12, 0, 0, 0, 0];
+        return show_answer(text, 1, &foreign, out);
     }
     let counts = [state.used, state.written, state.restarts];
     let mut shown = show_byte(text, b'S', out);

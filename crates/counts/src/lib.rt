@@ -70,18 +70,17 @@ fn window_index(kind: Kind, anchor: Anchor, i: u32) -> u64
 }
 
 // The model's remainder by 0 is the index itself.
-fn remainder(index: u64, size: u32) -> u64
+fn remainder(index: u64, size: u64) -> u64
     ensures { λ r. ⌜ r ≡ index % size ⌝ }
 {
     if size == 0 {
         return index;
     }
-    let n = size as u64;
-    index % n
+    index % size
 }
 
 // The slot of an index in an array of `size` tasks.
-fn slot_of(kind: Kind, size: u32, index: u64) -> u64
+fn slot_of(kind: Kind, size: u64, index: u64) -> u64
     ensures { λ r. ⌜ Slot kind size index r ⌝ }
 {
     match kind {
@@ -92,33 +91,34 @@ fn slot_of(kind: Kind, size: u32, index: u64) -> u64
 }
 
 // The window's i-th task, in the array at this pair of the directory.
-fn window_task(kind: Kind, anchor: Anchor, array: Region, store: &[u32], i: u32) -> Task
-    ensures { λ r. ⌜ r ≡ windowTask kind anchor array (now (store .entry)) i ⌝ }
+fn window_task(kind: Kind, words: u32, anchor: Anchor, array: Region, store: &[u32], i: u32) -> Task
+    ensures { λ r. ⌜ r ≡ windowTask kind words anchor array (now (store .entry)) i ⌝ }
 {
     let index = window_index(kind, anchor, i);
-    let slot = slot_of(kind, array.length / 2, index);
+    let each = words as u64 + 1;
+    let long = array.length as u64;
+    let slot = slot_of(kind, long / each, index);
     let offset = array.offset as u64;
-    let at = offset + 2 * slot;
-    let number = handouts::word_at(store, at);
-    let payload = handouts::word_at(store, at + 1);
-    Task { number, payload }
+    let start = handouts::start_of(each, slot);
+    handouts::task_from(words, store, offset + start)
 }
 
 // One of the window's first `n` tasks is this one.
 fn stands_below(
     kind: Kind,
+    words: u32,
     anchor: Anchor,
     array: Region,
     store: &[u32],
     task: Task,
     n: u32,
 ) -> bool
-    ensures { λ r. ⌜ r ≡ someBelow (stands kind anchor array (now (store .entry)) task) n ⌝ }
+    ensures { λ r. ⌜ r ≡ someBelow (stands kind words anchor array (now (store .entry)) task) n ⌝ }
 {
     let mut j = n;
     while 0 < j {
         let k = j - 1;
-        let t = window_task(kind, anchor, array, store, k);
+        let t = window_task(kind, words, anchor, array, store, k);
         let hit = handouts::same_task(t, task);
         if hit {
             return true;
@@ -145,6 +145,7 @@ fn in_window(bench: Bench, store: &[u32], task: Task, from: &mut u32) -> bool
         ⌜ r ≡ someBelow (standsAt (lent bench (now (store .entry)) []) task) (windowSize (lent bench (now (store .entry)) [])) ⌝ }
 {
     let kind = bench.kind;
+    let words = bench.words;
     let queue = bench.queue;
     let anchor = queue.anchor;
     let array = current(queue);
@@ -152,7 +153,7 @@ fn in_window(bench: Bench, store: &[u32], task: Task, from: &mut u32) -> bool
     let start = least(*from, n);
     let mut j = start;
     while j < n {
-        let t = window_task(kind, anchor, array, store, j);
+        let t = window_task(kind, words, anchor, array, store, j);
         let hit = handouts::same_task(t, task);
         let next = j + 1;
         if hit {
@@ -161,7 +162,7 @@ fn in_window(bench: Bench, store: &[u32], task: Task, from: &mut u32) -> bool
         }
         j = next;
     }
-    stands_below(kind, anchor, array, store, task, start)
+    stands_below(kind, words, anchor, array, store, task, start)
 }
 
 // Of `n` entries, entry `entry` is a finished put that none hands out and no slot of the window holds.
@@ -174,13 +175,14 @@ fn is_lost(
     n: u32,
     entry: u32,
 ) -> bool
-    requires { ⌜ Seen (now log) (now seen) n ⌝ }
+    requires { ⌜ Seen (bench .words) (now log) (now seen) n ⌝ }
     ensures { λ r. ⌜ r ≡ isLost (lent bench (now (store .entry)) (now (log .entry))) n entry ⌝ }
 {
-    let finished = handouts::is_kind(log, 1, entry);
+    let words = bench.words;
+    let finished = handouts::is_kind(words, log, 1, entry);
     if finished {
-        let t = handouts::task_at(log, entry);
-        let out = handouts::task_out(log, seen, t, n);
+        let t = handouts::task_at(words, log, entry);
+        let out = handouts::task_out(words, log, seen, t, n);
         if out {
             return false;
         }
@@ -192,7 +194,7 @@ fn is_lost(
 
 // How many finished puts of the first `n` entries are lost.
 fn lost_of(bench: Bench, store: &[u32], log: &[u32], seen: &[u32; 4096], n: u32) -> u32
-    requires { ⌜ Seen (now log) (now seen) n ⌝ }
+    requires { ⌜ Seen (bench .words) (now log) (now seen) n ⌝ }
     ensures { λ r. ⌜ r ≡ countBelow (isLost (lent bench (now (store .entry)) (now (log .entry))) n) n ⌝ }
 {
     let mut from: u32 = 0;
@@ -209,11 +211,14 @@ fn lost_of(bench: Bench, store: &[u32], log: &[u32], seen: &[u32; 4096], n: u32)
 pub fn counts(bench: Bench, store: &[u32], log: &[u32]) -> Counts
     ensures { λ r. ⌜ r ≡ countsOf (lent bench (now (store .entry)) (now (log .entry))) ⌝ }
 {
-    let n = bench.written / 4;
-    let finished = handouts::entries_of(log, 1, n);
-    let handouts = handouts::entries_of(log, 2, n);
+    let words = bench.words;
+    let each = 3 + words as u64;
+    let all = bench.written as u64;
+    let n = (all / each) as u32;
+    let finished = handouts::entries_of(words, log, 1, n);
+    let handouts = handouts::entries_of(words, log, 2, n);
     let mut seen = [0u32; 4096];
-    let different = handouts::different_out(log, &mut seen, n);
+    let different = handouts::different_out(words, log, &mut seen, n);
     let queue = bench.queue;
     let kind = bench.kind;
     let window = window_size(kind, queue.anchor);

@@ -10,14 +10,17 @@ use native.Mathlib.Nat.{sub-zero, suc-sub-suc}
 use lib.Dec.{eqb}
 use lib.ListN.{take, drop, replicate}
 use borrow.Author.Tests.{eq-eqb}
+use Rattle.model.specs.declared.Payload.{Payload}
 use Rattle.model.specs.declared.Task.{Task}
 use Rattle.model.specs.declared.Operation.the-variants.{Put, Take, Steal}
 use Rattle.model.specs.declared.Answer.{Answer}
 use Rattle.model.specs.declared.Answer.the-variants.{Accepted, Numbered, GoesOn, Finished, HandedOut, Empty, Full, Refused}
 use Rattle.model.proofs.Tests.{and-both, or-false}
 use Rattle.model.specs.Tests.{if_then_else_, _and_, _or_}
-use Rattle.model.specs.Memory.{zeros, wordAt, setWord, offsetAt, sizeAt}
-use Rattle.model.specs.Answers.{task}
+use Rattle.model.specs.Memory.{zeros, wordAt, setWord, offsetAt, lengthAt, sizeAt}
+use Rattle.model.specs.Tasks.{payload, task, wordIn, withWord, gathered, firstWords, sameTask}
+use Rattle.model.proofs.Tasks.{task-same}
+use Rattle.model.proofs.Runs.{one}
 use Rattle.model.specs.Figures.{anchor}
 use Rattle.model.specs.Lines.{lineStep}
 use Rattle.model.specs.World.{World, lineAt}
@@ -27,6 +30,7 @@ use Rattle.model.specs.Run.{Played, played, after}
 use Rattle.model.specs.Window.{windowSize}
 use Rattle.theorems.specs.Demand3.{At, Begins, Line1, Attempt, Out, AllOut, Stands, puts, between, Few, FewPuts, Demand3}
 use Rattle.premise.specs.Premise.{Loses}
+use Rattle.premise.proofs.Rounds.{short}
 use Rattle.premise.proofs.WidestTag.{puts-drop, puts-take}
 use Rattle.theorems.proofs.Events.{is-line-1}
 use Rattle.theorems.proofs.NothingLost.{demand3}
@@ -38,7 +42,7 @@ isOut t Accepted = false
 isOut t (Numbered n) = false
 isOut t GoesOn = false
 isOut t (Finished i u) = false
-isOut t (HandedOut i u) = eqb (u .number) (t .number) and eqb (u .payload) (t .payload)
+isOut t (HandedOut i u) = sameTask u t
 isOut t (Empty i) = false
 isOut t (Full i u) = false
 isOut t (Refused r) = false
@@ -50,14 +54,14 @@ anyOut t (s ∷ T) = isOut t (s .answer) or anyOut t T
 not-both : {a : Bool} → a ≡ true → a ≡ false → ⊥
 not-both p q = true≢false (sym p ∙ q)
 
-out-yes : (t : Task) (a : Answer) (i : ℕ) (u : Task) → a ≡ HandedOut i u → u .number ≡ t .number → u .payload ≡ t .payload → isOut t a ≡ true
+out-yes : (t : Task) (a : Answer) (i : ℕ) → a ≡ HandedOut i t → isOut t a ≡ true
 unfolding isOut
-out-yes t a i u e n p = ap (isOut t) e ∙ and-both _ _ (eq-eqb _ _ n) (eq-eqb _ _ p)
+out-yes t a i e = ap (isOut t) e ∙ task-same t t refl
 
 none-out : (t : Task) (T : List Played) → anyOut t T ≡ false → (k : ℕ) → Out T k t → ⊥
 unfolding anyOut
 none-out t [] f k a = a
-none-out t (s ∷ T) f zero (i, u, e, b) = not-both (out-yes t (s .answer) i u e (b .0) (b .1)) (or-false (isOut t (s .answer)) _ f .0)
+none-out t (s ∷ T) f zero (i, e) = not-both (out-yes t (s .answer) i e) (or-false (isOut t (s .answer)) _ f .0)
 none-out t (s ∷ T) f (suc k) a = none-out t T (or-false (isOut t (s .answer)) _ f .1) k a
 
 -- no call of a part is a line 1 of worker i
@@ -106,20 +110,20 @@ does (begin i op) = begin i op ∷ replicate 5 (step i)
 does (step i) = step i ∷ []
 
 unfoldable pub p1 : List Call
-p1 = does (begin 0 (Put 65)) ++ does (begin 1 Steal) ++ does (begin 0 Take) ++ does (begin 0 (Put 66)) ++ does (begin 0 Take) ++ does (begin 0 (Put 67)) ++ step 1 ∷ []
+p1 = does (begin 0 (Put (one 65))) ++ does (begin 1 Steal) ++ does (begin 0 Take) ++ does (begin 0 (Put (one 66))) ++ does (begin 0 Take) ++ does (begin 0 (Put (one 67))) ++ step 1 ∷ []
 
 unfoldable pub bench : ℕ → ℕ → World
-bench w n = freshOf (setup 1 w 2 n) (replicate 12 0) (replicate 64 0) .world
+bench w n = freshOf (setup 1 w 2 n 1) (replicate 12 0) (replicate 64 0) .world
 
 -- P1: the thief's line 1 is at place 7, its compare at place 36; 2 = 2^1 puts finish between, and put 3 is lost
 pub p1-loses : Loses (bench 1 2) p1 2
-unfolding bench p1 does anyOut isOut anyStart startsAttempt isStep played after freshOf beginOf stepOf validOf lineStep zeros wordAt setWord offsetAt sizeAt if_then_else_ _and_ _or_
+unfolding bench p1 does anyOut isOut anyStart startsAttempt isStep played after freshOf beginOf stepOf validOf lineStep zeros wordAt setWord offsetAt lengthAt sizeAt gathered wordIn withWord if_then_else_ _and_ _or_
 p1-loses =
     record {
       thief = 1;
       line1 = 7;
       compare = 36;
-      compares = (anchor 0 1 1, 0, task 1 65, (refl, refl, λ r e. let z : _≡_ {A = ℕ} 0 1 = cc in omega arith));
+      compares = (anchor 0 1 1, 0, short 1 65, (refl, refl, λ r e. let z : _≡_ {A = ℕ} 0 1 = cc in omega arith));
       attempt =
           record {
             before = omega arith;
@@ -129,24 +133,24 @@ p1-loses =
       puts-between = refl;
       begun = 30;
       finished = 35;
-      task = task 3 67;
-      done = record { begun = (refl, refl); later = omega arith; finished = (0, refl) };
-      not-handed-out = none-out (task 3 67) (played (bench 1 2) p1) refl;
+      task = short 3 67;
+      done = record { begun = (3, one 67, refl, refl, refl); later = omega arith; finished = (0, refl) };
+      not-handed-out = none-out (short 3 67) (played (bench 1 2) p1) refl;
       not-standing = λ s. let z : windowSize (after (bench 1 2) p1) ≡ 0 = refl in omega (arith, s .1);
     }
 
 pub p1-breaks-premise : FewPuts (bench 1 2) p1 → ⊥
-unfolding p1-loses bench p1 does played freshOf beginOf stepOf validOf lineStep zeros wordAt setWord offsetAt sizeAt if_then_else_ _and_ _or_
+unfolding p1-loses bench p1 does played freshOf beginOf stepOf validOf lineStep zeros wordAt setWord offsetAt lengthAt sizeAt gathered wordIn withWord if_then_else_ _and_ _or_
 p1-breaks-premise f = let z : 2 < 2 = f 1 7 36 (p1-loses .compares) (p1-loses .attempt) in omega arith
 
 -- P2: with a tag of 2 bits the compare fails, and put 3 stands in the window
-pub p2-stands : Stands (after (bench 2 2) p1) (task 3 67)
-unfolding bench p1 does after freshOf beginOf stepOf validOf lineStep zeros wordAt setWord offsetAt sizeAt if_then_else_ _and_ _or_
-p2-stands = (0, omega arith, refl, refl)
+pub p2-stands : Stands (after (bench 2 2) p1) (short 3 67)
+unfolding bench p1 does after freshOf beginOf stepOf validOf lineStep zeros wordAt setWord offsetAt lengthAt sizeAt gathered wordIn withWord if_then_else_ _and_ _or_
+p2-stands = (0, omega arith, refl)
 
 -- P2 keeps the premise: three puts finish in all, and it takes four to break it
 p2-puts : puts (played (bench 2 2) p1) ≡ 3
-unfolding bench p1 does played freshOf beginOf stepOf validOf lineStep zeros wordAt setWord offsetAt sizeAt if_then_else_ _and_ _or_
+unfolding bench p1 does played freshOf beginOf stepOf validOf lineStep zeros wordAt setWord offsetAt lengthAt sizeAt gathered wordIn withWord if_then_else_ _and_ _or_
 p2-puts = refl
 
 p2-few : (d : ℕ) → d ≤ 3 → Few (bench 2 2 .bench .kind) (bench 2 2 .bench .width) d
@@ -163,52 +167,54 @@ p2-keeps-premise i l j x a =
     ))
 
 -- so demand 3 holds of it, not emptily
-p2-accepted : freshOf (setup 1 2 2 2) (replicate 12 0) (replicate 64 0) .answer ≡ Accepted
+p2-accepted : freshOf (setup 1 2 2 2 1) (replicate 12 0) (replicate 64 0) .answer ≡ Accepted
 unfolding freshOf if_then_else_ _and_ _or_
 p2-accepted = refl
 
 pub p2-holds : Demand3 (bench 2 2) p1
 unfolding bench
-p2-holds = demand3 (setup 1 2 2 2) (replicate 12 0) (replicate 64 0) p2-accepted p1 p2-keeps-premise
+p2-holds = demand3 (setup 1 2 2 2 1) (replicate 12 0) (replicate 64 0) p2-accepted p1 p2-keeps-premise
 
 -- thief 2 reads put 3's number before thief 1's compare loses it, and put 5's payload after two more puts
 unfoldable pub mixed : List Call
 mixed =
-    does (begin 0 (Put 65)) ++ does (begin 1 Steal) ++ does (begin 0 Take) ++ does (begin 0 (Put 66)) ++ does (begin 0 Take) ++ does (begin 0 (Put 67))
+    does (begin 0 (Put (one 65))) ++ does (begin 1 Steal) ++ does (begin 0 Take) ++ does (begin 0 (Put (one 66))) ++ does (begin 0 Take) ++ does (begin 0 (Put (one 67)))
     ++ (begin 2 Steal ∷ step 2 ∷ step 2 ∷ step 2 ∷ step 2 ∷ step 1 ∷ [])
-    ++ does (begin 0 (Put 68)) ++ does (begin 0 Take) ++ does (begin 0 (Put 69)) ++ step 2 ∷ step 2 ∷ []
+    ++ does (begin 0 (Put (one 68))) ++ does (begin 0 Take) ++ does (begin 0 (Put (one 69))) ++ step 2 ∷ step 2 ∷ []
 
--- KEPT speaks of both words: number 3 is handed out at place 61, put 3's task nowhere
-pub three-out : At (played (bench 1 3) mixed) 61 (λ s. s .answer ≡ HandedOut 2 (task 3 69))
-unfolding bench mixed does played freshOf beginOf stepOf validOf lineStep zeros wordAt setWord offsetAt sizeAt if_then_else_ _and_ _or_
+-- KEPT speaks of all words: number 3 is handed out at place 61, put 3's task nowhere
+pub three-out : At (played (bench 1 3) mixed) 61 (λ s. s .answer ≡ HandedOut 2 (short 3 69))
+unfolding bench mixed does played freshOf beginOf stepOf validOf lineStep zeros wordAt setWord offsetAt lengthAt sizeAt gathered wordIn withWord if_then_else_ _and_ _or_
 three-out = refl
 
 pub not-kept : Demand3 (bench 1 3) mixed → ⊥
-unfolding bench mixed does anyOut isOut played after freshOf beginOf stepOf validOf lineStep zeros wordAt setWord offsetAt sizeAt if_then_else_ _and_ _or_
-not-kept D = go (D .kept 30 35 (task 3 67) (record { begun = (refl, refl); later = omega arith; finished = (0, refl) }))
+unfolding bench mixed does anyOut isOut played after freshOf beginOf stepOf validOf lineStep zeros wordAt setWord offsetAt lengthAt sizeAt gathered wordIn withWord if_then_else_ _and_ _or_
+not-kept D = go (D .kept 30 35 (short 3 67) (record { begun = (3, one 67, refl, refl, refl); later = omega arith; finished = (0, refl) }))
   where
-    go : ((k : ℕ) × Out (played (bench 1 3) mixed) k (task 3 67)) ⊎ Stands (after (bench 1 3) mixed) (task 3 67) → ⊥
-    go (inl (k, o)) = none-out (task 3 67) (played (bench 1 3) mixed) refl k o
+    go : ((k : ℕ) × Out (played (bench 1 3) mixed) k (short 3 67)) ⊎ Stands (after (bench 1 3) mixed) (short 3 67) → ⊥
+    go (inl (k, o)) = none-out (short 3 67) (played (bench 1 3) mixed) refl k o
     go (inr s) = let z : windowSize (after (bench 1 3) mixed) ≡ 0 = refl in omega (arith, s .1)
 
-payload-is : (p q : ℕ) → begin 0 (Put p) ≡ begin 0 (Put q) → p ≡ q
-payload-is p q e = cc
+-- what a begin of a put with one payload word says of its payload
+payload-is : (n x p′ : ℕ) (p : Payload) → begin 0 (Put (one x)) ≡ begin 0 (Put p) → firstWords 2 (task n p) ≡ short 3 p′ → x ≡ p′
+unfolding gathered wordIn
+payload-is n x p′ p e q = let z : one x ≡ p = cc in ap (λ (y : Payload). y .first) z ∙ ap (λ (t : Task). t .payload .first) q
 
--- BELONGS speaks of both words: the pair 3, 69 has the number of one put and the payload of another
+-- BELONGS speaks of all words: the task 3, 69 has the number of one put and the payload of another
 pub not-belongs : Demand3 (bench 1 3) mixed → ⊥
-unfolding bench mixed does played freshOf beginOf stepOf validOf lineStep zeros wordAt setWord offsetAt sizeAt if_then_else_ _and_ _or_
+unfolding bench mixed does played freshOf beginOf stepOf validOf lineStep zeros wordAt setWord offsetAt lengthAt sizeAt gathered wordIn withWord if_then_else_ _and_ _or_
 not-belongs D =
-    let F = D .belongs 61 (task 3 69) (2, task 3 69, refl, (refl, refl)) in
-    let same = D .numbers 30 (F .0) (task 3 67) (task 3 69) (refl, refl) (F .3 .begun) refl in
-    let there : At (played (bench 1 3) mixed) 30 (Begins (task 3 69)) = subst (λ (b : ℕ). At (played (bench 1 3) mixed) b (Begins (task 3 69))) (sym same) (F .3 .begun) in
-    omega (arith, payload-is 67 69 (there .0))
+    let F = D .belongs 61 (short 3 69) (2, refl) in
+    let same = D .numbers 30 (F .0) (short 3 67) (short 3 69) (3, one 67, refl, refl, refl) (F .3 .begun) refl in
+    let there : At (played (bench 1 3) mixed) 30 (Begins (short 3 69)) = subst (λ (b : ℕ). At (played (bench 1 3) mixed) b (Begins (short 3 69))) (sym same) (F .3 .begun) in
+    omega (arith, payload-is (there .0) 67 69 (there .1) (there .2) (there .4))
 
 -- EMPTY speaks of the puts finished by line 1, not of the window: after P1 the window is empty, and put 3 was not handed out
 unfoldable pub p1-take : List Call
 p1-take = p1 ++ begin 0 Take ∷ step 0 ∷ step 0 ∷ []
 
 pub false-empty : Demand3 (bench 1 2) p1-take → ⊥
-unfolding bench p1-take p1 does anyOut isOut played freshOf beginOf stepOf validOf lineStep zeros wordAt setWord offsetAt sizeAt if_then_else_ _and_ _or_
+unfolding bench p1-take p1 does anyOut isOut played freshOf beginOf stepOf validOf lineStep zeros wordAt setWord offsetAt lengthAt sizeAt gathered wordIn withWord if_then_else_ _and_ _or_
 false-empty D = go (D .none-left 39 0 refl)
   where
     T : List Played
@@ -224,5 +230,41 @@ false-empty D = go (D .none-left 39 0 refl)
 
     go : (l : ℕ) × Attempt T 0 l 39 × AllOut T l 39 → ⊥
     go (l, A, all) =
-        let o = all 30 35 (task 3 67) (record { begun = (refl, refl); later = omega arith; finished = (0, refl) }) (first l A) in
-        none-out (task 3 67) T refl (o .0) (o .2)
+        let o = all 30 35 (short 3 67) (record { begun = (3, one 67, refl, refl, refl); later = omega arith; finished = (0, refl) }) (first l A) in
+        none-out (short 3 67) T refl (o .0) (o .2)
+
+-- TWO PAYLOAD WORDS. Word by word an operation has one step more, and a payload's third and fourth word are not used
+unfoldable pub does2 : Call → List Call
+does2 (begin i op) = begin i op ∷ replicate 6 (step i)
+does2 (step i) = step i ∷ []
+
+unfoldable pub bench2 : World
+bench2 = freshOf (setup 1 1 2 3 2) (replicate 18 0) (replicate 64 0) .world
+
+pub cut-stands : Stands (after bench2 (does2 (begin 0 (Put (payload 65 1 8 9))))) (task 1 (payload 65 1 0 0))
+unfolding bench2 does2 played after freshOf beginOf stepOf validOf lineStep zeros wordAt setWord offsetAt lengthAt sizeAt gathered wordIn withWord if_then_else_ _and_ _or_
+cut-stands = (0, omega arith, refl)
+
+-- as above, and thief 2 has read put 3's first payload word too: it is that of put 5, and the second is not
+unfoldable pub mixed2 : List Call
+mixed2 =
+    does2 (begin 0 (Put (payload 65 1 0 0))) ++ does2 (begin 1 Steal) ++ does2 (begin 0 Take) ++ does2 (begin 0 (Put (payload 65 2 0 0)))
+    ++ does2 (begin 0 Take) ++ does2 (begin 0 (Put (payload 65 3 0 0)))
+    ++ (begin 2 Steal ∷ step 2 ∷ step 2 ∷ step 2 ∷ step 2 ∷ step 2 ∷ step 1 ∷ [])
+    ++ does2 (begin 0 (Put (payload 65 4 0 0))) ++ does2 (begin 0 Take) ++ does2 (begin 0 (Put (payload 65 5 0 0))) ++ step 2 ∷ step 2 ∷ []
+
+-- KEPT speaks of the last word too: number 3 and its first payload word are handed out at place 71, put 3's task nowhere
+pub most-out : At (played bench2 mixed2) 71 (λ s. s .answer ≡ HandedOut 2 (task 3 (payload 65 5 0 0)))
+unfolding bench2 mixed2 does2 played after freshOf beginOf stepOf validOf lineStep zeros wordAt setWord offsetAt lengthAt sizeAt gathered wordIn withWord if_then_else_ _and_ _or_
+most-out = refl
+
+pub not-kept2 : Demand3 bench2 mixed2 → ⊥
+unfolding bench2 mixed2 does2 anyOut isOut played after freshOf beginOf stepOf validOf lineStep zeros wordAt setWord offsetAt lengthAt sizeAt gathered wordIn withWord if_then_else_ _and_ _or_
+not-kept2 D = go (D .kept 35 41 third (record { begun = (3, payload 65 3 0 0, refl, refl, refl); later = omega arith; finished = (0, refl) }))
+  where
+    third : Task
+    third = task 3 (payload 65 3 0 0)
+
+    go : ((k : ℕ) × Out (played bench2 mixed2) k third) ⊎ Stands (after bench2 mixed2) third → ⊥
+    go (inl (k, o)) = none-out third (played bench2 mixed2) refl k o
+    go (inr s) = let z : windowSize (after bench2 mixed2) ≡ 0 = refl in omega (arith, s .1)

@@ -8,6 +8,7 @@ use model::Anchor;
 use model::Answer;
 use model::Line;
 use model::Operation;
+use model::Payload;
 use model::Region;
 use model::Setup;
 use model::Task;
@@ -73,17 +74,28 @@ fn report(tried: &[u8], answer: Answer) {
 }
 
 // Each try has memory of its own: a store of 30 words and a log of 8.
-fn try_fresh(tried: &[u8], kind: u32, width: u32, size: u32, crew: u32) {
+fn try_setup(tried: &[u8], kind: u32, width: u32, size: u32, crew: u32, words: u32) {
     let mut store = [0u32; 30];
     let setup = Setup {
         kind,
         width,
         size,
         crew,
+        words,
     };
     let made = Bench::fresh(setup, &mut store);
     let answer = made.answer;
     report(tried, answer);
+}
+
+// With one payload word.
+fn try_fresh(tried: &[u8], kind: u32, width: u32, size: u32, crew: u32) {
+    try_setup(tried, kind, width, size, crew, 1);
+}
+
+// Tasks of so many payload words.
+fn try_words(tried: &[u8], size: u32, words: u32) {
+    try_setup(tried, 1, 4, size, 2, words);
 }
 
 fn begun_on(state: model::Bench, worker: u32, operation: Operation, store: &[u32]) -> Answer {
@@ -113,17 +125,37 @@ fn try_state(tried: &[u8], state: model::Bench) {
 }
 
 // The state that an accepted fresh makes: 2 slots, tags of 4 bits, a crew of 3.
-fn base(kind: u32) -> model::Bench {
+fn base_of(kind: u32, words: u32) -> model::Bench {
     let mut store = [0u32; 30];
     let setup = Setup {
         kind,
         width: 4,
         size: 2,
         crew: 3,
+        words,
     };
     let made = Bench::fresh(setup, &mut store);
     let bench = made.bench;
     bench.state
+}
+
+// With one payload word.
+fn base(kind: u32) -> model::Bench {
+    base_of(kind, 1)
+}
+
+// A payload of one word, and of four.
+fn payload(first: u32) -> Payload {
+    payload_of(first, 0, 0, 0)
+}
+
+fn payload_of(first: u32, second: u32, third: u32, fourth: u32) -> Payload {
+    Payload {
+        first,
+        second,
+        third,
+        fourth,
+    }
 }
 
 // That state with so many put numbers used, and the owner busy with a take or not.
@@ -144,7 +176,15 @@ fn try_begin(tried: &[u8], used: u32, busy: bool, worker: u32, operation: Operat
 }
 
 fn try_put(tried: &[u8], used: u32, busy: bool, worker: u32) {
-    try_begin(tried, used, busy, worker, Operation::Put { payload: 9 });
+    try_begin(
+        tried,
+        used,
+        busy,
+        worker,
+        Operation::Put {
+            payload: payload(9),
+        },
+    );
 }
 
 fn try_take(tried: &[u8], used: u32, busy: bool, worker: u32) {
@@ -180,13 +220,27 @@ fn fresh_refusals() {
     try_fresh(b"fresh with 16 slots on 30 words", 1, 4, 16, 2);
 }
 
+// An array of n tasks of p payload words takes n(p+1) words.
+fn fresh_words() {
+    try_words(b"fresh with 0 payload words", 2, 0);
+    try_words(b"fresh with 1 payload word", 2, 1);
+    try_words(b"fresh with 4 payload words", 2, 4);
+    try_words(b"fresh with 5 payload words", 2, 5);
+    try_words(b"fresh with 4294967295 payload words", 2, 4294967295);
+    try_words(b"fresh with 8 slots of 3 words on 30 words", 8, 2);
+    try_words(b"fresh with 8 slots of 4 words on 30 words", 8, 3);
+    try_words(b"fresh with 4 slots of 5 words on 30 words", 4, 4);
+    try_words(b"fresh with 8 slots of 5 words on 30 words", 8, 4);
+}
+
 fn fresh_order() {
-    try_fresh(b"fresh, all five broken", 0, 0, 3, 0);
-    try_fresh(b"fresh, the last four broken", 3, 0, 3, 0);
-    try_fresh(b"fresh, the last three broken", 3, 1, 3, 0);
-    try_fresh(b"fresh, the last two broken", 3, 1, 1024, 0);
-    try_fresh(b"fresh, the last broken", 3, 1, 1024, 8);
-    try_fresh(b"fresh, none broken", 3, 16, 1, 8);
+    try_setup(b"fresh, all six broken", 0, 0, 3, 0, 0);
+    try_setup(b"fresh, the last five broken", 3, 0, 3, 0, 0);
+    try_setup(b"fresh, the last four broken", 3, 1, 3, 0, 0);
+    try_setup(b"fresh, the last three broken", 3, 1, 1024, 0, 5);
+    try_setup(b"fresh, the last two broken", 3, 1, 1024, 8, 5);
+    try_setup(b"fresh, the last broken", 3, 1, 1024, 8, 4);
+    try_setup(b"fresh, none broken", 3, 16, 1, 8, 4);
 }
 
 // Each of begin's and step's refusals but 11. P9 is the busy thief that puts.
@@ -199,7 +253,12 @@ fn refusals() {
     try_steal(b"the owner steals", 0, false, 0);
     try_put(b"the owner puts", 0, false, 0);
     try_put(b"the busy owner puts", 0, true, 0);
-    try_thief(b"a busy thief puts", Operation::Put { payload: 9 });
+    try_thief(
+        b"a busy thief puts",
+        Operation::Put {
+            payload: payload(9),
+        },
+    );
     try_thief(b"a busy thief steals", Operation::Steal);
     try_put(b"a put after number 65535", 65535, false, 0);
     try_take(b"a take after number 65535", 65535, false, 0);
@@ -222,40 +281,73 @@ fn front_text(bench: Bench, log: &[u32]) {
     text(b" words\n");
 }
 
-// A put from its begin to its last line.
-fn put(bench: Bench, store: &mut [u32], log: &mut [u32]) -> Reply {
-    let mut last = bench.begin(0, Operation::Put { payload: 65 }, store, log);
+// A put from its begin to its last line: it does so many lines.
+fn put(bench: Bench, lines: u32, store: &mut [u32], log: &mut [u32]) -> Reply {
+    let payload = payload_of(65, 66, 67, 68);
+    let mut last = bench.begin(0, Operation::Put { payload }, store, log);
     let mut line: u32 = 0;
-    while line < 5 {
+    while line < lines {
         last = last.bench.step(0, store, log);
         line += 1;
     }
     last
 }
 
-// Two puts, of which the end of the second is told: the first has left 4 words fewer in the log.
-fn try_log(tried: &[u8], log: &mut [u32]) {
-    let mut store = [0u32; 4];
+// Two puts of so many payload words and lines, of which the end of the second is told: the first has left fewer words in the log.
+fn try_log(tried: &[u8], words: u32, lines: u32, log: &mut [u32]) {
+    let mut store = [0u32; 10];
     let setup = Setup {
         kind: 1,
         width: 4,
         size: 2,
         crew: 1,
+        words,
     };
     let mut last = Bench::fresh(setup, &mut store);
-    last = put(last.bench, &mut store, log);
-    last = put(last.bench, &mut store, log);
+    last = put(last.bench, lines, &mut store, log);
+    last = put(last.bench, lines, &mut store, log);
     let answer = last.answer;
     report(tried, answer);
     front_text(last.bench, log);
 }
 
-// The log's last words.
+// The log's last words: an entry has three and the payload's.
 fn log_room() {
     let mut eight = [0u32; 8];
     let mut seven = [0u32; 7];
-    try_log(b"the end of a put, 4 words left in the log", &mut eight);
-    try_log(b"the end of a put, 3 words left in the log", &mut seven);
+    try_log(
+        b"the end of a put, 4 words left in the log",
+        1,
+        5,
+        &mut eight,
+    );
+    try_log(
+        b"the end of a put, 3 words left in the log",
+        1,
+        5,
+        &mut seven,
+    );
+}
+
+fn log_room_2() {
+    let mut ten = [0u32; 10];
+    let mut nine = [0u32; 9];
+    try_log(b"2 payload words, 5 words left", 2, 6, &mut ten);
+    try_log(b"2 payload words, 4 words left", 2, 6, &mut nine);
+}
+
+fn log_room_3() {
+    let mut twelve = [0u32; 12];
+    let mut eleven = [0u32; 11];
+    try_log(b"3 payload words, 6 words left", 3, 7, &mut twelve);
+    try_log(b"3 payload words, 5 words left", 3, 7, &mut eleven);
+}
+
+fn log_room_4() {
+    let mut fourteen = [0u32; 14];
+    let mut thirteen = [0u32; 13];
+    try_log(b"4 payload words, 7 words left", 4, 8, &mut fourteen);
+    try_log(b"4 payload words, 6 words left", 4, 8, &mut thirteen);
 }
 
 // The front of a log of 8 words in a state that has more of them written.
@@ -293,7 +385,7 @@ fn try_anchor(tried: &[u8], kind: u32, head: u32, count: u32, tag: u32) {
     try_state(tried, state);
 }
 
-// A pair of the directory, and how many are published and claimed.
+// A pair of the directory, and how many are published and claimed. The size that is kept is the first array's.
 fn with_pair(
     state: model::Bench,
     place: usize,
@@ -312,6 +404,9 @@ fn with_pair(
     };
     queue.published = published;
     queue.claimed = claimed;
+    if place == 0 {
+        queue.initial = length >> 1;
+    }
     next.queue = queue;
     next
 }
@@ -350,7 +445,15 @@ fn anchor(head: u32, count: u32, tag: u32) -> Anchor {
 fn task(number: u32) -> Task {
     Task {
         number: number,
-        payload: 7,
+        payload: payload(7),
+    }
+}
+
+// A task of which no payload word is read.
+fn numbered(number: u32) -> Task {
+    Task {
+        number: number,
+        payload: payload(0),
     }
 }
 
@@ -484,14 +587,15 @@ fn try_put_test(tried: &[u8], count: u32, tag: u32) {
     );
 }
 
-fn try_put_number(tried: &[u8], kind: u32, head: u32, count: u32) {
+fn try_put_word(tried: &[u8], kind: u32, head: u32, count: u32) {
     let read = anchor(head, count, 0);
     try_owner(
         tried,
         kind,
-        Line::PutNumber {
+        Line::PutWord {
             task: task(1),
             read,
+            word: 0,
         },
     );
 }
@@ -500,9 +604,18 @@ fn try_take_tail(tried: &[u8], kind: u32, head: u32) {
     try_owner(tried, kind, Line::TakeTail { head });
 }
 
-fn try_take_payload(tried: &[u8], count: u32, number: u32) {
+fn try_take_word(tried: &[u8], count: u32, number: u32) {
     let read = anchor(0, count, 0);
-    try_owner(tried, 1, Line::TakePayload { read, number });
+    let task = numbered(number);
+    try_owner(
+        tried,
+        1,
+        Line::TakeWord {
+            read,
+            task,
+            word: 1,
+        },
+    );
 }
 
 fn foreign_owners() {
@@ -517,19 +630,19 @@ fn foreign_puts() {
     try_put_test(b"a t read above the size", 3, 0);
     try_put_test(b"a tag read of 15", 0, 15);
     try_put_test(b"a tag read of 16", 0, 16);
-    try_put_number(b"a slot left past a put's test", 1, 0, 1);
-    try_put_number(b"a full array past a put's test", 1, 0, 2);
-    try_put_number(b"FIFO, tail 65534 past a put's test", 2, 65534, 65534);
-    try_put_number(b"FIFO, tail 65535 past a put's test", 2, 65535, 65535);
+    try_put_word(b"a slot left past a put's test", 1, 0, 1);
+    try_put_word(b"a full array past a put's test", 1, 0, 2);
+    try_put_word(b"FIFO, tail 65534 past a put's test", 2, 65534, 65534);
+    try_put_word(b"FIFO, tail 65535 past a put's test", 2, 65535, 65535);
 }
 
 fn foreign_takes() {
     try_take_tail(b"LIFO at FIFO's take 2", 1, 0);
     try_take_tail(b"FIFO, a head read of 65535", 2, 65535);
     try_take_tail(b"FIFO, a head read of 65536", 2, 65536);
-    try_take_payload(b"t read 0 past a test for EMPTY", 0, 1);
-    try_take_payload(b"a number read of 65535", 1, 65535);
-    try_take_payload(b"a number read of 65536", 1, 65536);
+    try_take_word(b"t read 0 past a test for EMPTY", 0, 1);
+    try_take_word(b"a number read of 65535", 1, 65535);
+    try_take_word(b"a number read of 65536", 1, 65536);
 }
 
 // The owner at X3, a second array claimed, with `noted` indices from `head` on to copy and `copied` of them done.
@@ -567,18 +680,30 @@ fn try_steal_test(tried: &[u8], kind: u32, head: u32, count: u32, tag: u32) {
 
 fn try_steal_number(tried: &[u8], count: u32, place: u32) {
     let read = anchor(0, count, 0);
-    try_stealing(tried, 1, Line::StealNumber { read, place });
-}
-
-fn try_steal_payload(tried: &[u8], number: u32) {
-    let read = anchor(0, 1, 0);
+    let task = numbered(0);
     try_stealing(
         tried,
         1,
-        Line::StealPayload {
+        Line::StealWord {
+            read,
+            place,
+            task,
+            word: 0,
+        },
+    );
+}
+
+fn try_steal_word(tried: &[u8], number: u32) {
+    let read = anchor(0, 1, 0);
+    let task = numbered(number);
+    try_stealing(
+        tried,
+        1,
+        Line::StealWord {
             read,
             place: 0,
-            number,
+            task,
+            word: 1,
         },
     );
 }
@@ -615,20 +740,121 @@ fn foreign_steals() {
     try_steal_number(b"a slot past the noted array", 3, 0);
     try_steal_number(b"a noted array that is published", 4, 1);
     try_steal_number(b"a noted array that is not published", 1, 2);
-    try_steal_payload(b"a thief's number read of 65535", 65535);
-    try_steal_payload(b"a thief's number read of 65536", 65536);
+    try_steal_word(b"a thief's number read of 65535", 65535);
+    try_steal_word(b"a thief's number read of 65536", 65536);
     try_steal_next(b"double-ended at figure 3's steal 5", 3);
     try_steal_next(b"LIFO at figure 3's steal 5", 1);
     try_compare(b"double-ended, h2 2047", 2047);
     try_compare(b"double-ended, h2 2048", 2048);
 }
 
+// A state of so many payload words, on a directory that was made for others.
+fn try_width(tried: &[u8], made: u32, words: u32) {
+    let mut state = base_of(1, made);
+    state.words = words;
+    try_state(tried, state);
+}
+
+// A state of 3 payload words that keeps another first size.
+fn try_initial(tried: &[u8], size: u32) {
+    let mut state = base_of(1, 3);
+    let mut queue = state.queue;
+    queue.initial = size;
+    state.queue = queue;
+    try_state(tried, state);
+}
+
+fn foreign_widths() {
+    try_width(b"1 payload word", 1, 1);
+    try_width(b"4 payload words", 4, 4);
+    try_width(b"0 payload words", 1, 0);
+    try_width(b"5 payload words", 4, 5);
+    try_width(b"2 payload words, arrays for 1", 1, 2);
+    try_width(b"1 payload word, arrays for 3", 3, 1);
+    try_initial(b"a first size of 2 kept", 2);
+    try_initial(b"a first size of 1 kept", 1);
+    try_initial(b"a first size of 4 kept", 4);
+}
+
+// The owner or a thief at a line with a task of these words, in a state of 3 payload words.
+fn try_wide(tried: &[u8], worker: usize, line: Line)
+    requires { ⌜ worker < 8 ⌝ }
+{
+    try_state(tried, with_line(base_of(1, 3), worker, line));
+}
+
+fn wide_task(third: u32, fourth: u32) -> Task {
+    Task {
+        number: 1,
+        payload: payload_of(7, 8, third, fourth),
+    }
+}
+
+fn try_wide_put(tried: &[u8], fourth: u32, word: u32) {
+    let task = wide_task(9, fourth);
+    let read = anchor(0, 0, 0);
+    try_wide(tried, 0, Line::PutWord { task, read, word });
+}
+
+fn try_wide_take(tried: &[u8], third: u32, word: u32) {
+    let task = wide_task(third, 0);
+    let read = anchor(0, 1, 0);
+    try_wide(tried, 0, Line::TakeWord { read, task, word });
+}
+
+fn try_wide_steal(tried: &[u8], third: u32, word: u32) {
+    let task = wide_task(third, 0);
+    let read = anchor(0, 1, 0);
+    try_wide(
+        tried,
+        1,
+        Line::StealWord {
+            read,
+            place: 0,
+            task,
+            word,
+        },
+    );
+}
+
+fn try_wide_compare(tried: &[u8], fourth: u32) {
+    let task = wide_task(9, fourth);
+    let read = anchor(0, 1, 0);
+    try_wide(
+        tried,
+        1,
+        Line::StealCompare {
+            read,
+            next: 0,
+            task,
+        },
+    );
+}
+
+fn foreign_words() {
+    try_wide_put(b"a put at the last of 3 payload words", 0, 3);
+    try_wide_put(b"a put past the last of 3 payload words", 0, 4);
+    try_wide_put(b"a put with a fourth word of 3", 6, 0);
+    try_wide_take(b"a take at the last of 3 payload words", 0, 3);
+    try_wide_take(b"a take past the last of 3 payload words", 9, 4);
+    try_wide_take(b"a take with a word that is not read yet", 9, 3);
+    try_wide_steal(b"a steal at the last of 3 payload words", 0, 3);
+    try_wide_steal(b"a steal past the last of 3 payload words", 9, 4);
+    try_wide_steal(b"a steal with a word that is not read yet", 9, 3);
+    try_wide_compare(b"a compare with 3 payload words", 0);
+    try_wide_compare(b"a compare with a fourth word of 3", 6);
+}
+
 fn main() {
     fresh_refusals();
+    fresh_words();
     fresh_order();
     refusals();
     order();
     log_room();
+    log_room_2();
+    log_room_3();
+    log_room_4();
     short_front();
     foreign_numbers();
     foreign_counters();
@@ -645,4 +871,6 @@ fn main() {
     foreign_thieves();
     foreign_reads();
     foreign_steals();
+    foreign_widths();
+    foreign_words();
 }

@@ -3,10 +3,10 @@
 // Uses `model`. It is used by `lines`.
 ghost use mathlib.Core.Path.{_≡_};
 ghost use Prim.Native.Nat.{_≤_};
-ghost use Rattle.model.specs.declared.Line.the-variants.{Claim, PutNumber};
+ghost use Rattle.model.specs.declared.Line.the-variants.{Claim, PutWord};
 ghost use Rattle.model.specs.Tests.{if_then_else_};
 ghost use Rattle.model.specs.Figures.{isFull, putRead, takeRead, stealRead, stealLast, noteAll, note};
-ghost use Rattle.model.specs.Lines.{copyOn};
+ghost use Rattle.model.specs.Lines.{copyOn, putOn, takeOn, stealOn};
 ghost use Rattle.figures.specs.Bounds.{Ordered};
 use model::Anchor;
 use model::Kind;
@@ -64,18 +64,22 @@ pub fn steal_read(kind: Kind, anchor: Anchor) -> Line
 // Put 2 (FIFO 3): X1 if the array of `size` tasks is full, else the write.
 pub fn put_test(kind: Kind, size: u32, read: Anchor, task: Task) -> Line
     requires { ⌜ (read .head ≤ 65535) × (size ≤ 1024) ⌝ }
-    ensures { λ r. ⌜ r ≡ if_then_else_ (isFull kind size read) (Claim task) (PutNumber task read) ⌝ }
+    ensures { λ r. ⌜ r ≡ if_then_else_ (isFull kind size read) (Claim task) (PutWord task read 0) ⌝ }
 {
     let full = is_full(kind, size, read);
     if full {
         Line::Claim { task }
     } else {
-        Line::PutNumber { task, read }
+        Line::PutWord {
+            task,
+            read,
+            word: 0,
+        }
     }
 }
 
-// What follows steal 4b (FIFO 5b): the compare; figure 3's line 5 works out h2 first.
-pub fn steal_last(kind: Kind, read: Anchor, task: Task) -> Line
+// What follows the last word of steal 4 (FIFO 5): the compare; figure 3's line 5 works out h2 first.
+fn steal_last(kind: Kind, read: Anchor, task: Task) -> Line
     ensures { λ r. ⌜ r ≡ stealLast kind read task ⌝ }
 {
     match kind {
@@ -135,6 +139,58 @@ pub fn copy_on(task: Task, head: u32, noted: u32, copied: u32) -> Line
             head,
             noted,
             copied: up,
+        }
+    }
+}
+
+// Put 3 (FIFO 4) has written a word: the next one, or put 4 (FIFO 5).
+pub fn put_on(words: u32, task: Task, read: Anchor, word: u32) -> Line
+    requires { ⌜ word ≤ 4 ⌝ }
+    ensures { λ r. ⌜ r ≡ putOn words task read word ⌝ }
+{
+    let up = word + 1;
+    if word == words {
+        Line::PutFinish { task, read }
+    } else {
+        Line::PutWord {
+            task,
+            read,
+            word: up,
+        }
+    }
+}
+
+// Take 3 (FIFO 4) has read a word: the next one, or take 4 (FIFO 5).
+pub fn take_on(words: u32, read: Anchor, task: Task, word: u32) -> Line
+    requires { ⌜ word ≤ 4 ⌝ }
+    ensures { λ r. ⌜ r ≡ takeOn words read task word ⌝ }
+{
+    let up = word + 1;
+    if word == words {
+        Line::TakeFinish { read, task }
+    } else {
+        Line::TakeWord {
+            read,
+            task,
+            word: up,
+        }
+    }
+}
+
+// Steal 4 (FIFO 5) has read a word: the next one, or what follows the last.
+pub fn steal_on(kind: Kind, words: u32, read: Anchor, place: u32, task: Task, word: u32) -> Line
+    requires { ⌜ word ≤ 4 ⌝ }
+    ensures { λ r. ⌜ r ≡ stealOn kind words read place task word ⌝ }
+{
+    let up = word + 1;
+    if word == words {
+        steal_last(kind, read, task)
+    } else {
+        Line::StealWord {
+            read,
+            place,
+            task,
+            word: up,
         }
     }
 }

@@ -7,6 +7,6 @@ use lib.ListN.{length, getD}
 use Rattle.model.specs.Counts.{someBelow, outAs}
 
 -- a table that has seen the first n entries: where it has 0, none of them hands out a number of that place
-pub record Seen (l s : List ℕ) (n : ℕ) : Type 0 where
+pub record Seen (v : ℕ) (l s : List ℕ) (n : ℕ) : Type 0 where
   pub long : length s ≡ 4096
-  pub none : (x : ℕ) → getD s (x % 4096) 0 ≡ 0 → someBelow (outAs l x) n ≡ false
+  pub none : (x : ℕ) → getD s (x % 4096) 0 ≡ 0 → someBelow (outAs v l x) n ≡ false

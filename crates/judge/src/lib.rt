@@ -4,11 +4,12 @@
 ghost use mathlib.Core.Path.{_≡_};
 ghost use Prim.Native.Nat.{ℕ, _*_, _≤_};
 ghost use lib.ListN.{length, getD};
-ghost use Rattle.judgement.specs.Judgement.{wordsOf, judgedWords, judged, verdictNumber};
+ghost use Rattle.judgement.specs.Judgement.{wordsOf, judgedWords, judged, verdictNumber, entryBytes};
 use judgement::Verdict;
 
 // The judgement of a log of so many entries and a list of so many numbers; `puts`, `hints` and `seen` are its tables, `seen` all 0.
 fn judge_entries(
+    words: usize,
     log: &[u8],
     entries: usize,
     list: &[u8],
@@ -17,20 +18,20 @@ fn judge_entries(
     hints: &mut [u32],
     seen: &mut [u32],
 ) -> Verdict
-    requires { ⌜ (16 * entries ≤ length (now log)) × (entries ≤ 4096) × (4 * numbers ≤ length (now list)) × (entries ≤ length (now puts)) × (entries ≤ length (now seen)) × (length (now hints) ≡ 4096) ⌝ }
+    requires { ⌜ (entryBytes words * entries ≤ length (now log)) × (entries ≤ 4096) × (4 * numbers ≤ length (now list)) × (entries ≤ length (now puts)) × (entries ≤ length (now seen)) × (length (now hints) ≡ 4096) × (words ≤ 4) ⌝ }
     requires { ⌜ ((k : ℕ) → getD (now seen) k 0 ≡ 0) ⌝ }
-    ensures { λ r. ⌜ r ≡ judgedWords (wordsOf (now (log .entry))) entries (wordsOf (now (list .entry))) numbers ⌝ }
+    ensures { λ r. ⌜ r ≡ judgedWords words (wordsOf (now (log .entry))) entries (wordsOf (now (list .entry))) numbers ⌝ }
 {
-    if !judgement::in_order(log, entries) {
+    if !judgement::in_order(words, log, entries) {
         return Verdict::No;
     }
-    let count = puts::gather(log, entries, puts);
-    let outs = marks::hand_outs(log, entries, puts, count, seen);
+    let count = puts::gather(words, log, entries, puts);
+    let outs = marks::hand_outs(words, log, entries, puts, count, seen);
     if !outs.fine {
         return Verdict::No;
     }
-    puts::note_hints(log, puts, count, hints);
-    marks::mark_listed(list, numbers, log, entries, puts, count, hints, seen);
+    puts::note_hints(words, log, puts, count, hints);
+    marks::mark_listed(list, numbers, words, log, entries, puts, count, hints, seen);
     if !marks::all_marked(seen, count) {
         return Verdict::No;
     }
@@ -39,10 +40,17 @@ fn judge_entries(
     Verdict::Accepted { repeats, handouts }
 }
 
-// The judgement of a log's bytes, with the put numbers that are said to be stored still. Any bytes and lengths will do.
-pub fn judge(log: &[u8], list: &[u8]) -> Verdict
-    ensures { λ r. ⌜ r ≡ judged (now (log .entry)) (now (list .entry)) ⌝ }
+// The judgement of a log's bytes, with so many payload words in an entry and the put numbers that are said to be stored still. Any
+// count, bytes and lengths will do.
+pub fn judge(words: u32, log: &[u8], list: &[u8]) -> Verdict
+    ensures { λ r. ⌜ r ≡ judged words (now (log .entry)) (now (list .entry)) ⌝ }
 {
+    if words < 1 {
+        return Verdict::PayloadWords;
+    }
+    if 4 < words {
+        return Verdict::PayloadWords;
+    }
     let bytes = log.len();
     let more = list.len();
     if 65536 < bytes {
@@ -51,7 +59,9 @@ pub fn judge(log: &[u8], list: &[u8]) -> Verdict
     if 65536 < more {
         return Verdict::TooLong;
     }
-    if bytes % 16 != 0 {
+    let payload = words as usize;
+    let long = 4 * (3 + payload);
+    if bytes % long != 0 {
         return Verdict::BadLength;
     }
     if more % 4 != 0 {
@@ -61,8 +71,9 @@ pub fn judge(log: &[u8], list: &[u8]) -> Verdict
     let mut hints = [0u32; 4096];
     let mut seen = [0u32; 4096];
     judge_entries(
+        payload,
         log,
-        bytes / 16,
+        bytes / long,
         list,
         more / 4,
         &mut puts,
@@ -76,6 +87,7 @@ fn verdict_number(verdict: Verdict) -> u64
     ensures { λ r. ⌜ r ≡ verdictNumber verdict ⌝ }
 {
     match verdict {
+        Verdict::PayloadWords => 16,
         Verdict::TooLong => 15,
         Verdict::BadLength => 14,
         Verdict::No => 0,
@@ -85,10 +97,17 @@ fn verdict_number(verdict: Verdict) -> u64
     }
 }
 
-// For callers in C and C++: see include/bomqelir.h.
+// For callers in C and C++: see include/bomqelir.h. The first is for tasks of one payload word.
 #[no_mangle]
 pub extern "C" fn bomqelir_judge(log: &[u8], list: &[u8]) -> u64
-    ensures { λ r. ⌜ r ≡ verdictNumber (judged (now (log .entry)) (now (list .entry))) ⌝ }
+    ensures { λ r. ⌜ r ≡ verdictNumber (judged 1 (now (log .entry)) (now (list .entry))) ⌝ }
 {
-    verdict_number(judge(log, list))
+    verdict_number(judge(1, log, list))
+}
+
+#[no_mangle]
+pub extern "C" fn bomqelir_judge_words(words: u32, log: &[u8], list: &[u8]) -> u64
+    ensures { λ r. ⌜ r ≡ verdictNumber (judged words (now (log .entry)) (now (list .entry))) ⌝ }
+{
+    verdict_number(judge(words, log, list))
 }

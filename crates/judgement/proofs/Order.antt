@@ -13,19 +13,19 @@ use Rattle.model.proofs.Tests.{fails, and-both, and-false}
 use Rattle.judgement.specs.Judgement.{allBelow, known, numbered, rises}
 use Rattle.judgement.proofs.All.{all-fails, all-true, all-next}
 
-module _ (l : List ℕ) where
-  module _ (j k : ℕ) (e : k ≡ entryAt l j .kind) where
-    pub known-by : 1 ≤ k → k ≤ 4 → known l j ≡ true
+module _ (v : ℕ) (l : List ℕ) where
+  module _ (j k : ℕ) (e : k ≡ entryAt v l j .kind) where
+    pub known-by : 1 ≤ k → k ≤ 4 → known v l j ≡ true
     known-by a b = subst (λ (x : ℕ). (leb 1 x and leb x 4) ≡ true) e (and-both _ _ (le-leb 1 k a) (le-leb k 4 b))
 
-    pub too-low : k < 1 → known l j ≡ false
+    pub too-low : k < 1 → known v l j ≡ false
     too-low a = subst (λ (x : ℕ). (leb 1 x and leb x 4) ≡ false) e (fails (leb k 4) (lt-leb 1 k a))
 
-    pub too-high : 4 < k → known l j ≡ false
+    pub too-high : 4 < k → known v l j ≡ false
     too-high a =
         subst (λ (x : ℕ). (leb 1 x and leb x 4) ≡ false) e (ap (λ (y : Bool). leb 1 k and y) (lt-leb k 4 a) ∙ and-false (leb 1 k))
 
-    pub plain-by : (k ≡ 1 → ⊥) → (k ≡ 4 → ⊥) → numbered l j ≡ false
+    pub plain-by : (k ≡ 1 → ⊥) → (k ≡ 4 → ⊥) → numbered v l j ≡ false
     unfolding _or_
     plain-by a b = subst (λ (x : ℕ). (eqb x 1 or eqb x 4) ≡ false) e (rw (ne-eqb k 1 a, ne-eqb k 4 b))
 
@@ -35,89 +35,89 @@ module _ (l : List ℕ) where
     numbered-case false h a b c d =
         rw (h, eq-eqb k 4 (let g = eqb-false k 1 h in omega (arith, a, b, c, d, g)))
 
-    pub numbered-by : 1 ≤ k → k ≤ 4 → (k ≡ 2 → ⊥) → (k ≡ 3 → ⊥) → numbered l j ≡ true
+    pub numbered-by : 1 ≤ k → k ≤ 4 → (k ≡ 2 → ⊥) → (k ≡ 3 → ⊥) → numbered v l j ≡ true
     numbered-by a b c d = subst (λ (x : ℕ). (eqb x 1 or eqb x 4) ≡ true) e (numbered-case (eqb k 1) refl a b c d)
 
   abbrev over : ℕ → ℕ → Bool
-  over j i = not (numbered l i) or ltb (entryAt l i .number) (entryAt l j .number)
+  over j i = not (numbered v l i) or ltb (entryAt v l i .task .number) (entryAt v l j .task .number)
 
   pub record Floor (j floor : ℕ) : Type 0 where
-    pub kinds : allBelow (known l) j ≡ true
-    pub order : allBelow (rises l) j ≡ true
-    pub above : (i : ℕ) → i < j → numbered l i ≡ true → entryAt l i .number < floor
-    pub met : (floor ≡ 0) ⊎ ((i : ℕ) × (i < j) × (numbered l i ≡ true) × (entryAt l i .number + 1 ≡ floor))
+    pub kinds : allBelow (known v l) j ≡ true
+    pub order : allBelow (rises v l) j ≡ true
+    pub above : (i : ℕ) → i < j → numbered v l i ≡ true → entryAt v l i .task .number < floor
+    pub met : (floor ≡ 0) ⊎ ((i : ℕ) × (i < j) × (numbered v l i ≡ true) × (entryAt v l i .task .number + 1 ≡ floor))
 
   pub floor-start : Floor 0 0
   unfolding allBelow
   floor-start = record { kinds = refl; order = refl; above = λ i h _. absurd (omega (arith, h)); met = inl refl }
 
-  plain-rises : (j : ℕ) → numbered l j ≡ false → rises l j ≡ true
+  plain-rises : (j : ℕ) → numbered v l j ≡ false → rises v l j ≡ true
   unfolding _or_
   plain-rises j h = rw h
 
-  above-plain : (j f i : ℕ) → Floor j f → i < j + 1 → numbered l j ≡ false → numbered l i ≡ true → (y : Bool) → ltb i j ≡ y → entryAt l i .number < f
+  above-plain : (j f i : ℕ) → Floor j f → i < j + 1 → numbered v l j ≡ false → numbered v l i ≡ true → (y : Bool) → ltb i j ≡ y → entryAt v l i .task .number < f
   above-plain j f i F h g n true e = F .above i (ltb-true i j e) n
   above-plain j f i F h g n false e =
       let d = ltb-false i j e in
       let q : i ≡ j = omega (arith, d, h) in
-      absurd (let z : true ≡ false = sym n ∙ ap (numbered l) q ∙ g in let w : _≡_ {A = ℕ} 0 1 = cc in omega (arith, w))
+      absurd (let z : true ≡ false = sym n ∙ ap (numbered v l) q ∙ g in let w : _≡_ {A = ℕ} 0 1 = cc in omega (arith, w))
 
   module _ (j floor : ℕ) (F : Floor j floor) where
-    widen : (floor ≡ 0) ⊎ ((i : ℕ) × (i < j) × (numbered l i ≡ true) × (entryAt l i .number + 1 ≡ floor)) → (floor ≡ 0) ⊎ ((i : ℕ) × (i < j + 1) × (numbered l i ≡ true) × (entryAt l i .number + 1 ≡ floor))
+    widen : (floor ≡ 0) ⊎ ((i : ℕ) × (i < j) × (numbered v l i ≡ true) × (entryAt v l i .task .number + 1 ≡ floor)) → (floor ≡ 0) ⊎ ((i : ℕ) × (i < j + 1) × (numbered v l i ≡ true) × (entryAt v l i .task .number + 1 ≡ floor))
     widen (inl e) = inl e
     widen (inr (i, h, n, e)) = inr (i, omega (arith, h), n, e)
 
-    pub floor-skip : known l j ≡ true → numbered l j ≡ false → Floor (j + 1) floor
+    pub floor-skip : known v l j ≡ true → numbered v l j ≡ false → Floor (j + 1) floor
     floor-skip k n =
         record {
-          kinds = all-next (known l) j (F .kinds) k;
-          order = all-next (rises l) j (F .order) (plain-rises j n);
+          kinds = all-next (known v l) j (F .kinds) k;
+          order = all-next (rises v l) j (F .order) (plain-rises j n);
           above = λ i h g. above-plain j floor i F h n g (ltb i j) refl;
           met = widen (F .met);
         }
 
-    over-one : (i : ℕ) (y : Bool) → numbered l i ≡ y → i < j → floor ≤ entryAt l j .number → over j i ≡ true
+    over-one : (i : ℕ) (y : Bool) → numbered v l i ≡ y → i < j → floor ≤ entryAt v l j .task .number → over j i ≡ true
     unfolding _or_
     over-one i true n h f =
         let a = F .above i h n in
-        let w = lt-ltb (entryAt l i .number) (entryAt l j .number) (omega (arith, a, f)) in rw (n, w)
+        let w = lt-ltb (entryAt v l i .task .number) (entryAt v l j .task .number) (omega (arith, a, f)) in rw (n, w)
     over-one i false n h f = rw n
 
-    numbered-rises : numbered l j ≡ true → floor ≤ entryAt l j .number → rises l j ≡ true
+    numbered-rises : numbered v l j ≡ true → floor ≤ entryAt v l j .task .number → rises v l j ≡ true
     unfolding _or_
-    numbered-rises n f = rw (n, all-true (over j) j (λ i h. over-one i (numbered l i) refl h f))
+    numbered-rises n f = rw (n, all-true (over j) j (λ i h. over-one i (numbered v l i) refl h f))
 
-    above-next : (i : ℕ) (y : Bool) → ltb i j ≡ y → i < j + 1 → floor ≤ entryAt l j .number → numbered l i ≡ true → entryAt l i .number < entryAt l j .number + 1
+    above-next : (i : ℕ) (y : Bool) → ltb i j ≡ y → i < j + 1 → floor ≤ entryAt v l j .task .number → numbered v l i ≡ true → entryAt v l i .task .number < entryAt v l j .task .number + 1
     above-next i true e h f n = let a = F .above i (ltb-true i j e) n in omega (arith, a, f)
     above-next i false e h f n =
         let d = ltb-false i j e in
-        subst (λ (x : ℕ). entryAt l x .number < entryAt l j .number + 1) {x = j} {y = i} (omega (arith, d, h)) (omega arith)
+        subst (λ (x : ℕ). entryAt v l x .task .number < entryAt v l j .task .number + 1) {x = j} {y = i} (omega (arith, d, h)) (omega arith)
 
-    pub floor-next : known l j ≡ true → numbered l j ≡ true → floor ≤ entryAt l j .number → Floor (j + 1) (entryAt l j .number + 1)
+    pub floor-next : known v l j ≡ true → numbered v l j ≡ true → floor ≤ entryAt v l j .task .number → Floor (j + 1) (entryAt v l j .task .number + 1)
     floor-next k n f =
         record {
-          kinds = all-next (known l) j (F .kinds) k;
-          order = all-next (rises l) j (F .order) (numbered-rises n f);
+          kinds = all-next (known v l) j (F .kinds) k;
+          order = all-next (rises v l) j (F .order) (numbered-rises n f);
           above = λ i h g. above-next i (ltb i j) refl h f g;
           met = inr (j, omega arith, n, refl);
         }
 
-    not-over : (i : ℕ) → numbered l i ≡ true → entryAt l j .number ≤ entryAt l i .number → over j i ≡ false
+    not-over : (i : ℕ) → numbered v l i ≡ true → entryAt v l j .task .number ≤ entryAt v l i .task .number → over j i ≡ false
     unfolding _or_
-    not-over i n h = let w = le-ltb (entryAt l i .number) (entryAt l j .number) h in rw (n, w)
+    not-over i n h = let w = le-ltb (entryAt v l i .task .number) (entryAt v l j .task .number) h in rw (n, w)
 
-    falls : numbered l j ≡ true → entryAt l j .number < floor → (floor ≡ 0) ⊎ ((i : ℕ) × (i < j) × (numbered l i ≡ true) × (entryAt l i .number + 1 ≡ floor)) → rises l j ≡ false
+    falls : numbered v l j ≡ true → entryAt v l j .task .number < floor → (floor ≡ 0) ⊎ ((i : ℕ) × (i < j) × (numbered v l i ≡ true) × (entryAt v l i .task .number + 1 ≡ floor)) → rises v l j ≡ false
     unfolding _or_
     falls n h (inl e) = absurd (omega (arith, h, e))
     falls n h (inr (i, a, m, e)) = rw (n, all-fails (over j) j i a (not-over i m (omega (arith, h, e))))
 
-    pub not-rising : (n : ℕ) → j < n → numbered l j ≡ true → entryAt l j .number < floor → false ≡ (allBelow (known l) n and allBelow (rises l) n)
+    pub not-rising : (n : ℕ) → j < n → numbered v l j ≡ true → entryAt v l j .task .number < floor → false ≡ (allBelow (known v l) n and allBelow (rises v l) n)
     not-rising n h m f =
-        sym (ap (λ (y : Bool). allBelow (known l) n and y) (all-fails (rises l) n j h (falls m f (F .met))) ∙ and-false (allBelow (known l) n))
+        sym (ap (λ (y : Bool). allBelow (known v l) n and y) (all-fails (rises v l) n j h (falls m f (F .met))) ∙ and-false (allBelow (known v l) n))
 
-  pub not-known : (n j : ℕ) → j < n → known l j ≡ false → false ≡ (allBelow (known l) n and allBelow (rises l) n)
-  not-known n j h e = sym (fails (allBelow (rises l) n) (all-fails (known l) n j h e))
+  pub not-known : (n j : ℕ) → j < n → known v l j ≡ false → false ≡ (allBelow (known v l) n and allBelow (rises v l) n)
+  not-known n j h e = sym (fails (allBelow (rises v l) n) (all-fails (known v l) n j h e))
 
-  pub in-order-whole : (n j floor : ℕ) → Floor j floor → j ≤ n → n ≤ j → true ≡ (allBelow (known l) n and allBelow (rises l) n)
+  pub in-order-whole : (n j floor : ℕ) → Floor j floor → j ≤ n → n ≤ j → true ≡ (allBelow (known v l) n and allBelow (rises v l) n)
   in-order-whole n j floor F a b =
-      subst (λ (m : ℕ). true ≡ (allBelow (known l) m and allBelow (rises l) m)) {x = j} {y = n} (omega (arith, a, b)) (sym (and-both _ _ (F .kinds) (F .order)))
+      subst (λ (m : ℕ). true ≡ (allBelow (known v l) m and allBelow (rises v l) m)) {x = j} {y = n} (omega (arith, a, b)) (sym (and-both _ _ (F .kinds) (F .order)))

@@ -4,12 +4,14 @@ ghost use mathlib.Core.Path.{_≡_};
 ghost use Prim.Native.Nat.{_+_, _*_, _≤_, _<_};
 ghost use lib.ListN.{length, getD};
 ghost use Rattle.model.specs.Tests.{_and_};
+ghost use Rattle.model.specs.Tasks.{sameTask};
 ghost use Rattle.model.specs.Counts.{entryAt};
-ghost use Rattle.judgement.specs.Judgement.{wordsOf, allBelow, known, rises};
+ghost use Rattle.judgement.specs.Judgement.{wordsOf, allBelow, known, rises, entryBytes};
 
-// What the judge answers: a list is too long, or its length is none of whole entries (of whole numbers); the log is not accepted;
-// or it is, with its hand-outs and, among them, the repeats.
+// What the judge answers: no such count of payload words; a list is too long, or its length is none of whole entries (of whole
+// numbers); the log is not accepted; or it is, with its hand-outs and, among them, the repeats.
 pub enum Verdict {
+    PayloadWords,
     TooLong,
     BadLength,
     No,
@@ -35,23 +37,47 @@ pub fn word(bytes: &[u8], k: usize) -> u32
     a + 256 * b + 65536 * c + 16777216 * d
 }
 
-// The put number of an entry.
-pub fn number_at(log: &[u8], entry: u32) -> u32
-    requires { ⌜ 16 * entry + 16 ≤ length (now log) ⌝ }
-    ensures { λ r. ⌜ r ≡ entryAt (wordsOf (now (log .entry))) entry .number ⌝ }
+// The kind of an entry, and its put number, in a log of so many payload words.
+pub fn kind_at(words: usize, log: &[u8], entry: usize) -> u32
+    requires { ⌜ entryBytes words * (entry + 1) ≤ length (now log) ⌝ }
+    ensures { λ r. ⌜ r ≡ entryAt words (wordsOf (now (log .entry))) entry .kind ⌝ }
 {
-    word(log, 4 * (entry as usize) + 2)
+    word(log, (3 + words) * entry)
+}
+
+pub fn number_at(words: usize, log: &[u8], entry: usize) -> u32
+    requires { ⌜ entryBytes words * (entry + 1) ≤ length (now log) ⌝ }
+    ensures { λ r. ⌜ r ≡ entryAt words (wordsOf (now (log .entry))) entry .task .number ⌝ }
+{
+    word(log, (3 + words) * entry + 2)
+}
+
+// Whether two entries have one task, number and payload.
+pub fn same_task(words: usize, log: &[u8], entry: usize, other: usize) -> bool
+    requires { ⌜ (words ≤ 4) × (entryBytes words * (entry + 1) ≤ length (now log)) × (entryBytes words * (other + 1) ≤ length (now log)) ⌝ }
+    ensures { λ r. ⌜ r ≡ sameTask (entryAt words (wordsOf (now (log .entry))) entry .task) (entryAt words (wordsOf (now (log .entry))) other .task) ⌝ }
+{
+    let mut k: usize = 0;
+    while k <= words {
+        let here = word(log, (3 + words) * entry + 2 + k);
+        let there = word(log, (3 + words) * other + 2 + k);
+        if here != there {
+            return false;
+        }
+        k += 1;
+    }
+    true
 }
 
 // Whether kinds are 1 to 4 and the numbers of kinds 1 and 4 rise. `floor` is one above the last of them, at first 0.
-pub fn in_order(log: &[u8], entries: usize) -> bool
-    requires { ⌜ 16 * entries ≤ length (now log) ⌝ }
-    ensures { λ r. ⌜ r ≡ (allBelow (known (wordsOf (now (log .entry)))) entries and allBelow (rises (wordsOf (now (log .entry)))) entries) ⌝ }
+pub fn in_order(words: usize, log: &[u8], entries: usize) -> bool
+    requires { ⌜ entryBytes words * entries ≤ length (now log) ⌝ }
+    ensures { λ r. ⌜ r ≡ (allBelow (known words (wordsOf (now (log .entry)))) entries and allBelow (rises words (wordsOf (now (log .entry)))) entries) ⌝ }
 {
     let mut floor: u64 = 0;
     let mut j: usize = 0;
     while j < entries {
-        let kind = word(log, 4 * j);
+        let kind = kind_at(words, log, j);
         if kind < 1 {
             return false;
         }
@@ -66,7 +92,7 @@ pub fn in_order(log: &[u8], entries: usize) -> bool
             j += 1;
             continue;
         }
-        let number = word(log, 4 * j + 2) as u64;
+        let number = number_at(words, log, j) as u64;
         if number < floor {
             return false;
         }

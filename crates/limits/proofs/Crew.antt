@@ -13,8 +13,7 @@ use Rattle.model.specs.declared.Line.the-variants.{
   PutRead,
   PutTail,
   PutTest,
-  PutNumber,
-  PutPayload,
+  PutWord,
   PutFinish,
   Claim,
   Note,
@@ -23,15 +22,13 @@ use Rattle.model.specs.declared.Line.the-variants.{
   TakeRead,
   TakeTail,
   TakeTest,
-  TakeNumber,
-  TakePayload,
+  TakeWord,
   TakeFinish,
   StealRead,
   StealTail,
   StealTest,
   StealNote,
-  StealNumber,
-  StealPayload,
+  StealWord,
   StealNext,
   StealCompare,
 }
@@ -50,8 +47,7 @@ idle Idle e = refl
 idle (PutRead t) e = cc
 idle (PutTail t h) e = cc
 idle (PutTest t r) e = cc
-idle (PutNumber t r) e = cc
-idle (PutPayload t r) e = cc
+idle (PutWord t r j) e = cc
 idle (PutFinish t r) e = cc
 idle (Claim t) e = cc
 idle (Note t) e = cc
@@ -60,15 +56,13 @@ idle (Publish t) e = cc
 idle TakeRead e = cc
 idle (TakeTail h) e = cc
 idle (TakeTest r) e = cc
-idle (TakeNumber r) e = cc
-idle (TakePayload r n) e = cc
+idle (TakeWord r t j) e = cc
 idle (TakeFinish r t) e = cc
 idle StealRead e = cc
 idle (StealTail h) e = cc
 idle (StealTest r) e = cc
 idle (StealNote r) e = cc
-idle (StealNumber r k) e = cc
-idle (StealPayload r k n) e = cc
+idle (StealWord r k t j) e = cc
 idle (StealNext r t) e = cc
 idle (StealCompare r x t) e = cc
 
@@ -83,39 +77,39 @@ unfolding if_then_else_ _or_
 by-hand true u b a c l d e f = refl
 by-hand false u b a c l d e f = rw (e, f)
 
-module _ (κ : Kind) (w : ℕ) (q : Queue) (n i : ℕ) where
-  rests : memberOk κ w q n i Idle ≡ true
+module _ (κ : Kind) (w v : ℕ) (q : Queue) (n i : ℕ) where
+  rests : memberOk κ w v q n i Idle ≡ true
   unfolding _and_ _or_
   rests = same (eqb i 0) refl (same (ltb i n) refl refl)
 
-  idle-in : (l : Line) → stage l ≡ 0 → memberOk κ w q n i l ≡ true
-  idle-in l e = ap (memberOk κ w q n i) (idle l e) ∙ rests
+  idle-in : (l : Line) → stage l ≡ 0 → memberOk κ w v q n i l ≡ true
+  idle-in l e = ap (memberOk κ w v q n i) (idle l e) ∙ rests
 
   -- a busy worker
   module _ (l : Line) (busy : stage l ≡ 0 → ⊥) where
-    pub outside : 0 < n → n ≤ i → memberOk κ w q n i l ≡ false
+    pub outside : 0 < n → n ≤ i → memberOk κ w v q n i l ≡ false
     outside h k = if-false _ (ne-eqb i 0 (λ e. omega arith)) ∙ if-false _ (le-ltb i n k) ∙ ne-eqb (stage l) 0 busy
 
-    pub inside : i < n → memberOk κ w q n i l ≡ ((if eqb i 0 then ltb (stage l) 4 else ltb 3 (stage l)) and lineOk κ w q l)
+    pub inside : i < n → memberOk κ w v q n i l ≡ ((if eqb i 0 then ltb (stage l) 4 else ltb 3 (stage l)) and lineOk κ w v q l)
     inside h = by-hand (eqb i 0) (ltb i n) (eqb (stage l) 0) (ltb (stage l) 4) (ltb 3 (stage l)) _ _ (lt-ltb i n h) (ne-eqb (stage l) 0 busy)
 
-module _ (κ : Kind) (w : ℕ) (q : Queue) (n : ℕ) (l : List Worker) where
+module _ (κ : Kind) (w v : ℕ) (q : Queue) (n : ℕ) (l : List Worker) where
   abbrev pub member : ℕ → Bool
-  member k = memberOk κ w q n k (lineAt l k)
+  member k = memberOk κ w v q n k (lineAt l k)
 
-  pub turn : (k : ℕ) → workersOk κ w q n l (suc k) ≡ (workersOk κ w q n l k and member k)
+  pub turn : (k : ℕ) → workersOk κ w v q n l (suc k) ≡ (workersOk κ w v q n l k and member k)
   unfolding if_then_else_
-  turn zero = and-true (ownerOk κ w q (lineAt l 0))
+  turn zero = and-true (ownerOk κ w v q (lineAt l 0))
   turn (suc k) =
-      and-assoc (ownerOk κ w q (lineAt l 0)) (thievesOk κ w q n l k) _
-      ∙ ap (λ (x : Bool). (ownerOk κ w q (lineAt l 0) and thievesOk κ w q n l k) and x)
-      (sym (if-false (ownerOk κ w q (lineAt l (suc k))) (ne-eqb (suc k) 0 (λ e. omega arith))))
+      and-assoc (ownerOk κ w v q (lineAt l 0)) (thievesOk κ w v q n l k) _
+      ∙ ap (λ (x : Bool). (ownerOk κ w v q (lineAt l 0) and thievesOk κ w v q n l k) and x)
+      (sym (if-false (ownerOk κ w v q (lineAt l (suc k))) (ne-eqb (suc k) 0 (λ e. omega arith))))
 
   pub idle-passes : (k : ℕ) → isIdle (lineAt l k) ≡ true → member k ≡ true
-  idle-passes k e = idle-in κ w q n k (lineAt l k) (eqb-true (stage (lineAt l k)) 0 e)
+  idle-passes k e = idle-in κ w v q n k (lineAt l k) (eqb-true (stage (lineAt l k)) 0 e)
 
-  pub next-worker : (x : Bool) (k : ℕ) → workersOk κ w q n l k ≡ true → member k ≡ x → workersOk κ w q n l (suc k) ≡ x
+  pub next-worker : (x : Bool) (k : ℕ) → workersOk κ w v q n l k ≡ true → member k ≡ x → workersOk κ w v q n l (suc k) ≡ x
   next-worker x k e f = turn k ∙ holds e ∙ f
 
-  pub no-workers : (k m : ℕ) → k ≤ m → workersOk κ w q n l k ≡ false → workersOk κ w q n l m ≡ false
-  no-workers k m h e = fails-by (workersOk κ w q n l) member turn k m h e
+  pub no-workers : (k m : ℕ) → k ≤ m → workersOk κ w v q n l k ≡ false → workersOk κ w v q n l m ≡ false
+  no-workers k m h e = fails-by (workersOk κ w v q n l) member turn k m h e

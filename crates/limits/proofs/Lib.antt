@@ -2,3 +2,4 @@ pub mod Scan
 pub mod Directory
 pub mod Crew
 pub mod Bounds
+pub mod Lengths

@@ -4,7 +4,7 @@
 // Uses `model`, `stages`, `admission` and `ranges`. It is used by `opening` and `queues`, and by proofs of `machine` and `listing`.
 ghost use mathlib.Core.Path.{_≡_};
 ghost use mathlib.Core.Bool.{false};
-ghost use Prim.Native.Nat.{_+_, _≤_, _<_};
+ghost use Prim.Native.Nat.{_+_, _*_, _≤_, _<_};
 ghost use lib.Dec.{eqb, ltb, leb};
 ghost use lib.ListN.{length, getD};
 ghost use Rattle.model.specs.declared.Queue.{Queue};
@@ -15,7 +15,7 @@ ghost use Rattle.model.specs.World.{isIdle, isExpanding};
 ghost use Rattle.model.specs.Limits.{tidy, taken, directoryOk, validOf};
 ghost use Rattle.model.specs.Calls.{lent};
 ghost use Rattle.ranges.specs.Doubles.{Doubles};
-ghost use Rattle.limits.specs.Parts.{startsOk, followsOk, memberOk, workersOk, contentsOk, Scoped};
+ghost use Rattle.limits.specs.Parts.{tasksIn, startsOk, followsOk, memberOk, workersOk, contentsOk, Scoped};
 use model::Bench;
 use model::Kind;
 use model::Line;
@@ -23,44 +23,47 @@ use model::Queue;
 use model::Region;
 use model::Worker;
 
-// The directory's first array starts the store.
-fn starts(first: Region) -> bool
-    ensures { λ r. ⌜ r ≡ startsOk first ⌝ }
+// The directory's first array starts the store, and has the size that the queue keeps: no length is divided for it.
+fn starts(words: u32, size: u32, first: Region) -> bool
+    requires { ⌜ words ≤ 4 ⌝ }
+    ensures { λ r. ⌜ r ≡ (startsOk words first and eqb size (tasksIn words first)) ⌝ }
 {
-    let tasks = first.length >> 1;
+    let each = words as u64 + 1;
     if first.offset != 0 {
         return false;
     }
-    if first.length != 2 * tasks {
+    if first.length as u64 != each * size as u64 {
         return false;
     }
-    admission::is_size(tasks)
+    admission::is_size(size)
 }
 
-// An array lies behind the one before it and is twice as long.
-fn follows(before: Region, next: Region) -> bool
-    ensures { λ r. ⌜ r ≡ followsOk before next ⌝ }
+// An array lies behind the one before it, which has at most 512 tasks, and is twice as long.
+fn follows(words: u32, before: Region, next: Region) -> bool
+    requires { ⌜ words ≤ 4 ⌝ }
+    ensures { λ r. ⌜ r ≡ followsOk words before next ⌝ }
 {
-    let tasks = (before.length >> 1) as u64;
-    let end = before.offset as u64 + 2 * tasks;
+    let long = before.length as u64;
+    let end = before.offset as u64 + long;
     if next.offset as u64 != end {
         return false;
     }
-    if next.length as u64 != 2 * (2 * tasks) {
+    if next.length as u64 != 2 * long {
         return false;
     }
-    2 * tasks <= 1024
+    before.length < 513 * (words + 1)
 }
 
 // The arrays that are claimed. An index that varies has the whole directory copied: it is bound once, and only where there
 // are two arrays to compare.
-fn tidy(queue: Queue) -> bool
+fn tidy(words: u32, queue: Queue) -> bool
+    requires { ⌜ words ≤ 4 ⌝ }
     requires { ⌜ (0 < queue .claimed) × (queue .claimed ≤ 11) ⌝ }
-    ensures { λ r. ⌜ r ≡ tidy (queue .arrays) (queue .claimed) ⌝ }
+    ensures { λ r. ⌜ r ≡ (tidy words (queue .arrays) (queue .claimed) and eqb (queue .initial) (sizeAt words (queue .arrays) 0)) ⌝ }
 {
     let claimed = queue.claimed as usize;
     let first = queue.arrays[0];
-    if !starts(first) {
+    if !starts(words, queue.initial, first) {
         return false;
     }
     if claimed == 1 {
@@ -72,7 +75,7 @@ fn tidy(queue: Queue) -> bool
     while last + 1 < claimed {
         let i = last + 1;
         let next = arrays[i];
-        if !follows(before, next) {
+        if !follows(words, before, next) {
             return false;
         }
         before = next;
@@ -100,7 +103,7 @@ fn fits(queue: Queue, store: &[u32]) -> bool
 {
     let place = queue.claimed - 1;
     let last = region_at(queue, place);
-    let end = last.offset as usize + 2 * ((last.length >> 1) as usize);
+    let end = last.offset as usize + last.length as usize;
     end <= store.len()
 }
 
@@ -115,8 +118,9 @@ fn claims_ok(published: u32, claimed: u32, owner: Line) -> bool
     }
 }
 
-fn directory_ok(queue: Queue, store: &[u32], owner: Line) -> bool
-    ensures { λ r. ⌜ r ≡ directoryOk queue (now (store .entry)) owner ⌝ }
+fn directory_ok(words: u32, queue: Queue, store: &[u32], owner: Line) -> bool
+    requires { ⌜ words ≤ 4 ⌝ }
+    ensures { λ r. ⌜ r ≡ directoryOk words queue (now (store .entry)) owner ⌝ }
 {
     let published = queue.published;
     let claimed = queue.claimed;
@@ -129,7 +133,7 @@ fn directory_ok(queue: Queue, store: &[u32], owner: Line) -> bool
     if !claims_ok(published, claimed, owner) {
         return false;
     }
-    if !tidy(queue) {
+    if !tidy(words, queue) {
         return false;
     }
     fits(queue, store)
@@ -147,6 +151,7 @@ fn own_line(worker: u32, at: u32) -> bool
 struct Scope {
     kind: Kind,
     width: u32,
+    words: u32,
     crew: u32,
     published: u32,
     first: u32,
@@ -162,11 +167,11 @@ fn rests(own: Worker) -> bool
 
 // A worker that is not idle.
 fn busy_ok(scope: Scope, worker: u32, own: Worker) -> bool
-    requires { ⌜ scope .width ≤ 16 ⌝ }
+    requires { ⌜ (scope .width ≤ 16) × (scope .words ≤ 4) ⌝ }
     requires { ⌜ scope .published ≤ 11 ⌝ }
     requires { ⌜ 0 < scope .crew ⌝ }
     requires { ⌜ isIdle (own .line) ≡ false ⌝ }
-    ensures { λ r. ⌜ ((q : Queue) → Scoped scope q → r ≡ memberOk (scope .kind) (scope .width) q (scope .crew) worker (own .line)) ⌝ }
+    ensures { λ r. ⌜ ((q : Queue) → Scoped scope q → r ≡ memberOk (scope .kind) (scope .width) (scope .words) q (scope .crew) worker (own .line)) ⌝ }
 {
     if scope.crew <= worker {
         return false;
@@ -180,6 +185,7 @@ fn busy_ok(scope: Scope, worker: u32, own: Worker) -> bool
     ranges::line_ok(
         kind,
         scope.width,
+        scope.words,
         scope.published,
         scope.first,
         scope.tasks,
@@ -190,16 +196,17 @@ fn busy_ok(scope: Scope, worker: u32, own: Worker) -> bool
 // The eight workers, each by a number that is a constant: an index that varies would have all eight copied. Most are idle and
 // pass at once.
 fn workers_ok(bench: Bench, first: u32, tasks: u32) -> bool
-    requires { ⌜ bench .width ≤ 16 ⌝ }
+    requires { ⌜ (bench .width ≤ 16) × (bench .words ≤ 4) ⌝ }
     requires { ⌜ bench .queue .published ≤ 11 ⌝ }
-    requires { ⌜ Doubles (bench .queue) first ⌝ }
-    requires { ⌜ tasks ≡ size (bench .queue) ⌝ }
+    requires { ⌜ Doubles (bench .words) (bench .queue) first ⌝ }
+    requires { ⌜ tasks ≡ size (bench .words) (bench .queue) ⌝ }
     requires { ⌜ 0 < bench .crew ⌝ }
-    ensures { λ r. ⌜ r ≡ workersOk (bench .kind) (bench .width) (bench .queue) (bench .crew) (bench .workers) 8 ⌝ }
+    ensures { λ r. ⌜ r ≡ workersOk (bench .kind) (bench .width) (bench .words) (bench .queue) (bench .crew) (bench .workers) 8 ⌝ }
 {
     let scope = Scope {
         kind: bench.kind,
         width: bench.width,
+        words: bench.words,
         crew: bench.crew,
         published: bench.queue.published,
         first: first,
@@ -242,9 +249,9 @@ fn workers_ok(bench: Bench, first: u32, tasks: u32) -> bool
 
 // The anchor, the numbers given out and the workers, over a directory that is in order.
 fn contents_ok(bench: Bench) -> bool
-    requires { ⌜ bench .width ≤ 16 ⌝ }
+    requires { ⌜ (bench .width ≤ 16) × (bench .words ≤ 4) ⌝ }
     requires { ⌜ (0 < bench .queue .published) × (bench .queue .published ≤ 11) ⌝ }
-    requires { ⌜ Doubles (bench .queue) (sizeAt (bench .queue .arrays) 0) ⌝ }
+    requires { ⌜ Doubles (bench .words) (bench .queue) (bench .queue .initial) ⌝ }
     requires { ⌜ 0 < bench .crew ⌝ }
     ensures { λ r. ⌜ r ≡ contentsOk bench ⌝ }
 {
@@ -253,16 +260,14 @@ fn contents_ok(bench: Bench) -> bool
     let queue = bench.queue;
     let anchor = queue.anchor;
     let current = queue.published - 1;
-    let start = queue.arrays[0];
-    let first = start.length >> 1;
-    let tasks = first << current;
+    let tasks = queue.initial << current;
     if !ranges::anchor_ok(kind, width, tasks, anchor) {
         return false;
     }
     if !ranges::number_ok(bench.used) {
         return false;
     }
-    workers_ok(bench, first, tasks)
+    workers_ok(bench, queue.initial, tasks)
 }
 
 // The state, with the lengths of its lent memory, is no foreign one.
@@ -275,10 +280,13 @@ pub fn valid(bench: Bench, store: &[u32], log: &[u32]) -> bool
     if !admission::width_ok(bench.width) {
         return false;
     }
+    if !admission::words_ok(bench.words) {
+        return false;
+    }
     if !admission::crew_ok(bench.crew) {
         return false;
     }
-    if !directory_ok(queue, store, line) {
+    if !directory_ok(bench.words, queue, store, line) {
         return false;
     }
     let written = bench.written as usize;

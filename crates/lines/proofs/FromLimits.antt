@@ -20,8 +20,7 @@ use Rattle.model.specs.declared.Line.the-variants.{
   PutRead,
   PutTail,
   PutTest,
-  PutNumber,
-  PutPayload,
+  PutWord,
   PutFinish,
   Claim,
   Note,
@@ -30,15 +29,13 @@ use Rattle.model.specs.declared.Line.the-variants.{
   TakeRead,
   TakeTail,
   TakeTest,
-  TakeNumber,
-  TakePayload,
+  TakeWord,
   TakeFinish,
   StealRead,
   StealTail,
   StealTest,
   StealNote,
-  StealNumber,
-  StealPayload,
+  StealWord,
   StealNext,
   StealCompare,
 }
@@ -48,10 +45,11 @@ use Rattle.model.specs.declared.Bench.{Bench}
 use Rattle.model.specs.Tests.{_and_, _or_}
 use Rattle.model.specs.Memory.{sizeAt}
 use Rattle.model.specs.Figures.{slot, putIndex, takeIndex, stealIndex}
-use Rattle.model.specs.Lines.{size}
+use Rattle.model.specs.Lines.{len, size}
 use Rattle.model.specs.World.{World, lineAt, stage, isExpanding, isThiefs}
 use Rattle.model.specs.Limits.{
   widthOk,
+  wordsOk,
   crewOk,
   directoryOk,
   anchorOk,
@@ -68,7 +66,8 @@ use Rattle.model.specs.Limits.{
   validOf,
 }
 use Rattle.figures.specs.Bounds.{Ordered}
-use Rattle.slots.specs.Bounds.{Inside}
+use Rattle.slots.specs.Bounds.{Wide, Inside}
+use Rattle.slots.proofs.Places.{most-words}
 use Rattle.lines.specs.Actions.{Ground, Ready, Range, Lies, Free}
 use Rattle.model.proofs.Tests.{and-left, and-right, if-true}
 use Rattle.lines.proofs.Directory.{Laid, Arrays, arrays-of}
@@ -76,11 +75,12 @@ use Rattle.lines.proofs.Directory.{Laid, Arrays, arrays-of}
 -- the limits' parts that bound a line
 pub record Limits (b : Bench) (m : List ℕ) : Type 0 where
   pub width : widthOk (b .width) ≡ true
+  pub words : wordsOk (b .words) ≡ true
   pub crew : crewOk (b .crew) ≡ true
-  pub directory : directoryOk (b .queue) m (lineAt (b .workers) 0) ≡ true
-  pub anchor : anchorOk (b .kind) (b .width) (size (b .queue)) (b .queue .anchor) ≡ true
-  pub owner : ownerOk (b .kind) (b .width) (b .queue) (lineAt (b .workers) 0) ≡ true
-  pub thieves : thievesOk (b .kind) (b .width) (b .queue) (b .crew) (b .workers) 7 ≡ true
+  pub directory : directoryOk (b .words) (b .queue) m (lineAt (b .workers) 0) ≡ true
+  pub anchor : anchorOk (b .kind) (b .width) (size (b .words) (b .queue)) (b .queue .anchor) ≡ true
+  pub owner : ownerOk (b .kind) (b .width) (b .words) (b .queue) (lineAt (b .workers) 0) ≡ true
+  pub thieves : thievesOk (b .kind) (b .width) (b .words) (b .queue) (b .crew) (b .workers) 7 ≡ true
 
 pub limits-of : (W : World) → validOf W ≡ true → Limits (W .bench) (W .store)
 unfolding validOf
@@ -91,13 +91,15 @@ limits-of W v =
     let v4 = and-right _ _ v3 in
     let v5 = and-right _ _ v4 in
     let v6 = and-right _ _ v5 in
+    let v7 = and-right _ _ v6 in
     record {
       width = and-left _ _ v;
-      crew = and-left _ _ v1;
-      directory = and-left _ _ v2;
-      anchor = and-left _ _ v4;
-      owner = and-left _ _ v6;
-      thieves = and-right _ _ v6;
+      words = and-left _ _ v1;
+      crew = and-left _ _ v2;
+      directory = and-left _ _ v3;
+      anchor = and-left _ _ v5;
+      owner = and-left _ _ v7;
+      thieves = and-right _ _ v7;
     }
 
 -- the anchor read, by the kind
@@ -154,75 +156,77 @@ noted-in Fifo h j e = let o : h + j ≤ 65535 = leb-true _ _ e in omega (arith, 
 noted-in Deque h j e = let o : h < 2048 = ltb-true _ _ e in omega (arith, o)
 
 -- each line, from its own limits and the directory; a line of an expansion is the owner's, o
-module _ (κ : Kind) (w : ℕ) (q : Queue) (n : ℕ) (o : Line) (A : Arrays q n o) where
-  here : Laid (q .arrays) (q .claimed - 1) (q .published - 1)
+module _ (κ : Kind) (w v : ℕ) (q : Queue) (n : ℕ) (o : Line) (A : Arrays v q n o) where
+  here : Laid v (q .arrays) (q .claimed - 1) (q .published - 1)
   here = A .stands (q .published - 1) (omega (arith, A .some, A .behind))
 
-  there : (k : ℕ) → k < q .claimed → (k < 11) × (0 < sizeAt (q .arrays) k) × Inside q n k
+  there : (k : ℕ) → k < q .claimed → (k < 11) × (0 < sizeAt v (q .arrays) k) × Inside v q n k
   there k h =
       let L = A .stands k h in
-      (omega (arith, A .listed, h), omega (arith, pow-pos k, L .large), omega (arith, L .ends, A .fits))
+      (omega (arith, A .listed, h), omega (arith, pow-pos k, L .large), omega (arith, L .ends, L .long, A .fits))
 
-  range : (r : Anchor) → readOk κ w (size q) r ≡ true → Range r
-  range r e = in-range κ (size q) r (here .small) (within κ w (size q) r e)
+  range : (r : Anchor) → readOk κ w (size v q) r ≡ true → Range r
+  range r e = in-range κ (size v q) r (here .small) (within κ w (size v q) r e)
 
-  lies : (k i : ℕ) → k < q .claimed → slot κ (sizeAt (q .arrays) k) i < sizeAt (q .arrays) k → Lies κ q n k i
-  lies k i h s = let t = there k h in let (e, few, q) = A .stands k h .power in (t .0, ((e, q), s), t .2)
+  lies : (k i : ℕ) → k < q .claimed → slot κ (sizeAt v (q .arrays) k) i < sizeAt v (q .arrays) k → Lies κ v q n k i
+  lies k i h s = let t = there k h in let L = A .stands k h in let (e, few, z) = L .power in (t .0, ((A .doubled k h, L .small), (e, z), s), t .2)
 
   behind : (k : ℕ) → k < q .published → k < q .claimed
   behind k h = omega (arith, A .behind, h)
 
-  put-ready : (r : Anchor) → (readOk κ w (size q) r and roomOk κ (size q) r) ≡ true
-      → Range r × Lies κ q n (q .published - 1) (putIndex κ r)
-  put-ready r e =
+  put-ready : (r : Anchor) → readOk κ w (size v q) r ≡ true → roomOk κ (size v q) r ≡ true
+      → Range r × Lies κ v q n (q .published - 1) (putIndex κ r)
+  put-ready r e f =
       let h : q .published - 1 < q .claimed = omega (arith, A .some, A .behind) in
-      (range r (and-left _ _ e), lies _ _ h (put-slot κ (size q) r (there _ h .1) (and-right _ _ e)))
+      (range r e, lies _ _ h (put-slot κ (size v q) r (there _ h .1) f))
 
-  take-ready : (r : Anchor) → readOk κ w (size q) r ≡ true → someOk κ r ≡ true
-      → Range r × (someOk κ r ≡ true) × Lies κ q n (q .published - 1) (takeIndex κ r)
+  take-ready : (r : Anchor) → readOk κ w (size v q) r ≡ true → someOk κ r ≡ true
+      → Range r × (someOk κ r ≡ true) × Lies κ v q n (q .published - 1) (takeIndex κ r)
   take-ready r e f =
       let h : q .published - 1 < q .claimed = omega (arith, A .some, A .behind) in
-      (range r e, f, lies _ _ h (take-slot κ (size q) r (there _ h .1) (within κ w (size q) r e) f))
+      (range r e, f, lies _ _ h (take-slot κ (size v q) r (there _ h .1) (within κ w (size v q) r e) f))
 
-  steal-ready : (r : Anchor) (k : ℕ) → readOk κ w (size q) r ≡ true → someOk κ r ≡ true → placeOk κ q r k ≡ true
-      → Range r × (someOk κ r ≡ true) × Lies κ q n k (stealIndex κ r)
+  steal-ready : (r : Anchor) (k : ℕ) → readOk κ w (size v q) r ≡ true → someOk κ r ≡ true → placeOk κ v q r k ≡ true
+      → Range r × (someOk κ r ≡ true) × Lies κ v q n k (stealIndex κ r)
   steal-ready r k e f p =
       let h : k < q .claimed = behind k (ltb-true _ _ (and-left _ _ p)) in
-      (range r e, f, lies k _ h (steal-slot κ (sizeAt (q .arrays) k) r (there k h .1) (and-right _ _ p) f))
+      (range r e, f, lies k _ h (steal-slot κ (sizeAt v (q .arrays) k) r (there k h .1) (and-right _ _ p) f))
 
-  free : Free q
+  free : Free v q
   free d = go (eq-or-lt-of-le {n = q .published} {m = 11} (omega (arith, A .behind, A .listed)))
     where
       go : (q .published ≡ 11) ⊎ (q .published < 11) → q .published < 11
       go (inr i) = i
       go (inl e) =
           let ten : 10 ≡ q .published - 1 = omega (arith, e) in
-          let z : 1024 ≤ size q = subst (λ (x : ℕ). 2 ^ x ≤ size q) (sym ten) (here .large) in
+          let z : 1024 ≤ size v q = subst (λ (x : ℕ). 2 ^ x ≤ size v q) (sym ten) (here .large) in
           omega (arith, z, d)
 
-  copy-ready : (h j k : ℕ) → isExpanding o ≡ true → notedOk κ h j ≡ true → j ≤ size q → k < j
-      → (h ≤ 65535) × (k ≤ 1024) × Lies κ q n (q .published - 1) (h + k) × Lies κ q n (q .published) (h + k)
+  copy-ready : (h j k : ℕ) → isExpanding o ≡ true → notedOk κ h j ≡ true → j ≤ size v q → k < j
+      → (h ≤ 65535) × (k ≤ 1024) × Lies κ v q n (q .published - 1) (h + k) × Lies κ v q n (q .published) (h + k)
   copy-ready h j k x e f g =
       let two : q .claimed ≡ q .published + 1 = A .told ∙ if-true _ x in
       let last : q .published < q .claimed = omega (arith, two) in
       let now : q .published - 1 < q .claimed = omega (arith, A .some, two) in
       let one : q .claimed - 1 ≡ q .published = omega (arith, two) in
-      let up = subst (λ (m : ℕ). size q ≤ sizeAt (q .arrays) m) one (here .grows) in (
+      let up = subst (λ (m : ℕ). size v q ≤ sizeAt v (q .arrays) m) one (here .grows) in (
         noted-in κ h j e,
         omega (arith, f, g, here .small),
-        lies _ _ now (copy-slot κ (size q) (size q) h j k (there _ now .1) (omega arith) e f g),
-        lies _ _ last (copy-slot κ (sizeAt (q .arrays) (q .published)) (size q) h j k (there _ last .1) up e f g),
+        lies _ _ now (copy-slot κ (size v q) (size v q) h j k (there _ now .1) (omega arith) e f g),
+        lies _ _ last (copy-slot κ (sizeAt v (q .arrays) (q .published)) (size v q) h j k (there _ last .1) up e f g),
       )
 
-  ready : (l : Line) → Ordered κ (q .anchor) → (isExpanding l ≡ true → isExpanding o ≡ true) → lineOk κ w q l ≡ true
-      → Ready κ q n l
+  ready : (l : Line) → Ordered κ (q .anchor) → (isExpanding l ≡ true → isExpanding o ≡ true) → lineOk κ w v q l ≡ true
+      → Ready κ v q n l
   unfolding Ready
   ready Idle a x e = tt
   ready (PutRead t) a x e = tt
   ready (PutTail t h) a x e = tt
   ready (PutTest t r) a x e = range r (and-right _ _ e)
-  ready (PutNumber t r) a x e = put-ready r (and-right _ _ e)
-  ready (PutPayload t r) a x e = put-ready r (and-right _ _ e)
+  ready (PutWord t r j) a x e =
+      let e1 = and-right _ _ e in
+      let e2 = and-right _ _ e1 in
+      let p = put-ready r (and-left _ _ e1) (and-left _ _ e2) in (p .0, p .1, leb-true _ _ (and-right _ _ e2))
   ready (PutFinish t r) a x e = range r (and-left _ _ (and-right _ _ e))
   ready (Claim t) a x e = free
   ready (Note t) a x e = a
@@ -234,18 +238,20 @@ module _ (κ : Kind) (w : ℕ) (q : Queue) (n : ℕ) (o : Line) (A : Arrays q n 
   ready TakeRead a x e = tt
   ready (TakeTail h) a x e = tt
   ready (TakeTest r) a x e = tt
-  ready (TakeNumber r) a x e = take-ready r (and-left _ _ e) (and-right _ _ e)
-  ready (TakePayload r m) a x e = take-ready r (and-left _ _ e) (and-left _ _ (and-right _ _ e))
+  ready (TakeWord r t j) a x e =
+      let e1 = and-right _ _ e in
+      let p = take-ready r (and-left _ _ e) (and-left _ _ e1) in
+      (p .0, p .1, p .2, leb-true _ _ (and-right _ _ (and-right _ _ e1)))
   ready (TakeFinish r t) a x e = (range r (and-left _ _ e), and-left _ _ (and-right _ _ e))
   ready StealRead a x e = tt
   ready (StealTail h) a x e = tt
   ready (StealTest r) a x e = tt
   ready (StealNote r) a x e = tt
-  ready (StealNumber r k) a x e =
-      let e1 = and-right _ _ e in steal-ready r k (and-left _ _ e) (and-left _ _ e1) (and-right _ _ e1)
-  ready (StealPayload r k m) a x e =
+  ready (StealWord r k t j) a x e =
       let e1 = and-right _ _ e in
-      steal-ready r k (and-left _ _ e) (and-left _ _ e1) (and-left _ _ (and-right _ _ e1))
+      let e2 = and-right _ _ e1 in
+      let p = steal-ready r k (and-left _ _ e) (and-left _ _ e1) (and-left _ _ e2) in
+      (p .0, p .1, p .2, leb-true _ _ (and-right _ _ (and-right _ _ e2)))
   ready (StealNext r t) a x e = range r (and-left _ _ e)
   ready (StealCompare r i t) a x e = (range r (and-left _ _ e), and-left _ _ (and-right _ _ e))
 
@@ -258,63 +264,71 @@ thief-not l t x =
     let y : _≡_ {A = ℕ} 0 1 = cc in omega arith
 
 -- thief i of the crew
-thief-of : (κ : Kind) (w : ℕ) (q : Queue) (n : ℕ) (l : List Worker) (k i : ℕ)
-    → thievesOk κ w q n l k ≡ true → i < k → suc i < n → thiefOk κ w q (lineAt l (suc i)) ≡ true
-thief-of κ w q n l zero i t h c = absurd (omega arith)
-thief-of κ w q n l (suc k) i t h c =
-    go (eq-or-lt-of-le h) (λ j. thief-of κ w q n l k i (and-left _ _ t) j c)
+thief-of : (κ : Kind) (w v : ℕ) (q : Queue) (n : ℕ) (l : List Worker) (k i : ℕ)
+    → thievesOk κ w v q n l k ≡ true → i < k → suc i < n → thiefOk κ w v q (lineAt l (suc i)) ≡ true
+thief-of κ w v q n l zero i t h c = absurd (omega arith)
+thief-of κ w v q n l (suc k) i t h c =
+    go (eq-or-lt-of-le h) (λ j. thief-of κ w v q n l k i (and-left _ _ t) j c)
   where
-    go : (suc i ≡ suc k) ⊎ (suc i < suc k) → (i < k → thiefOk κ w q (lineAt l (suc i)) ≡ true)
-        → thiefOk κ w q (lineAt l (suc i)) ≡ true
+    go : (suc i ≡ suc k) ⊎ (suc i < suc k) → (i < k → thiefOk κ w v q (lineAt l (suc i)) ≡ true)
+        → thiefOk κ w v q (lineAt l (suc i)) ≡ true
     go (inl e) f =
-        subst (λ (x : ℕ). thiefOk κ w q (lineAt l x) ≡ true) (sym e)
+        subst (λ (x : ℕ). thiefOk κ w v q (lineAt l x) ≡ true) (sym e)
         (sym (if-true _ (lt-ltb (suc k) n (omega (arith, e, c)))) ∙ and-right _ _ t)
     go (inr j) f = f (omega (arith, j))
 
 -- the anchor now, and the directory, of a valid state
 module _ (W : World) (v : validOf W ≡ true) where
-  anchored : Within (W .bench .kind) (size (W .bench .queue)) (W .bench .queue .anchor)
+  anchored : Within (W .bench .kind) (size (W .bench .words) (W .bench .queue)) (W .bench .queue .anchor)
   anchored =
-      now-read (W .bench .kind) (W .bench .width) (size (W .bench .queue)) (W .bench .queue .anchor) (limits-of W v .anchor)
+      now-read (W .bench .kind) (W .bench .width) (size (W .bench .words) (W .bench .queue)) (W .bench .queue .anchor) (limits-of W v .anchor)
 
-  arrayed : Arrays (W .bench .queue) (length (W .store)) (lineAt (W .bench .workers) 0)
-  arrayed = arrays-of (W .bench .queue) (W .store) (lineAt (W .bench .workers) 0) (limits-of W v .directory)
+  arrayed : Arrays (W .bench .words) (W .bench .queue) (length (W .store)) (lineAt (W .bench .workers) 0)
+  arrayed = arrays-of (W .bench .words) (W .bench .queue) (W .store) (lineAt (W .bench .workers) 0) (limits-of W v .directory)
 
   -- what every line needs
   pub narrow-of-valid : W .bench .width ≤ 16
   narrow-of-valid = leb-true _ _ (and-right _ _ (limits-of W v .width))
 
-  pub ground-of-valid : Ground (W .bench .queue) (length (W .store))
+  pub wide-of-valid : Wide (W .bench .words)
+  wide-of-valid = (ltb-true _ _ (and-left _ _ (limits-of W v .words)), leb-true _ _ (and-right _ _ (limits-of W v .words)))
+
+  pub ground-of-valid : Ground (W .bench .words) (W .bench .queue) (length (W .store))
   ground-of-valid =
       let b = W .bench in
-      let h = here (b .kind) (b .width) (b .queue) (length (W .store)) (lineAt (b .workers) 0) arrayed in
-      let r = in-range (b .kind) (size (b .queue)) (b .queue .anchor) (h .small) anchored in
+      let h = here (b .kind) (b .width) (b .words) (b .queue) (length (W .store)) (lineAt (b .workers) 0) arrayed in
+      let r = in-range (b .kind) (size (b .words) (b .queue)) (b .queue .anchor) (h .small) anchored in
+      let most = most-words (b .words) (size (b .words) (b .queue)) (wide-of-valid .1) (h .small) in
+      let brief : len (b .queue) ≤ 5120 = omega (arith, h .long, most) in
       record {
+        wide = wide-of-valid;
         some = arrayed .some;
         listed = omega (arith, arrayed .behind, arrayed .listed);
         head = r .0;
         count = r .1;
         small = h .small;
-        near = omega (arith, h .near, h .small);
+        doubled = arrayed .doubled (b .queue .published - 1) (omega (arith, arrayed .some, arrayed .behind));
+        brief = brief;
+        near = omega (arith, h .near, brief);
         inside = omega (arith, h .ends, arrayed .fits);
       }
 
   -- the line of a worker of the crew is in the limits, and of the expansion's lines only the owner's
   line-ok : (i : ℕ) → i < W .bench .crew
-      → (lineOk (W .bench .kind) (W .bench .width) (W .bench .queue) (lineAt (W .bench .workers) i) ≡ true)
+      → (lineOk (W .bench .kind) (W .bench .width) (W .bench .words) (W .bench .queue) (lineAt (W .bench .workers) i) ≡ true)
       × (isExpanding (lineAt (W .bench .workers) i) ≡ true → isExpanding (lineAt (W .bench .workers) 0) ≡ true)
   line-ok zero c = (and-right _ _ (limits-of W v .owner), λ x. x)
   line-ok (suc i) c =
       let b = W .bench in
       let n : W .bench .crew ≤ 8 = leb-true _ _ (and-right _ _ (limits-of W v .crew)) in
       let s = limits-of W v .thieves in
-      let t = thief-of (b .kind) (b .width) (b .queue) (b .crew) (b .workers) 7 i s (omega (arith, n, c)) c in
+      let t = thief-of (b .kind) (b .width) (b .words) (b .queue) (b .crew) (b .workers) 7 i s (omega (arith, n, c)) c in
       (and-right _ _ t, λ x. absurd (thief-not (lineAt (b .workers) (suc i)) (and-left _ _ t) x))
 
   -- what the line of worker i needs
   pub ready-of-valid : (i : ℕ) → i < W .bench .crew
-      → Ready (W .bench .kind) (W .bench .queue) (length (W .store)) (lineAt (W .bench .workers) i)
+      → Ready (W .bench .kind) (W .bench .words) (W .bench .queue) (length (W .store)) (lineAt (W .bench .workers) i)
   ready-of-valid i c =
       let b = W .bench in
-      ready (b .kind) (b .width) (b .queue) (length (W .store)) (lineAt (b .workers) 0) arrayed (lineAt (b .workers) i)
-      (ordered (b .kind) (size (b .queue)) (b .queue .anchor) anchored) (line-ok i c .1) (line-ok i c .0)
+      ready (b .kind) (b .width) (b .words) (b .queue) (length (W .store)) (lineAt (b .workers) 0) arrayed (lineAt (b .workers) i)
+      (ordered (b .kind) (size (b .words) (b .queue)) (b .queue .anchor) anchored) (line-ok i c .1) (line-ok i c .0)

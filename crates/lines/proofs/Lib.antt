@@ -1,3 +1,4 @@
 pub mod Room
+pub mod Copies
 pub mod Directory
 pub mod FromLimits

@@ -1,18 +1,19 @@
 // What one line of figures 1, 2 and 3 does, as two pure functions: the line that its worker comes to (next_line), and what it does
 // beside, an action (decide). Carrying the action out is another crate's.
-// Uses `model`, `anchors`, `figures` and `slots`. It is used by `machine`.
+// Uses `model`, `tasks`, `anchors`, `figures` and `slots`. It is used by `machine`.
 ghost use mathlib.Core.Path.{_≡_};
 ghost use mathlib.Core.Bool.{true, false, not};
 ghost use mathlib.Core.List.{List};
-ghost use Prim.Native.Nat.{ℕ, _-_, _≤_, _<_};
+ghost use Prim.Native.Nat.{ℕ, _-_, _*_, _^_, _≤_, _<_};
 ghost use lib.ListN.{length};
 ghost use Rattle.model.specs.declared.Line.{Line};
+ghost use Rattle.model.specs.declared.Line.the-variants.{TakeWord, StealWord};
 ghost use Rattle.model.specs.declared.Queue.{Queue};
-ghost use Rattle.model.specs.Memory.{sizeAt};
+ghost use Rattle.model.specs.Tasks.{noTask};
 ghost use Rattle.model.specs.Lines.{unlessEmpty, compares, claims, lineStep, failsCompare};
 ghost use Rattle.model.specs.Figures.{isSame};
 ghost use Rattle.model.specs.Limits.{someOk};
-ghost use Rattle.slots.specs.Bounds.{Small};
+ghost use Rattle.slots.specs.Bounds.{Sized, Small};
 ghost use Rattle.lines.specs.Actions.{effectBy, failsBy, Doable, Ground, Ready, Range, Free};
 use model::Anchor;
 use model::Answer;
@@ -22,8 +23,9 @@ use model::Queue;
 use model::Task;
 
 // What a line does beside moving its worker on: nothing; it is a compare that fails; it writes a word of the store, or a task's
-// two from word `place` on; it claims a range and zeroes it, or publishes the claimed array; or it ends its operation, with the
-// anchor as it is or another one. No line is in it: the prover writes out a type wherever a value of it is in reach, and `Line` has 25 cases.
+// words from word `place` on; it claims a range and zeroes it, or publishes the claimed array; or it ends its operation, with the
+// anchor as it is or another one. No line is in it: the prover writes out a type wherever a value of it is in reach, and `Line` has
+// 22 cases.
 pub enum Action {
     Nothing,
     Fails,
@@ -33,6 +35,29 @@ pub enum Action {
     Publishes,
     Stops { answer: Answer },
     Ends { anchor: Anchor, answer: Answer },
+}
+
+// Take 3a; 4a: no word of the task is read yet.
+fn take_first(read: Anchor) -> Line
+    ensures { λ r. ⌜ r ≡ TakeWord read noTask 0 ⌝ }
+{
+    Line::TakeWord {
+        read,
+        task: tasks::no_task(),
+        word: 0,
+    }
+}
+
+// Steal 4a; 5a, in the array at place `place`.
+fn steal_first(read: Anchor, place: u32) -> Line
+    ensures { λ r. ⌜ r ≡ StealWord read place noTask 0 ⌝ }
+{
+    Line::StealWord {
+        read,
+        place,
+        task: tasks::no_task(),
+        word: 0,
+    }
 }
 
 // The test for EMPTY: idle, or the line `next`.
@@ -45,8 +70,8 @@ fn past_empty(kind: Kind, read: Anchor, next: Line) -> Line
 
 // The test for EMPTY: the operation ends, or nothing.
 fn stop_empty(kind: Kind, worker: u32, read: Anchor) -> Action
-    ensures { λ r. ⌜ ((q : Queue) (m : List ℕ) (l : Line) → effectBy q m (unlessEmpty kind q m worker read l .line) r ≡ unlessEmpty kind q m worker read l) ⌝ }
-    ensures { λ r. ⌜ ((q : Queue) (n : ℕ) → Doable q n r) ⌝ }
+    ensures { λ r. ⌜ ((v : ℕ) (q : Queue) (m : List ℕ) (l : Line) → effectBy v q m (unlessEmpty kind q m worker read l .line) r ≡ unlessEmpty kind q m worker read l) ⌝ }
+    ensures { λ r. ⌜ ((v : ℕ) (q : Queue) (n : ℕ) → Doable v q n r) ⌝ }
     ensures { λ r. ⌜ failsBy r ≡ false ⌝ }
 {
     let empty = anchors::is_empty(kind, read);
@@ -71,8 +96,8 @@ fn past_compare(kind: Kind, anchor: Anchor, read: Anchor) -> Line
 fn compare(kind: Kind, queue: Queue, worker: u32, read: Anchor, next: u32, task: Task) -> Action
     requires { ⌜ Range read ⌝ }
     requires { ⌜ someOk kind read ≡ true ⌝ }
-    ensures { λ r. ⌜ ((m : List ℕ) → effectBy queue m (compares kind queue m worker read next task .line) r ≡ compares kind queue m worker read next task) ⌝ }
-    ensures { λ r. ⌜ ((n : ℕ) → Doable queue n r) ⌝ }
+    ensures { λ r. ⌜ ((v : ℕ) (m : List ℕ) → effectBy v queue m (compares kind queue m worker read next task .line) r ≡ compares kind queue m worker read next task) ⌝ }
+    ensures { λ r. ⌜ ((v n : ℕ) → Doable v queue n r) ⌝ }
     ensures { λ r. ⌜ failsBy r ≡ not (isSame kind (queue .anchor) read) ⌝ }
 {
     let anchor = queue.anchor;
@@ -91,8 +116,9 @@ fn compare(kind: Kind, queue: Queue, worker: u32, read: Anchor, next: u32, task:
 // X1: to X2, or idle.
 fn past_claim(queue: Queue, store: &[u32], task: Task) -> Line
     requires { ⌜ (0 < queue .published) × (queue .published ≤ 11) ⌝ }
+    requires { ⌜ queue .initial * 2 ^ (queue .published - 1) ≤ 1024 ⌝ }
     requires { ⌜ Small queue (queue .published - 1) ⌝ }
-    ensures { λ r. ⌜ ((i : ℕ) → r ≡ claims queue (now (store .entry)) i task .line) ⌝ }
+    ensures { λ r. ⌜ ((v i : ℕ) → Sized v queue (queue .published - 1) → r ≡ claims v queue (now (store .entry)) i task .line) ⌝ }
 {
     let room = slots::has_room(queue, store);
     if room {
@@ -102,24 +128,24 @@ fn past_claim(queue: Queue, store: &[u32], task: Task) -> Line
     }
 }
 
-// X1, where `size` is the current array's: an array of twice the size behind it; where that does not fit, FULL.
-fn claim(queue: Queue, size: u32, store: &[u32], worker: u32, task: Task) -> Action
+// X1: an array twice as long as the current one, behind it; where that does not fit, FULL.
+fn claim(queue: Queue, store: &[u32], worker: u32, task: Task) -> Action
     requires { ⌜ (0 < queue .published) × (queue .published ≤ 11) ⌝ }
+    requires { ⌜ queue .initial * 2 ^ (queue .published - 1) ≤ 1024 ⌝ }
     requires { ⌜ Small queue (queue .published - 1) ⌝ }
-    requires { ⌜ Free queue ⌝ }
-    requires { ⌜ size ≡ sizeAt (queue .arrays) (queue .published - 1) ⌝ }
-    ensures { λ r. ⌜ effectBy queue (now (store .entry)) (claims queue (now (store .entry)) worker task .line) r ≡ claims queue (now (store .entry)) worker task ⌝ }
-    ensures { λ r. ⌜ Doable queue (length (now (store .entry))) r ⌝ }
+    ensures { λ r. ⌜ ((v : ℕ) → Sized v queue (queue .published - 1) → effectBy v queue (now (store .entry)) (claims v queue (now (store .entry)) worker task .line) r ≡ claims v queue (now (store .entry)) worker task) ⌝ }
+    ensures { λ r. ⌜ ((v : ℕ) → Sized v queue (queue .published - 1) → Free v queue → Doable v queue (length (now (store .entry))) r) ⌝ }
     ensures { λ r. ⌜ failsBy r ≡ false ⌝ }
 {
     let room = slots::has_room(queue, store);
     if room {
         let here = queue.published - 1;
-        let from = slots::end_of(queue, here as usize);
-        let words = 2 * (2 * size);
+        let at = here as usize;
+        let from = slots::end_of(queue, at);
+        let more = slots::twice_as_long(queue, at);
         Action::Claims {
             offset: from,
-            length: words,
+            length: more,
         }
     } else {
         Action::Stops {
@@ -130,10 +156,10 @@ fn claim(queue: Queue, size: u32, store: &[u32], worker: u32, task: Task) -> Act
 
 // The line that a worker comes to by doing `line`; idle, where it ends the operation. Beside each case: its number in figures 1
 // and 3, then in figure 2.
-pub fn next_line(kind: Kind, queue: Queue, store: &[u32], line: Line) -> Line
-    requires { ⌜ Ground queue (length (now store)) ⌝ }
-    requires { ⌜ Ready kind queue (length (now store)) line ⌝ }
-    ensures { λ r. ⌜ ((w i : ℕ) → r ≡ lineStep kind w queue (now (store .entry)) i line .line) ⌝ }
+pub fn next_line(kind: Kind, words: u32, queue: Queue, store: &[u32], line: Line) -> Line
+    requires { ⌜ Ground words queue (length (now store)) ⌝ }
+    requires { ⌜ Ready kind words queue (length (now store)) line ⌝ }
+    ensures { λ r. ⌜ ((w i : ℕ) → r ≡ lineStep kind w words queue (now (store .entry)) i line .line) ⌝ }
 {
     let anchor = queue.anchor;
     let here = queue.published - 1;
@@ -152,10 +178,8 @@ pub fn next_line(kind: Kind, queue: Queue, store: &[u32], line: Line) -> Line
             let size = slots::size_at(queue, at);
             figures::put_test(kind, size, read, task)
         }
-        // put 3a; 4a
-        Line::PutNumber { task, read } => Line::PutPayload { task, read },
-        // put 3b; 4b
-        Line::PutPayload { task, read } => Line::PutFinish { task, read },
+        // put 3a, 3b ..; 4a, 4b ..
+        Line::PutWord { task, read, word } => figures::put_on(words, task, read, word),
         // put 4; 5
         Line::PutFinish { task: _, read: _ } => Line::Idle,
         // X1
@@ -182,19 +206,12 @@ pub fn next_line(kind: Kind, queue: Queue, store: &[u32], line: Line) -> Line
             Line::TakeTest { read }
         }
         // take 2; 3
-        Line::TakeTest { read } => past_empty(kind, read, Line::TakeNumber { read }),
-        // take 3a; 4a
-        Line::TakeNumber { read } => {
-            let number = slots::taken_word(kind, queue, at, read, 0, store);
-            Line::TakePayload { read, number }
-        }
-        // take 3b; 4b
-        Line::TakePayload { read, number } => {
-            let payload = slots::taken_word(kind, queue, at, read, 1, store);
-            Line::TakeFinish {
-                read,
-                task: Task { number, payload },
-            }
+        Line::TakeTest { read } => past_empty(kind, read, take_first(read)),
+        // take 3a, 3b ..; 4a, 4b ..
+        Line::TakeWord { read, task, word } => {
+            let value = slots::taken_word(kind, words, queue, at, read, word, store);
+            let known = tasks::with_word(task, word, value);
+            figures::take_on(words, read, known, word)
         }
         // take 4; 5
         Line::TakeFinish { read: _, task: _ } => Line::Idle,
@@ -208,24 +225,17 @@ pub fn next_line(kind: Kind, queue: Queue, store: &[u32], line: Line) -> Line
         // steal 2; 3
         Line::StealTest { read } => past_empty(kind, read, Line::StealNote { read }),
         // steal 3; 4
-        Line::StealNote { read } => Line::StealNumber { read, place: here },
-        // steal 4a; 5a
-        Line::StealNumber { read, place } => {
-            let number = slots::stolen_word(kind, queue, place as usize, read, 0, store);
-            Line::StealPayload {
-                read,
-                place,
-                number,
-            }
-        }
-        // steal 4b; 5b
-        Line::StealPayload {
+        Line::StealNote { read } => steal_first(read, here),
+        // steal 4a, 4b ..; 5a, 5b ..
+        Line::StealWord {
             read,
             place,
-            number,
+            task,
+            word,
         } => {
-            let payload = slots::stolen_word(kind, queue, place as usize, read, 1, store);
-            figures::steal_last(kind, read, Task { number, payload })
+            let value = slots::stolen_word(kind, words, queue, place as usize, read, word, store);
+            let known = tasks::with_word(task, word, value);
+            figures::steal_on(kind, words, read, place, known, word)
         }
         // figure 3's steal 5
         Line::StealNext { read, task } => {
@@ -249,16 +259,17 @@ pub fn next_line(kind: Kind, queue: Queue, store: &[u32], line: Line) -> Line
 pub fn decide(
     kind: Kind,
     width: u32,
+    words: u32,
     queue: Queue,
     store: &[u32],
     worker: u32,
     line: Line,
 ) -> Action
     requires { ⌜ width ≤ 16 ⌝ }
-    requires { ⌜ Ground queue (length (now store)) ⌝ }
-    requires { ⌜ Ready kind queue (length (now store)) line ⌝ }
-    ensures { λ r. ⌜ effectBy queue (now (store .entry)) (lineStep kind width queue (now (store .entry)) worker line .line) r ≡ lineStep kind width queue (now (store .entry)) worker line ⌝ }
-    ensures { λ r. ⌜ Doable queue (length (now (store .entry))) r ⌝ }
+    requires { ⌜ Ground words queue (length (now store)) ⌝ }
+    requires { ⌜ Ready kind words queue (length (now store)) line ⌝ }
+    ensures { λ r. ⌜ effectBy words queue (now (store .entry)) (lineStep kind width words queue (now (store .entry)) worker line .line) r ≡ lineStep kind width words queue (now (store .entry)) worker line ⌝ }
+    ensures { λ r. ⌜ Doable words queue (length (now (store .entry))) r ⌝ }
     ensures { λ r. ⌜ failsBy r ≡ failsCompare kind (queue .anchor) line ⌝ }
 {
     let anchor = queue.anchor;
@@ -269,21 +280,11 @@ pub fn decide(
         Line::PutRead { task: _ } => Action::Nothing,
         Line::PutTail { task: _, head: _ } => Action::Nothing,
         Line::PutTest { task: _, read: _ } => Action::Nothing,
-        // put 3a; 4a
-        Line::PutNumber { task, read } => {
-            let place = slots::put_place(kind, queue, at, read, 0);
-            Action::Word {
-                place,
-                value: task.number,
-            }
-        }
-        // put 3b; 4b
-        Line::PutPayload { task, read } => {
-            let place = slots::put_place(kind, queue, at, read, 1);
-            Action::Word {
-                place,
-                value: task.payload,
-            }
+        // put 3a, 3b ..; 4a, 4b ..
+        Line::PutWord { task, read, word } => {
+            let place = slots::put_place(kind, words, queue, at, read, word);
+            let value = tasks::word_in(task, word);
+            Action::Word { place, value }
         }
         // put 4; 5
         Line::PutFinish { task, read } => {
@@ -294,10 +295,7 @@ pub fn decide(
             }
         }
         // X1
-        Line::Claim { task } => {
-            let size = slots::size_at(queue, at);
-            claim(queue, size, store, worker, task)
-        }
+        Line::Claim { task } => claim(queue, store, worker, task),
         Line::Note { task: _ } => Action::Nothing,
         // X3
         Line::Copy {
@@ -307,14 +305,10 @@ pub fn decide(
             copied,
         } => {
             let index = head + copied;
-            let number = slots::read_word(kind, queue, at, index, 0, store);
-            let payload = slots::read_word(kind, queue, at, index, 1, store);
+            let task = slots::read_task(kind, words, queue, at, index, store);
             let claimed = queue.published as usize;
-            let place = slots::place(kind, queue, claimed, index, 0);
-            Action::Copies {
-                place,
-                task: Task { number, payload },
-            }
+            let place = slots::place(kind, words, queue, claimed, index, 0);
+            Action::Copies { place, task }
         }
         // X4
         Line::Publish { task: _ } => Action::Publishes,
@@ -322,8 +316,11 @@ pub fn decide(
         Line::TakeTail { head: _ } => Action::Nothing,
         // take 2; 3
         Line::TakeTest { read } => stop_empty(kind, worker, read),
-        Line::TakeNumber { read: _ } => Action::Nothing,
-        Line::TakePayload { read: _, number: _ } => Action::Nothing,
+        Line::TakeWord {
+            read: _,
+            task: _,
+            word: _,
+        } => Action::Nothing,
         // take 4; 5
         Line::TakeFinish { read, task } => {
             let left = anchors::after_take(kind, anchor, read);
@@ -337,11 +334,11 @@ pub fn decide(
         // steal 2; 3
         Line::StealTest { read } => stop_empty(kind, worker, read),
         Line::StealNote { read: _ } => Action::Nothing,
-        Line::StealNumber { read: _, place: _ } => Action::Nothing,
-        Line::StealPayload {
+        Line::StealWord {
             read: _,
             place: _,
-            number: _,
+            task: _,
+            word: _,
         } => Action::Nothing,
         Line::StealNext { read: _, task: _ } => Action::Nothing,
         // steal 5, in figure 3 steal 6; 6

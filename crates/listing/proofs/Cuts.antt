@@ -36,8 +36,8 @@ listing-none P = show-none
 quiet : (cs : List Command) → listingFrom ended cs ≡ []
 unfolding listingFrom respond
 quiet [] = refl
-quiet (command.Open k w z n s ∷ cs) = quiet cs
-quiet (command.BeginPut p ∷ cs) = quiet cs
+quiet (command.Open k w z n s v ∷ cs) = quiet cs
+quiet (command.BeginPut v p ∷ cs) = quiet cs
 quiet (command.BeginTake ∷ cs) = quiet cs
 quiet (command.BeginSteal i ∷ cs) = quiet cs
 quiet (command.Steps i m ∷ cs) = quiet cs
@@ -64,24 +64,24 @@ listing-last P (b ∷ s) n h = ap (listingOf P) (sym (append-nil (b ∷ s))) ∙
         (ap (λ (ls : List (List ℕ)). shownAll (listingFrom P (map commandOf ls))) (e ∙ two) ∙ listing-one P (commandOf (b ∷ s)) []
         ∙ ap (λ (l : List ℕ). shownAll (respond P (commandOf (b ∷ s)) .output) ++ l) three ∙ append-nil _)
 
--- of a line that has begun the first 61 bytes are enough
-pub cut : (P : Program) (s z : List ℕ) → Open s → listingOf P (s ++ z) ≡ listingOf P (take 61 s ++ z)
+-- of a line that has begun the first 72 bytes are enough
+pub cut : (P : Program) (s z : List ℕ) → Open s → listingOf P (s ++ z) ≡ listingOf P (take 72 s ++ z)
 unfolding listingOf
 cut P [] z h = refl
-cut P (b ∷ s) z h = go (ltb 60 (length (b ∷ s))) refl
+cut P (b ∷ s) z h = go (ltb 71 (length (b ∷ s))) refl
   where
     same-command : (x y : List ℕ) (ls : List (List ℕ)) → commandOf x ≡ commandOf y → shownAll (listingFrom P (map commandOf (x ∷ ls))) ≡ shownAll (listingFrom P (map commandOf (y ∷ ls)))
     same-command x y ls e = ap (λ (d : Command). shownAll (listingFrom P (d ∷ map commandOf ls))) e
 
-    longs : 60 < length (b ∷ s) → (u : List ℕ) → commandOf ((b ∷ s) ++ u) ≡ commandOf (take 61 (b ∷ s) ++ u)
-    longs k u = line-long ((b ∷ s) ++ u) (rw (length-append (b ∷ s) u) (omega arith)) ∙ sym (line-long (take 61 (b ∷ s) ++ u) (rw (length-append (take 61 (b ∷ s)) u, length-take 61 (b ∷ s)) (omega arith)))
+    longs : 71 < length (b ∷ s) → (u : List ℕ) → commandOf ((b ∷ s) ++ u) ≡ commandOf (take 72 (b ∷ s) ++ u)
+    longs k u = line-long ((b ∷ s) ++ u) (rw (length-append (b ∷ s) u) (omega arith)) ∙ sym (line-long (take 72 (b ∷ s) ++ u) (rw (length-append (take 72 (b ∷ s)) u, length-take 72 (b ∷ s)) (omega arith)))
 
-    go : (q : Bool) → ltb 60 (length (b ∷ s)) ≡ q → listingOf P ((b ∷ s) ++ z) ≡ listingOf P (take 61 (b ∷ s) ++ z)
-    go false e = ap (λ (l : List ℕ). listingOf P (l ++ z)) (sym (take-all 61 (b ∷ s) (let k : length (b ∷ s) ≤ 60 = ltb-false 60 (length (b ∷ s)) e in omega arith)))
+    go : (q : Bool) → ltb 71 (length (b ∷ s)) ≡ q → listingOf P ((b ∷ s) ++ z) ≡ listingOf P (take 72 (b ∷ s) ++ z)
+    go false e = ap (λ (l : List ℕ). listingOf P (l ++ z)) (sym (take-all 72 (b ∷ s) (let k : length (b ∷ s) ≤ 71 = ltb-false 71 (length (b ∷ s)) e in omega arith)))
     go true e =
-        let k : 60 < length (b ∷ s) = ltb-true 60 (length (b ∷ s)) e in
+        let k : 71 < length (b ∷ s) = ltb-true 71 (length (b ∷ s)) e in
         (ap (λ (ls : List (List ℕ)). shownAll (listingFrom P (map commandOf ls))) (open-line b s z h) ∙ same-command _ _ (tail (lines z)) (longs k (head (lines z)))
-        ∙ sym (ap (λ (ls : List (List ℕ)). shownAll (listingFrom P (map commandOf ls))) (open-line b (take 60 s) z (open-take 61 (b ∷ s) h))))
+        ∙ sym (ap (λ (ls : List (List ℕ)). shownAll (listingFrom P (map commandOf ls))) (open-line b (take 71 s) z (open-take 72 (b ∷ s) h))))
 
 -- a line that has begun, with a newline behind it
 front-closed : (s : List ℕ) → Open s → untilNewline (s ++ 10 ∷ []) ≡ s
@@ -136,11 +136,11 @@ take-least a m l = go (ltb m a) refl
         take-take a m l h ∙ ap (λ (k : ℕ). take k l) (let q : a ≡ min a m = omega arith in q)
 
 -- what `carry` keeps, as it is worked out
-pub carried : (buf : List ℕ) (from n to r : ℕ) (after : List ℕ) → to ≡ min n (length buf) → r ≡ min 61 (to - from) → take r after ≡ take r (drop from buf) → CarriedBy buf from n r after
+pub carried : (buf : List ℕ) (from n to r : ℕ) (after : List ℕ) → to ≡ min n (length buf) → r ≡ min 72 (to - from) → take r after ≡ take r (drop from buf) → CarriedBy buf from n r after
 carried buf from n to r after e f g = record { count = sym (ap length (sym same) ∙ long); moved = g ∙ same }
   where
-    same : take r (drop from buf) ≡ take 61 (drop from (take n buf))
-    same = ap (λ (k : ℕ). take k (drop from buf)) f ∙ sym (take-least 61 (to - from) (drop from buf)) ∙ ap (take 61) (sym (drop-take from to buf) ∙ ap (drop from) (lent-front n to buf e))
+    same : take r (drop from buf) ≡ take 72 (drop from (take n buf))
+    same = ap (λ (k : ℕ). take k (drop from buf)) f ∙ sym (take-least 72 (to - from) (drop from buf)) ∙ ap (take 72) (sym (drop-take from to buf) ∙ ap (drop from) (lent-front n to buf e))
 
     long : length (take r (drop from buf)) ≡ r
     long = length-take r (drop from buf) ∙ (let z : min r (length (drop from buf)) ≡ r = omega (arith, length-drop from buf, e, f) in z)

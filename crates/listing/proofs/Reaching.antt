@@ -3,6 +3,7 @@ use Prim.Native.Nat.{ℕ, zero, suc}
 use mathlib.Core.Path.{_≡_, refl}
 use mathlib.Core.Bool.{Bool, true, false}
 use mathlib.Core.List.{List}
+use lib.Dec.{eqb}
 use lib.ListN.{take}
 use Rattle.model.specs.declared.Setup.{Setup}
 use Rattle.model.specs.declared.Operation.the-variants.{Put, Take, Steal}
@@ -25,8 +26,8 @@ Accepts d = isRefused (d .answer) ≡ false → d .answer ≡ Accepted
 fresh-accepts : (s : Setup) (m l : List ℕ) → Accepts (freshOf s m l)
 unfolding freshOf
 fresh-accepts s m l =
-    either Accepts _ _ _ (either Accepts _ _ _ (either Accepts _ _ _ (either Accepts _ _ _ (either Accepts _ _ _
-    (λ e. refl) (λ e. never e)) (λ e. never e)) (λ e. never e)) (λ e. never e)) (λ e. never e)
+    either Accepts _ _ _ (either Accepts _ _ _ (either Accepts _ _ _ (either Accepts _ _ _ (either Accepts _ _ _ (either Accepts _ _ _
+    (λ e. refl) (λ e. never e)) (λ e. never e)) (λ e. never e)) (λ e. never e)) (λ e. never e)) (λ e. never e)
 
 opened-reach : (m l : List ℕ) (d : Outcome) → (isRefused (d .answer) ≡ false → Reached (d .world)) → Reachable (opened (waiting m l) d .program)
 unfolding if_then_else_
@@ -45,22 +46,23 @@ steps-reach (suc m) W i r =
 
 pub respond-reach : (P : Program) (c : Command) → Reachable P → Reachable (respond P c .program)
 unfolding respond
-respond-reach (waiting m l) (Open k w c n s) r = opened-reach m l (freshOf (setup k w c n) (take s m) l) (λ e. reached-fresh (setup k w c n) (take s m) l (fresh-accepts (setup k w c n) (take s m) l e))
-respond-reach (waiting m l) (BeginPut p) r = tt
+respond-reach (waiting m l) (Open k w c n s v) r = opened-reach m l (freshOf (setup k w c n v) (take s m) l) (λ e. reached-fresh (setup k w c n v) (take s m) l (fresh-accepts (setup k w c n v) (take s m) l e))
+respond-reach (waiting m l) (BeginPut v p) r = tt
 respond-reach (waiting m l) BeginTake r = tt
 respond-reach (waiting m l) (BeginSteal i) r = tt
 respond-reach (waiting m l) (Steps i n) r = tt
 respond-reach (waiting m l) End r = tt
 respond-reach (waiting m l) Bad r = tt
-respond-reach (playing W) (Open k w c n s) r = r
-respond-reach (playing W) (BeginPut p) r = reached-call r (begin 0 (Put p))
+respond-reach (playing W) (Open k w c n s v) r = r
+respond-reach (playing W) (BeginPut v p) r =
+    either (λ (x : Response). Reachable (x .program)) (eqb v (W .bench .words)) _ _ (reached-call r (begin 0 (Put p))) r
 respond-reach (playing W) BeginTake r = reached-call r (begin 0 Take)
 respond-reach (playing W) (BeginSteal i) r = reached-call r (begin i Steal)
 respond-reach (playing W) (Steps i n) r = steps-reach n W i r
 respond-reach (playing W) End r = tt
 respond-reach (playing W) Bad r = r
-respond-reach ended (Open k w c n s) r = tt
-respond-reach ended (BeginPut p) r = tt
+respond-reach ended (Open k w c n s v) r = tt
+respond-reach ended (BeginPut v p) r = tt
 respond-reach ended BeginTake r = tt
 respond-reach ended (BeginSteal i) r = tt
 respond-reach ended (Steps i n) r = tt

@@ -61,7 +61,7 @@ reach-over s m l = tt
 
 -- a line was played, and did not end the program, or did
 module _ (P : Program) (buf : List ℕ) (s : Session) (m l out : List ℕ) (used wrote end : ℕ) (c : Command) (p : Answered) (m′ l′ out′ : List ℕ)
-    (h : Standing P buf s m l out used wrote) (e : end ≡ used + length (untilNewline (drop used buf))) (n : end ≡ length buf → ⊥) (room : wrote + 72 ≤ length out)
+    (h : Standing P buf s m l out used wrote) (e : end ≡ used + length (untilNewline (drop used buf))) (n : end ≡ length buf → ⊥) (room : wrote + 136 ≤ length out)
     (says : c ≡ commandOf (take (end - used) (drop used buf))) (by : AnsweredBy (respond (programOf s m l) c) p m′ l′ out wrote out′) where
   on : Onward P buf (end + 1) p m′ l′ out′
   on = line-on P buf out (programOf s m l) used wrote end c p m′ l′ out′ (h .shows) (h .within) e n room says by
@@ -81,29 +81,29 @@ module _ (P : Program) (buf : List ℕ) (s : Session) (m l out : List ℕ) (used
   standing-over q = consumed-over P buf (p .session) m′ l′ out′ (end + 1) (p .end) (on .within) (on .fits) (p .stops) q (on .shows)
 
 -- a line refused at once
-pub at-once-by : (s : Session) (m l : List ℕ) (c : Command) (r : Refusal) (before : List ℕ) (at e : ℕ) (after : List ℕ) → RefusedAtOnce (s .live) (worldOf s m l) c (Why r) → Placed before at (shownAll (printed (Refused r))) e after →
+pub at-once-by : (s : Session) (m l : List ℕ) (c : Command) (r : Refusal) (before : List ℕ) (at e : ℕ) (after : List ℕ) → RefusedAtOnce (s .live) (worldOf s m l) c (Why r) → Placed before at (shownAll (printed (s .bench .words) (Refused r))) e after →
     AnsweredBy (respond (programOf s m l) c) (played s e) m l before at after
 at-once-by s m l c r before at e after (v, q) t =
-    let known : respond (programOf s m l) c ≡ record { program = playing (worldOf s m l); output = printed (Refused r) } = ap (λ (P : Program). respond P c) (program-live s m l v) ∙ q in record {
+    let known : respond (programOf s m l) c ≡ record { program = playing (worldOf s m l); output = printed (s .bench .words) (Refused r) } = ap (λ (P : Program). respond P c) (program-live s m l v) ∙ q in record {
       program = left-on false s m l refl ∙ program-live s m l v ∙ ap (λ (x : Response). x .program) (sym known);
       text = subst (λ (x : Response). Placed before at (shownAll (x .output)) e after) (sym known) t;
     }
 
 -- a refusal's text fits where a line's does
-pub refusal-room : (r : Refusal) (at n : ℕ) → at + 72 ≤ n → at + length (shownAll (printed (Refused r))) ≤ n
-refusal-room r at n h = omega (arith, answer-most (Refused r))
+pub refusal-room : (v : ℕ) (r : Refusal) (at n : ℕ) → at + 136 ≤ n → at + length (shownAll (printed v (Refused r))) ≤ n
+refusal-room v r at n h = omega (arith, answer-most v (Refused r))
 
 -- a line that asks for steps
 asked-steps : (v : Bool) (c : Command) (i n : ℕ) → askedOf v c ≡ Step i n → (v ≡ true) × (c ≡ Steps i n)
 unfolding if_then_else_
-asked-steps v (Open k w z x s) i n e = absurd (let z : _≡_ {A = ℕ} 0 1 = cc in let y : ⊥ = omega arith in y)
-asked-steps v (BeginPut p) i n e = absurd (let z : _≡_ {A = ℕ} 0 1 = cc in let y : ⊥ = omega arith in y)
-asked-steps v BeginTake i n e = absurd (let z : _≡_ {A = ℕ} 0 1 = cc in let y : ⊥ = omega arith in y)
-asked-steps v (BeginSteal k) i n e = absurd (let z : _≡_ {A = ℕ} 0 1 = cc in let y : ⊥ = omega arith in y)
+asked-steps v (Open k w z x s y) i n e = absurd (let z : _≡_ {A = ℕ} 0 1 = cc in let b : ⊥ = omega arith in b)
+asked-steps v (BeginPut y p) i n e = absurd (let z : _≡_ {A = ℕ} 0 1 = cc in let b : ⊥ = omega arith in b)
+asked-steps v BeginTake i n e = absurd (let z : _≡_ {A = ℕ} 0 1 = cc in let b : ⊥ = omega arith in b)
+asked-steps v (BeginSteal k) i n e = absurd (let z : _≡_ {A = ℕ} 0 1 = cc in let b : ⊥ = omega arith in b)
 asked-steps true (Steps k x) i n e = (refl, cc)
-asked-steps false (Steps k x) i n e = absurd (let z : _≡_ {A = ℕ} 0 1 = cc in let y : ⊥ = omega arith in y)
-asked-steps v End i n e = absurd (let z : _≡_ {A = ℕ} 0 1 = cc in let y : ⊥ = omega arith in y)
-asked-steps v Bad i n e = absurd (let z : _≡_ {A = ℕ} 0 1 = cc in let y : ⊥ = omega arith in y)
+asked-steps false (Steps k x) i n e = absurd (let z : _≡_ {A = ℕ} 0 1 = cc in let b : ⊥ = omega arith in b)
+asked-steps v End i n e = absurd (let z : _≡_ {A = ℕ} 0 1 = cc in let b : ⊥ = omega arith in b)
+asked-steps v Bad i n e = absurd (let z : _≡_ {A = ℕ} 0 1 = cc in let b : ⊥ = omega arith in b)
 
 pub asked-live : (v : Bool) (c : Command) (i n : ℕ) → askedOf v c ≡ Step i n → v ≡ true
 asked-live v c i n e = asked-steps v c i n e .0
@@ -139,7 +139,7 @@ stepped-front b w n m l p l′ i k x d e f r o =
     ∙ sym (if-true _ (reached-valid r))
 
 -- consuming stops between two lines, the program not being over
-pub consumed-so-far : {P : Program} {buf m l out : List ℕ} {s : Session} {used wrote : ℕ} {b : Bool} → Standing P buf s m l out used wrote → b ≡ false → (wrote + 72 ≤ length out → spec.Open (drop used buf)) →
+pub consumed-so-far : {P : Program} {buf m l out : List ℕ} {s : Session} {used wrote : ℕ} {b : Bool} → Standing P buf s m l out used wrote → b ≡ false → (wrote + 136 ≤ length out → spec.Open (drop used buf)) →
     ConsumedBy P buf (record { session = s; used = used; wrote = wrote; stops = b }) m l out × Reachable (leftBy b s m l)
 consumed-so-far {P} {buf} {m} {l} {out} {s} {used} {wrote} h e rest = (
   subst (λ (x : Bool). ConsumedBy P buf (record { session = s; used = used; wrote = wrote; stops = x }) m l out) (sym e) (consumed-on P buf s m l out used wrote (h .within) (h .fits) (h .shows) rest),

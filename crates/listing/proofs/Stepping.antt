@@ -8,7 +8,7 @@ use lib.ListN.{length, length-append}
 use Rattle.model.specs.declared.Answer.{Answer}
 use Rattle.model.specs.World.{World, Outcome}
 use Rattle.model.specs.Calls.{stepOf}
-use Rattle.model.specs.Listing.{playing, Response, printed, isRefused, stepsOf}
+use Rattle.model.specs.Listing.{Print, playing, Response, printed, printedBy, isRefused, stepsOf}
 use Rattle.text.specs.Numbers.{Placed}
 use Rattle.text.proofs.Spell.{placed-more, placed-length}
 use Rattle.replies.specs.declared.Session.{Session}
@@ -46,26 +46,26 @@ steps-none W i left e = rw e
 before-one : (left : ℕ) → 0 < left → left ≡ suc (left - 1)
 before-one left h = omega arith
 
-refused-now : (W : World) (i left : ℕ) → 0 < left → isRefused (stepOf W i .answer) ≡ true → stepsOf W i left ≡ record { program = playing (stepOf W i .world); output = printed (stepOf W i .answer) }
+refused-now : (W : World) (i left : ℕ) → 0 < left → isRefused (stepOf W i .answer) ≡ true → stepsOf W i left ≡ record { program = playing (stepOf W i .world); output = printedBy (stepOf W i) }
 refused-now W i left h e = ap (stepsOf W i) (before-one left h) ∙ steps-refused W i (left - 1) e
 
 made-now : (W : World) (i left : ℕ) → 0 < left → isRefused (stepOf W i .answer) ≡ false →
-    stepsOf W i left ≡ record { program = stepsOf (stepOf W i .world) i (left - 1) .program; output = printed (stepOf W i .answer) ++ stepsOf (stepOf W i .world) i (left - 1) .output }
+    stepsOf W i left ≡ record { program = stepsOf (stepOf W i .world) i (left - 1) .program; output = printedBy (stepOf W i) ++ stepsOf (stepOf W i .world) i (left - 1) .output }
 made-now W i left h e = ap (stepsOf W i) (before-one left h) ∙ steps-made W i (left - 1) e
 
 -- the next step's text is a part of what is left
-next-fits : (W : World) (i left : ℕ) → 0 < left → length (shownAll (printed (stepOf W i .answer))) ≤ length (shownAll (stepsOf W i left .output))
+next-fits : (W : World) (i left : ℕ) → 0 < left → length (shownAll (printedBy (stepOf W i))) ≤ length (shownAll (stepsOf W i left .output))
 next-fits W i left h = go (isRefused (stepOf W i .answer)) refl
   where
-    go : (b : Bool) → isRefused (stepOf W i .answer) ≡ b → length (shownAll (printed (stepOf W i .answer))) ≤ length (shownAll (stepsOf W i left .output))
+    go : (b : Bool) → isRefused (stepOf W i .answer) ≡ b → length (shownAll (printedBy (stepOf W i))) ≤ length (shownAll (stepsOf W i left .output))
     go true e = rw (refused-now W i left h e) (omega arith)
     go false e = rw (made-now W i left h e, show-append, length-append) (omega arith)
 
 module _ (W : World) (times : ℕ) (s : Session) (m l : List ℕ) (i left : ℕ) (before : List ℕ) (at end : ℕ) (out : List ℕ) (σ : Stepping (stepsOf W i times) s m l i left before at end out) where
   -- there is room for the next step's text, as a line's whole text fits
-  pub stepping-room : (a : Answer) → at + 72 ≤ length before → 0 < left → a ≡ stepOf (worldOf s m l) i .answer → end + length (shownAll (printed a)) ≤ length out
-  stepping-room a room h e =
-      let fits : length (shownAll (printed a)) ≤ length (shownAll (toDo s m l i left .output)) = rw e (next-fits (worldOf s m l) i left h) in
+  pub stepping-room : (d : Outcome) → at + 136 ≤ length before → 0 < left → d ≡ stepOf (worldOf s m l) i → end + length (shownAll (printedBy d)) ≤ length out
+  stepping-room d room h e =
+      let fits : length (shownAll (printedBy d)) ≤ length (shownAll (toDo s m l i left .output)) = rw e (next-fits (worldOf s m l) i left h) in
       let whole : length (shownAll (stepsOf W i times .output)) ≡ length (σ .text) + length (shownAll (toDo s m l i left .output)) = ap length (σ .rest) ∙ length-append (σ .text) _ in
       omega (arith, steps-most times W i, σ .placed .ends, placed-length before at (σ .text) end out (σ .placed), fits, whole)
 
@@ -80,42 +80,45 @@ module _ (W : World) (times : ℕ) (s : Session) (m l : List ℕ) (i left : ℕ)
             (σ .placed);
       }
 
-  module _ (h : 0 < left) (t : Session) (a : Answer) (m′ l′ : List ℕ) (by : record { world = worldOf t m′ l′; answer = a } ≡ stepOf (worldOf s m l) i) (lives : t .live ≡ true) (end′ : ℕ) (out′ : List ℕ) (shows : Placed out end (shownAll (printed a)) end′ out′) where
+  module _ (h : 0 < left) (t : Session) (a : Answer) (m′ l′ : List ℕ) (by : record { world = worldOf t m′ l′; answer = a } ≡ stepOf (worldOf s m l) i) (lives : t .live ≡ true) (end′ : ℕ) (out′ : List ℕ) (shows : Placed out end (shownAll (printed (t .bench .words) a)) end′ out′) where
     answered : stepOf (worldOf s m l) i .answer ≡ a
     answered = ap (λ (d : Outcome). d .answer) (sym (by))
 
     left-at : stepOf (worldOf s m l) i .world ≡ worldOf t m′ l′
     left-at = ap (λ (d : Outcome). d .world) (sym (by))
 
-    behind : Placed before at (σ .text ++ shownAll (printed a)) end′ out′
-    behind = placed-more before at (σ .text) end out (shownAll (printed a)) end′ out′ (σ .placed) shows
+    says : printedBy (stepOf (worldOf s m l) i) ≡ printed (t .bench .words) a
+    says = ap printedBy (sym (by))
+
+    behind : Placed before at (σ .text ++ shownAll (printed (t .bench .words) a)) end′ out′
+    behind = placed-more before at (σ .text) end out (shownAll (printed (t .bench .words) a)) end′ out′ (σ .placed) shows
 
     -- the step was refused: the line ends here
     pub stepping-stops : isRefused a ≡ true → AnsweredBy (stepsOf W i times) (played t end′) m′ l′ before at out′
     stepping-stops e =
-        let now : toDo s m l i left ≡ record { program = playing (stepOf (worldOf s m l) i .world); output = printed (stepOf (worldOf s m l) i .answer) } =
+        let now : toDo s m l i left ≡ record { program = playing (stepOf (worldOf s m l) i .world); output = printedBy (stepOf (worldOf s m l) i) } =
         refused-now (worldOf s m l) i left h (ap isRefused answered ∙ e) in record {
           program =
               left-on false t m′ l′ refl ∙ program-live t m′ l′ (lives)
               ∙ sym (σ .program ∙ ap (λ (x : Response). x .program) now ∙ ap playing left-at);
           text =
               subst (λ (t : List ℕ). Placed before at t end′ out′)
-              (sym (σ .rest ∙ ap (λ (x : Response). σ .text ++ shownAll (x .output)) now ∙ ap (λ (y : Answer). σ .text ++ shownAll (printed y)) answered)) behind;
+              (sym (σ .rest ∙ ap (λ (x : Response). σ .text ++ shownAll (x .output)) now ∙ ap (λ (y : List Print). σ .text ++ shownAll y) says)) behind;
         }
 
     -- the step was made: one fewer is left
     pub stepping-on : isRefused a ≡ false → Stepping (stepsOf W i times) t m′ l′ i (left - 1) before at end′ out′
     stepping-on e =
-        let now : toDo s m l i left ≡ record { program = stepsOf (stepOf (worldOf s m l) i .world) i (left - 1) .program; output = printed (stepOf (worldOf s m l) i .answer) ++ stepsOf (stepOf (worldOf s m l) i .world) i (left - 1) .output } =
+        let now : toDo s m l i left ≡ record { program = stepsOf (stepOf (worldOf s m l) i .world) i (left - 1) .program; output = printedBy (stepOf (worldOf s m l) i) ++ stepsOf (stepOf (worldOf s m l) i .world) i (left - 1) .output } =
         made-now (worldOf s m l) i left h (ap isRefused answered ∙ e) in record {
-          text = σ .text ++ shownAll (printed a);
+          text = σ .text ++ shownAll (printed (t .bench .words) a);
           placed = behind;
           rest =
               σ .rest ∙ ap (λ (x : Response). σ .text ++ shownAll (x .output)) now
-              ∙ ap (λ (t : List ℕ). σ .text ++ t) (show-append (printed (stepOf (worldOf s m l) i .answer)) (stepsOf (stepOf (worldOf s m l) i .world) i (left - 1) .output))
+              ∙ ap (λ (t : List ℕ). σ .text ++ t) (show-append (printedBy (stepOf (worldOf s m l) i)) (stepsOf (stepOf (worldOf s m l) i .world) i (left - 1) .output))
               ∙ sym (append-assoc (σ .text) _ _)
-              ∙ ap (λ (a : Answer). (σ .text ++ shownAll (printed a)) ++ shownAll (stepsOf (stepOf (worldOf s m l) i .world) i (left - 1) .output)) answered
-              ∙ ap (λ (X : World). (σ .text ++ shownAll (printed a)) ++ shownAll (stepsOf X i (left - 1) .output)) left-at;
+              ∙ ap (λ (y : List Print). (σ .text ++ shownAll y) ++ shownAll (stepsOf (stepOf (worldOf s m l) i .world) i (left - 1) .output)) says
+              ∙ ap (λ (X : World). (σ .text ++ shownAll (printed (t .bench .words) a)) ++ shownAll (stepsOf X i (left - 1) .output)) left-at;
           program = σ .program ∙ ap (λ (x : Response). x .program) now ∙ ap (λ (X : World). stepsOf X i (left - 1) .program) left-at;
           live = lives;
         }

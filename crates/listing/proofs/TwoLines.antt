@@ -11,7 +11,7 @@ use lib.Seq.{getD-set-same, set-out}
 use borrow.Author.Tests.{ltb-true, ltb-false}
 use Rattle.model.specs.declared.Kind.{Kind}
 use Rattle.model.specs.declared.Line.{Line}
-use Rattle.model.specs.declared.Line.the-variants.{Idle, PutRead, PutTail, PutTest, PutNumber, PutPayload, PutFinish, Claim, Note, Copy, Publish, TakeRead, TakeTail, TakeTest, TakeNumber, TakePayload, TakeFinish, StealRead, StealTail, StealTest, StealNote, StealNumber, StealPayload, StealNext, StealCompare}
+use Rattle.model.specs.declared.Line.the-variants.{Idle, PutRead, PutTail, PutTest, PutWord, PutFinish, Claim, Note, Copy, Publish, TakeRead, TakeTail, TakeTest, TakeWord, TakeFinish, StealRead, StealTail, StealTest, StealNote, StealWord, StealNext, StealCompare}
 use Rattle.model.specs.declared.Worker.{Worker}
 use Rattle.model.specs.declared.Queue.{Queue}
 use Rattle.model.specs.declared.Answer.{Answer}
@@ -23,7 +23,7 @@ use Rattle.model.specs.Figures.{isEmpty, isSame}
 use Rattle.model.specs.World.{World, Outcome, lineAt, isIdle, resting, refuse}
 use Rattle.model.specs.Limits.{validOf}
 use Rattle.model.specs.Calls.{stepOf, stepped, commit, noRoom, nextEffect}
-use Rattle.model.specs.Listing.{Print, printed, isRefused, response, showing, stepsOf}
+use Rattle.model.specs.Listing.{Print, printed, printedBy, isRefused, response, showing, stepsOf}
 use Rattle.replies.specs.Shown.{shownAll}
 use Rattle.replies.proofs.Ways.{either, never}
 use Rattle.replies.proofs.Shows.{answer-lines, answer-most, show-none, show-append}
@@ -32,33 +32,30 @@ use Rattle.replies.proofs.Shows.{answer-lines, answer-most, show-none, show-app
 abbrev Rests : Effect → Type 0
 Rests E = ends (E .answer) ≡ true → isIdle (E .line) ≡ true
 
-rests : (κ : Kind) (w : ℕ) (q : Queue) (m : List ℕ) (i : ℕ) (l : Line) → Rests (lineStep κ w q m i l)
+rests : (κ : Kind) (w v : ℕ) (q : Queue) (m : List ℕ) (i : ℕ) (l : Line) → Rests (lineStep κ w v q m i l)
 unfolding lineStep
-rests κ w q m i Idle = λ e. refl
-rests κ w q m i (PutRead t) = λ e. never (sym e)
-rests κ w q m i (PutTail t h) = λ e. never (sym e)
-rests κ w q m i (PutTest t r) = λ e. never (sym e)
-rests κ w q m i (PutNumber t r) = λ e. never (sym e)
-rests κ w q m i (PutPayload t r) = λ e. never (sym e)
-rests κ w q m i (PutFinish t r) = λ e. refl
-rests κ w q m i (Claim t) = either Rests (fits q m) _ _ (λ e. never (sym e)) (λ e. refl)
-rests κ w q m i (Note t) = λ e. never (sym e)
-rests κ w q m i (Copy t h n k) = λ e. never (sym e)
-rests κ w q m i (Publish t) = λ e. never (sym e)
-rests κ w q m i TakeRead = λ e. never (sym e)
-rests κ w q m i (TakeTail h) = λ e. never (sym e)
-rests κ w q m i (TakeTest r) = either Rests (isEmpty κ r) _ _ (λ e. refl) (λ e. never (sym e))
-rests κ w q m i (TakeNumber r) = λ e. never (sym e)
-rests κ w q m i (TakePayload r n) = λ e. never (sym e)
-rests κ w q m i (TakeFinish r t) = λ e. refl
-rests κ w q m i StealRead = λ e. never (sym e)
-rests κ w q m i (StealTail h) = λ e. never (sym e)
-rests κ w q m i (StealTest r) = either Rests (isEmpty κ r) _ _ (λ e. refl) (λ e. never (sym e))
-rests κ w q m i (StealNote r) = λ e. never (sym e)
-rests κ w q m i (StealNumber r k) = λ e. never (sym e)
-rests κ w q m i (StealPayload r k n) = λ e. never (sym e)
-rests κ w q m i (StealNext r t) = λ e. never (sym e)
-rests κ w q m i (StealCompare r e t) = either Rests (isSame κ (q .anchor) r) _ _ (λ f. refl) (λ f. never (sym f))
+rests κ w v q m i Idle = λ e. refl
+rests κ w v q m i (PutRead t) = λ e. never (sym e)
+rests κ w v q m i (PutTail t h) = λ e. never (sym e)
+rests κ w v q m i (PutTest t r) = λ e. never (sym e)
+rests κ w v q m i (PutWord t r j) = λ e. never (sym e)
+rests κ w v q m i (PutFinish t r) = λ e. refl
+rests κ w v q m i (Claim t) = either Rests (fits v q m) _ _ (λ e. never (sym e)) (λ e. refl)
+rests κ w v q m i (Note t) = λ e. never (sym e)
+rests κ w v q m i (Copy t h n k) = λ e. never (sym e)
+rests κ w v q m i (Publish t) = λ e. never (sym e)
+rests κ w v q m i TakeRead = λ e. never (sym e)
+rests κ w v q m i (TakeTail h) = λ e. never (sym e)
+rests κ w v q m i (TakeTest r) = either Rests (isEmpty κ r) _ _ (λ e. refl) (λ e. never (sym e))
+rests κ w v q m i (TakeWord r t j) = λ e. never (sym e)
+rests κ w v q m i (TakeFinish r t) = λ e. refl
+rests κ w v q m i StealRead = λ e. never (sym e)
+rests κ w v q m i (StealTail h) = λ e. never (sym e)
+rests κ w v q m i (StealTest r) = either Rests (isEmpty κ r) _ _ (λ e. refl) (λ e. never (sym e))
+rests κ w v q m i (StealNote r) = λ e. never (sym e)
+rests κ w v q m i (StealWord r k t j) = λ e. never (sym e)
+rests κ w v q m i (StealNext r t) = λ e. never (sym e)
+rests κ w v q m i (StealCompare r e t) = either Rests (isSame κ (q .anchor) r) _ _ (λ f. refl) (λ f. never (sym f))
 
 -- a record that is written is read again; a worker outside the list is idle
 set-idle : (l : List Worker) (i : ℕ) (x : Line) → isIdle x ≡ true → isIdle (lineAt (set l i (record { line = x })) i) ≡ true
@@ -72,26 +69,26 @@ set-idle l i x e = go (ltb i (length l)) refl
         ∙ ap (λ (n : Worker). isIdle (n .line)) (List·getD-eq-default l resting {n = i} k)
 
 -- an answer that neither is a refusal nor ends an operation prints nothing
-quiet : (a : Answer) → isRefused a ≡ false → ends a ≡ false → printed a ≡ []
-quiet Accepted e f = refl
-quiet (Numbered n) e f = refl
-quiet GoesOn e f = refl
-quiet (Finished i t) e f = never f
-quiet (HandedOut i t) e f = never f
-quiet (Empty i) e f = never f
-quiet (Full i t) e f = never f
-quiet (Refused r) e f = never e
+quiet : (v : ℕ) (a : Answer) → isRefused a ≡ false → ends a ≡ false → printed v a ≡ []
+quiet v Accepted e f = refl
+quiet v (Numbered n) e f = refl
+quiet v GoesOn e f = refl
+quiet v (Finished i t) e f = never f
+quiet v (HandedOut i t) e f = never f
+quiet v (Empty i) e f = never f
+quiet v (Full i t) e f = never f
+quiet v (Refused r) e f = never e
 
 -- after a step that is not refused: nothing was printed, or the worker is idle
 abbrev Went : ℕ → Outcome → Type 0
-Went i d = isRefused (d .answer) ≡ false → (printed (d .answer) ≡ []) ⊎ (isIdle (lineAt (d .world .bench .workers) i) ≡ true)
+Went i d = isRefused (d .answer) ≡ false → (printedBy d ≡ []) ⊎ (isIdle (lineAt (d .world .bench .workers) i) ≡ true)
 
 went-stepped : (W : World) (i : ℕ) (E : Effect) → Rests E → Went i (stepped W i E)
 went-stepped W i E r e = go (ends (E .answer)) refl
   where
-    go : (b : Bool) → ends (E .answer) ≡ b → (printed (E .answer) ≡ []) ⊎ (isIdle (lineAt (set (W .bench .workers) i (record { line = E .line })) i) ≡ true)
+    go : (b : Bool) → ends (E .answer) ≡ b → (printed (W .bench .words) (E .answer) ≡ []) ⊎ (isIdle (lineAt (set (W .bench .workers) i (record { line = E .line })) i) ≡ true)
     go true h = inr (set-idle (W .bench .workers) i (E .line) (r h))
-    go false h = inl (quiet (E .answer) e h)
+    go false h = inl (quiet (W .bench .words) (E .answer) e h)
 
 went : (W : World) (i : ℕ) → Went i (stepOf W i)
 unfolding stepOf
@@ -100,7 +97,7 @@ went W i =
     (either (Went i) (ltb i (W .bench .crew)) _ _
     (either (Went i) (isIdle (lineAt (W .bench .workers) i)) _ _ (λ e. never e)
     (either (Went i) (noRoom W (nextEffect W i)) _ _ (λ e. never e)
-    (went-stepped W i (nextEffect W i) (rests _ _ _ _ i (lineAt (W .bench .workers) i)))))
+    (went-stepped W i (nextEffect W i) (rests _ _ _ _ _ i (lineAt (W .bench .workers) i)))))
     (λ e. never e))
     (λ e. never e)
 
@@ -122,16 +119,16 @@ unfolding stepsOf if_then_else_
 steps-refused W i m e = rw e
 
 pub steps-made : (W : World) (i m : ℕ) → isRefused (stepOf W i .answer) ≡ false →
-    stepsOf W i (suc m) ≡ response (stepsOf (stepOf W i .world) i m .program) (printed (stepOf W i .answer) ++ stepsOf (stepOf W i .world) i m .output)
+    stepsOf W i (suc m) ≡ response (stepsOf (stepOf W i .world) i m .program) (printedBy (stepOf W i) ++ stepsOf (stepOf W i .world) i m .output)
 unfolding stepsOf if_then_else_
 steps-made W i m e = rw e
 
 -- Whatever is counted of what is printed, by lines or by bytes: a `step` line prints at most twice what an answer can.
-module _ (size : List Print → ℕ) (most : ℕ) (none : size [] ≡ 0) (both : (p q : List Print) → size (p ++ q) ≡ size p + size q) (one : (a : Answer) → size (printed a) ≤ most) where
+module _ (size : List Print → ℕ) (most : ℕ) (none : size [] ≡ 0) (both : (p q : List Print) → size (p ++ q) ≡ size p + size q) (one : (v : ℕ) (a : Answer) → size (printed v a) ≤ most) where
   idle-once : (m : ℕ) (W : World) (i : ℕ) → isIdle (lineAt (W .bench .workers) i) ≡ true → size (stepsOf W i m .output) ≤ most
   unfolding stepsOf
   idle-once zero W i e = omega (arith, none)
-  idle-once (suc m) W i e = rw (steps-refused W i m (idle-refused W i e)) (one (stepOf W i .answer))
+  idle-once (suc m) W i e = rw (steps-refused W i m (idle-refused W i e)) (one (stepOf W i .world .bench .words) (stepOf W i .answer))
 
   pub steps-twice : (m : ℕ) (W : World) (i : ℕ) → size (stepsOf W i m .output) ≤ most + most
   unfolding stepsOf
@@ -139,18 +136,18 @@ module _ (size : List Print → ℕ) (most : ℕ) (none : size [] ≡ 0) (both :
   steps-twice (suc m) W i = go (isRefused (stepOf W i .answer)) refl (steps-twice m (stepOf W i .world) i)
     where
       go : (b : Bool) → isRefused (stepOf W i .answer) ≡ b → size (stepsOf (stepOf W i .world) i m .output) ≤ most + most → size (stepsOf W i (suc m) .output) ≤ most + most
-      go true e h = rw (steps-refused W i m e) (omega (arith, one (stepOf W i .answer)))
+      go true e h = rw (steps-refused W i m e) (omega (arith, one (stepOf W i .world .bench .words) (stepOf W i .answer)))
       go false e h =
           rw (steps-made W i m e, both)
-          (⊎-elim (λ q. let r : size (printed (stepOf W i .answer)) ≡ 0 = ap size q ∙ none in omega arith)
-          (λ q. omega (arith, one (stepOf W i .answer), idle-once m (stepOf W i .world) i q)) (went W i e))
+          (⊎-elim (λ q. let r : size (printedBy (stepOf W i)) ≡ 0 = ap size q ∙ none in omega arith)
+          (λ q. omega (arith, one (stepOf W i .world .bench .words) (stepOf W i .answer), idle-once m (stepOf W i .world) i q)) (went W i e))
 
 -- at most two lines
 pub steps-lines : (m : ℕ) (W : World) (i : ℕ) → length (stepsOf W i m .output) ≤ 2
 steps-lines = steps-twice length 1 refl length-append answer-lines
 
--- at most 70 bytes
-pub steps-most : (m : ℕ) (W : World) (i : ℕ) → length (shownAll (stepsOf W i m .output)) ≤ 70
+-- at most 136 bytes
+pub steps-most : (m : ℕ) (W : World) (i : ℕ) → length (shownAll (stepsOf W i m .output)) ≤ 136
 steps-most =
-    steps-twice (λ (ps : List Print). length (shownAll ps)) 35 (ap length show-none)
+    steps-twice (λ (ps : List Print). length (shownAll ps)) 68 (ap length show-none)
     (λ p q. ap length (show-append p q) ∙ length-append (shownAll p) (shownAll q)) answer-most

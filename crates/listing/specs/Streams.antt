@@ -20,7 +20,7 @@ pub data Stream : Program → List ℕ → List (List ℕ) → List ℕ → Type
       → Stream P buf cs (take (f .wrote) out ++ text)
   stops : {P : Program} {buf : List ℕ} {cs : List (List ℕ)} (f : Consumed) (m l out : List ℕ)
       → ConsumedBy P buf f m l out → f .stops ≡ true → Stream P buf cs (take (f .wrote) out)
-  carries : {P : Program} {buf text : List ℕ} {cs : List (List ℕ)} → Open buf → Stream P (take 61 buf) cs text → Stream P buf cs text
+  carries : {P : Program} {buf text : List ℕ} {cs : List (List ℕ)} → Open buf → Stream P (take 72 buf) cs text → Stream P buf cs text
   closes : {P : Program} {buf text : List ℕ} → (length buf ≡ 0 → ⊥) → Open buf → Stream P (buf ++ 10 ∷ []) [] text → Stream P buf [] text
   over : {P : Program} → Stream P [] [] []
 

@@ -1,5 +1,5 @@
 // Lines of input played one after the other, and what they print, however the input is cut into buffers.
-// Uses `model`, `theorems`, `limits`, `state`, `machine`, `text` and `replies`. It is used by `bench`.
+// Uses `model`, `theorems`, `stages`, `limits`, `state`, `machine`, `text` and `replies`. It is used by `bench`.
 ghost use mathlib.Core.Path.{_≡_};
 ghost use Prim.Native.Nat.{_+_, _-_, _≤_, min};
 ghost use lib.ListN.{length, drop};
@@ -40,7 +40,7 @@ fn line_end(buf: &[u8], at: usize) -> usize
 
 // Plays the lines of the buffer that end in a newline, as long as the output has room for another line's text. `step I M` is
 // M steps, stopping at the first refusal. The bench stays in place where it can: a step that changes its worker's record alone
-// replaces that record, and what is refused leaves it alone. A bench that a `queue` of this program made is never
+// replaces that record, a compare that fails counts a restart beside it, and what is refused leaves it alone. A bench that a `queue` of this program made is never
 // foreign, so the limits are not tested at each step.
 pub fn consume(
     session: Session,
@@ -78,7 +78,7 @@ pub fn consume(
             let stop = replies::refused_at_once(live, bench, command);
             if let Stop::Why { why } = stop {
                 let answer = Answer::Refused { why };
-                wrote = replies::show(answer, out, wrote);
+                wrote = replies::show(bench.words, answer, out, wrote);
                 continue;
             }
             let p = replies::play(
@@ -110,6 +110,7 @@ pub fn consume(
             let moved = machine::step_in(
                 kind,
                 bench.width,
+                bench.words,
                 bench.crew,
                 queue,
                 bench.written,
@@ -124,13 +125,18 @@ pub fn consume(
             let Made::Nothing = made else {
                 if let Made::Refused { why } = made {
                     let answer = Answer::Refused { why };
-                    wrote = replies::show(answer, out, wrote);
+                    wrote = replies::show(bench.words, answer, out, wrote);
                     continue 'lines;
+                }
+                if let Made::Fails = made {
+                    bench.restarts = stages::one_more(bench.restarts);
+                    bench.workers[i] = Worker { line: to };
+                    continue;
                 }
                 let done = machine::settled(bench, i, to, made);
                 let answer = done.answer;
                 bench = done.bench;
-                wrote = replies::show(answer, out, wrote);
+                wrote = replies::show(bench.words, answer, out, wrote);
                 continue;
             };
             bench.workers[i] = Worker { line: to };
@@ -163,12 +169,12 @@ fn less(a: usize, b: usize) -> usize
 }
 
 // Moves the bytes from `from` to `n`, a line that has begun, to the front of the buffer, and answers how many there are. Of more
-// than 61 the first 61 are enough: a line that long is refused whatever follows.
+// than 72 the first 72 are enough: a line that long is refused whatever follows.
 pub fn carry(buf: &mut [u8], from: usize, n: usize) -> usize
     ensures { λ r. ⌜ CarriedBy (now (buf .entry)) from n r (now (buf .exit)) ⌝ }
 {
     let to = least(n, buf.len());
-    let k = least(61, less(to, from));
+    let k = least(72, less(to, from));
     let mut i = 0;
     while i < k {
         buf[i] = buf[from + i];

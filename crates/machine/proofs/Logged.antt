@@ -21,20 +21,20 @@ is-full : {full r : Bool} → r ≡ not full → r ≡ false → full ≡ true
 is-full {full = true} e f = refl
 is-full {full = false} e f = sym f ∙ e
 
-module _ (k : ℕ) (l : List ℕ) {d : Action} {y : Answer} {r : Bool} (answers : r ≡ not (logFull l k)) where
-  pub stops : d ≡ Stops y → r ≡ true → made.Stops y ≡ actedBy k l d
+module _ (v k : ℕ) (l : List ℕ) {d : Action} {y : Answer} {r : Bool} (answers : r ≡ not (logFull v l k)) where
+  pub stops : d ≡ Stops y → r ≡ true → made.Stops y ≡ actedBy v k l d
   unfolding actedBy
-  stops e f = sym (ap (actedBy k l) e ∙ if-false _ (has-room answers f))
+  stops e f = sym (ap (actedBy v k l) e ∙ if-false _ (has-room answers f))
 
-  pub stops-full : d ≡ Stops y → r ≡ false → made.Refused LogFull ≡ actedBy k l d
+  pub stops-full : d ≡ Stops y → r ≡ false → made.Refused LogFull ≡ actedBy v k l d
   unfolding actedBy
-  stops-full e f = sym (ap (actedBy k l) e ∙ if-true _ (is-full answers f))
+  stops-full e f = sym (ap (actedBy v k l) e ∙ if-true _ (is-full answers f))
 
   module _ {a : Anchor} where
-    pub ends : d ≡ Ends a y → r ≡ true → made.Ends a y ≡ actedBy k l d
+    pub ends : d ≡ Ends a y → r ≡ true → made.Ends a y ≡ actedBy v k l d
     unfolding actedBy
-    ends e f = sym (ap (actedBy k l) e ∙ if-false _ (has-room answers f))
+    ends e f = sym (ap (actedBy v k l) e ∙ if-false _ (has-room answers f))
 
-    pub ends-full : d ≡ Ends a y → r ≡ false → made.Refused LogFull ≡ actedBy k l d
+    pub ends-full : d ≡ Ends a y → r ≡ false → made.Refused LogFull ≡ actedBy v k l d
     unfolding actedBy
-    ends-full e f = sym (ap (actedBy k l) e ∙ if-true _ (is-full answers f))
+    ends-full e f = sym (ap (actedBy v k l) e ∙ if-true _ (is-full answers f))

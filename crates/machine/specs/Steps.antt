@@ -13,7 +13,8 @@ use Rattle.model.specs.declared.Refusal.the-variants.{LogFull}
 use Rattle.model.specs.declared.Answer.{Answer}
 use Rattle.model.specs.declared.Answer.the-variants.{GoesOn, Refused}
 use Rattle.model.specs.Tests.{if_then_else_}
-use Rattle.model.specs.Answers.{ends, entryOf, writeEntry}
+use Rattle.model.specs.Memory.{setAll}
+use Rattle.model.specs.Answers.{ends, entryOf, entryLength, entryWords}
 use Rattle.model.specs.Lines.{anchored, publishing}
 use Rattle.model.specs.World.{Outcome}
 use Rattle.model.specs.Calls.{lent, oneMore, logFull}
@@ -24,14 +25,14 @@ use Rattle.machine.specs.declared.Made.{Made}
 use Rattle.machine.specs.declared.Made.the-variants as made
 
 -- a state of what a step is handed, with u numbers used, n restarts and the records ws
-abbrev pub benchOf : Kind → ℕ → ℕ → Queue → ℕ → ℕ → ℕ → List Worker → Bench
-benchOf κ w c q k u n ws =
-    record { kind = κ; width = w; crew = c; queue = q; used = u; restarts = n; written = k; workers = ws }
+abbrev pub benchOf : Kind → ℕ → ℕ → ℕ → Queue → ℕ → ℕ → ℕ → List Worker → Bench
+benchOf κ w v c q k u n ws =
+    record { kind = κ; width = w; words = v; crew = c; queue = q; used = u; restarts = n; written = k; workers = ws }
 
 -- the state with worker i at the line x, and another queue, other counts of restarts and of words written
 abbrev pub moves : Bench → ℕ → Line → Queue → ℕ → ℕ → Bench
 moves b i x q n k =
-    benchOf (b .kind) (b .width) (b .crew) q k (b .used) n (set (b .workers) i (record { line = x }))
+    benchOf (b .kind) (b .width) (b .words) (b .crew) q k (b .used) n (set (b .workers) i (record { line = x }))
 
 -- the state after a step, and the answer
 unfoldable pub benchAfter : Bench → ℕ → Line → Made → Bench
@@ -40,8 +41,8 @@ benchAfter b i x (made.Refused r) = b
 benchAfter b i x made.Fails = moves b i x (b .queue) (oneMore (b .restarts)) (b .written)
 benchAfter b i x (made.Claims a z) = moves b i x (withArray (b .queue) a z) (b .restarts) (b .written)
 benchAfter b i x made.Publishes = moves b i x (publishing (b .queue)) (b .restarts) (b .written)
-benchAfter b i x (made.Stops y) = moves b i x (b .queue) (b .restarts) (b .written + 4)
-benchAfter b i x (made.Ends a y) = moves b i x (anchored (b .queue) a) (b .restarts) (b .written + 4)
+benchAfter b i x (made.Stops y) = moves b i x (b .queue) (b .restarts) (b .written + entryLength (b .words))
+benchAfter b i x (made.Ends a y) = moves b i x (anchored (b .queue) a) (b .restarts) (b .written + entryLength (b .words))
 
 unfoldable pub answerAfter : Made → Answer
 answerAfter made.Nothing = GoesOn
@@ -56,56 +57,56 @@ answerAfter (made.Ends a y) = y
 abbrev pub movedBy : Bench → ℕ → Line → Made → List ℕ → List ℕ → Outcome
 movedBy b i x d m l = record { world = lent (benchAfter b i x d) m l; answer = answerAfter d }
 
--- an answer logged behind k written words, where the log l has room for its entry
-abbrev pub logBy : ℕ → List ℕ → Answer → List ℕ
-logBy k l a = if logFull l k then l else writeEntry l k (entryOf a)
+-- an answer logged behind k written words, where the log l has room for its entry; a task has v payload words
+abbrev pub logBy : ℕ → ℕ → List ℕ → Answer → List ℕ
+logBy v k l a = if logFull v l k then l else setAll l k (entryWords v (entryOf a))
 
 -- an action carried out: what it makes of the step, and of the log
-unfoldable pub actedBy : ℕ → List ℕ → Action → Made
-actedBy k l action.Nothing = made.Nothing
-actedBy k l action.Fails = made.Fails
-actedBy k l (action.Word a x) = made.Nothing
-actedBy k l (action.Copies a t) = made.Nothing
-actedBy k l (action.Claims a z) = made.Claims a z
-actedBy k l action.Publishes = made.Publishes
-actedBy k l (action.Stops y) = if logFull l k then made.Refused LogFull else made.Stops y
-actedBy k l (action.Ends a y) = if logFull l k then made.Refused LogFull else made.Ends a y
+unfoldable pub actedBy : ℕ → ℕ → List ℕ → Action → Made
+actedBy v k l action.Nothing = made.Nothing
+actedBy v k l action.Fails = made.Fails
+actedBy v k l (action.Word a x) = made.Nothing
+actedBy v k l (action.Copies a t) = made.Nothing
+actedBy v k l (action.Claims a z) = made.Claims a z
+actedBy v k l action.Publishes = made.Publishes
+actedBy v k l (action.Stops y) = if logFull v l k then made.Refused LogFull else made.Stops y
+actedBy v k l (action.Ends a y) = if logFull v l k then made.Refused LogFull else made.Ends a y
 
-unfoldable pub logAfter : ℕ → List ℕ → Action → List ℕ
-logAfter k l action.Nothing = l
-logAfter k l action.Fails = l
-logAfter k l (action.Word a x) = l
-logAfter k l (action.Copies a t) = l
-logAfter k l (action.Claims a z) = l
-logAfter k l action.Publishes = l
-logAfter k l (action.Stops y) = logBy k l y
-logAfter k l (action.Ends a y) = logBy k l y
+unfoldable pub logAfter : ℕ → ℕ → List ℕ → Action → List ℕ
+logAfter v k l action.Nothing = l
+logAfter v k l action.Fails = l
+logAfter v k l (action.Word a x) = l
+logAfter v k l (action.Copies a t) = l
+logAfter v k l (action.Claims a z) = l
+logAfter v k l action.Publishes = l
+logAfter v k l (action.Stops y) = logBy v k l y
+logAfter v k l (action.Ends a y) = logBy v k l y
 
 -- an action can be carried out on a store of n words
-unfoldable pub Writable : ℕ → Action → Type 0
-Writable n action.Nothing = Unit {0}
-Writable n action.Fails = Unit {0}
-Writable n (action.Word a x) = a < n
-Writable n (action.Copies a t) = a + 1 < n
-Writable n (action.Claims a z) = a + z ≤ n
-Writable n action.Publishes = Unit {0}
-Writable n (action.Stops y) = Unit {0}
-Writable n (action.Ends a y) = Unit {0}
+unfoldable pub Writable : ℕ → ℕ → Action → Type 0
+Writable v n action.Nothing = Unit {0}
+Writable v n action.Fails = Unit {0}
+Writable v n (action.Word a x) = a < n
+Writable v n (action.Copies a t) = a + (v + 1) ≤ n
+Writable v n (action.Claims a z) = a + z ≤ n
+Writable v n action.Publishes = Unit {0}
+Writable v n (action.Stops y) = Unit {0}
+Writable v n (action.Ends a y) = Unit {0}
 
 -- what a step did fits the state: the directory has a place for a claimed pair, a log's length can count the entry, and what
 -- ends an operation answers an entry
-unfoldable pub Fits : Queue → ℕ → Made → Type 0
-Fits q k made.Nothing = Unit {0}
-Fits q k (made.Refused r) = Unit {0}
-Fits q k made.Fails = Unit {0}
-Fits q k (made.Claims a z) = q .published < 11
-Fits q k made.Publishes = q .published ≤ 11
-Fits q k (made.Stops y) = (k + 4 ≤ 4294967295) × (ends y ≡ true)
-Fits q k (made.Ends a y) = (k + 4 ≤ 4294967295) × (ends y ≡ true)
+unfoldable pub Fits : ℕ → Queue → ℕ → Made → Type 0
+Fits v q k made.Nothing = Unit {0}
+Fits v q k (made.Refused r) = Unit {0}
+Fits v q k made.Fails = Unit {0}
+Fits v q k (made.Claims a z) = q .published < 11
+Fits v q k made.Publishes = q .published ≤ 11
+Fits v q k (made.Stops y) = (k + entryLength v ≤ 4294967295) × (ends y ≡ true)
+Fits v q k (made.Ends a y) = (k + entryLength v ≤ 4294967295) × (ends y ≡ true)
 
 -- worker i, at the line y, can be stepped in a store of z words, in a crew of n
-pub record Steppable (κ : Kind) (w n : ℕ) (q : Queue) (z i : ℕ) (y : Line) : Type 0 where
+pub record Steppable (κ : Kind) (w v n : ℕ) (q : Queue) (z i : ℕ) (y : Line) : Type 0 where
   pub narrow : w ≤ 16
   pub crew : n ≤ 8
-  pub ground : Ground q z
-  pub ready : i < n → Ready κ q z y
+  pub ground : Ground v q z
+  pub ready : i < n → Ready κ v q z y

@@ -1,7 +1,7 @@
 // A step past the test of the limits. `step_in` is handed what a step reads of the state, writes the store and the log, and answers
 // what the step leaves of the state: the line that its worker is at, and what it did beside. A caller that keeps its bench in a
 // local can so replace the one record that most steps change; `settled` has the other steps.
-// Uses `model`, `answers`, `stages`, `lines`, `limits`, `memory` and `state`. It is used by `queues` and `listing`.
+// Uses `model`, `answers`, `stages`, `slots`, `lines`, `limits`, `memory` and `state`. It is used by `queues` and `listing`.
 ghost use mathlib.Core.Path.{_≡_};
 ghost use mathlib.Core.Bool.{not};
 ghost use mathlib.Core.List.{List};
@@ -10,6 +10,7 @@ ghost use lib.ListN.{length};
 ghost use Rattle.model.specs.declared.Worker.{Worker};
 ghost use Rattle.model.specs.World.{lineAt};
 ghost use Rattle.model.specs.Calls.{lent, logFull, stepIn};
+ghost use Rattle.slots.specs.Bounds.{Wide};
 ghost use Rattle.lines.specs.Actions.{withArray, storeBy};
 ghost use Rattle.machine.specs.Steps.{
   benchOf,
@@ -55,24 +56,26 @@ pub struct Moved {
 }
 
 // Logs an answer's entry behind `written` words, and answers whether the log had room for it.
-fn log_answer(written: u32, answer: Answer, log: &mut [u32]) -> bool
-    ensures { λ r. ⌜ r ≡ not (logFull (now (log .entry)) written) ⌝ }
-    ensures { λ r. ⌜ now (log .exit) ≡ logBy written (now (log .entry)) answer ⌝ }
+fn log_answer(words: u32, written: u32, answer: Answer, log: &mut [u32]) -> bool
+    requires { ⌜ Wide words ⌝ }
+    ensures { λ r. ⌜ r ≡ not (logFull words (now (log .entry)) written) ⌝ }
+    ensures { λ r. ⌜ now (log .exit) ≡ logBy words written (now (log .entry)) answer ⌝ }
 {
-    if !memory::has_room(written, log) {
+    if !memory::has_room(written, words, log) {
         return false;
     }
     let entry = answers::entry_of(answer);
-    memory::write_entry(log, written as usize, entry);
+    memory::write_entry(log, written as usize, words, entry);
     true
 }
 
 // Carries an action out.
-fn act(written: u32, action: Action, store: &mut [u32], log: &mut [u32]) -> Made
-    requires { ⌜ Writable (length (now store)) action ⌝ }
-    ensures { λ r. ⌜ r ≡ actedBy written (now (log .entry)) action ⌝ }
-    ensures { λ r. ⌜ now (store .exit) ≡ storeBy (now (store .entry)) action ⌝ }
-    ensures { λ r. ⌜ now (log .exit) ≡ logAfter written (now (log .entry)) action ⌝ }
+fn act(words: u32, written: u32, action: Action, store: &mut [u32], log: &mut [u32]) -> Made
+    requires { ⌜ Wide words ⌝ }
+    requires { ⌜ Writable words (length (now store)) action ⌝ }
+    ensures { λ r. ⌜ r ≡ actedBy words written (now (log .entry)) action ⌝ }
+    ensures { λ r. ⌜ now (store .exit) ≡ storeBy words (now (store .entry)) action ⌝ }
+    ensures { λ r. ⌜ now (log .exit) ≡ logAfter words written (now (log .entry)) action ⌝ }
 {
     match action {
         Action::Nothing => Made::Nothing,
@@ -82,9 +85,7 @@ fn act(written: u32, action: Action, store: &mut [u32], log: &mut [u32]) -> Made
             Made::Nothing
         }
         Action::Copies { place, task } => {
-            let next = place + 1;
-            store[place] = task.number;
-            store[next] = task.payload;
+            memory::write_task(store, place, words, task);
             Made::Nothing
         }
         Action::Claims { offset, length } => {
@@ -93,7 +94,7 @@ fn act(written: u32, action: Action, store: &mut [u32], log: &mut [u32]) -> Made
         }
         Action::Publishes => Made::Publishes,
         Action::Stops { answer } => {
-            if log_answer(written, answer, log) {
+            if log_answer(words, written, answer, log) {
                 Made::Stops { answer }
             } else {
                 Made::Refused {
@@ -102,7 +103,7 @@ fn act(written: u32, action: Action, store: &mut [u32], log: &mut [u32]) -> Made
             }
         }
         Action::Ends { anchor, answer } => {
-            if log_answer(written, answer, log) {
+            if log_answer(words, written, answer, log) {
                 Made::Ends { anchor, answer }
             } else {
                 Made::Refused {
@@ -117,6 +118,7 @@ fn act(written: u32, action: Action, store: &mut [u32], log: &mut [u32]) -> Made
 pub fn step_in(
     kind: Kind,
     width: u32,
+    words: u32,
     crew: u32,
     queue: Queue,
     written: u32,
@@ -125,13 +127,13 @@ pub fn step_in(
     store: &mut [u32],
     log: &mut [u32],
 ) -> Moved
-    requires { ⌜ Steppable kind width crew queue (length (now store)) worker line ⌝ }
-    ensures { λ r. ⌜ Fits queue written (r .made) ⌝ }
+    requires { ⌜ Steppable kind width words crew queue (length (now store)) worker line ⌝ }
+    ensures { λ r. ⌜ Fits words queue written (r .made) ⌝ }
     ensures { λ r.
         ⌜
         ((u n k : ℕ) (ws : List Worker) → (worker < 8 → k ≡ worker) → lineAt ws k ≡ line
-        → movedBy (benchOf kind width crew queue written u n ws) k (r .line) (r .made) (now (store .exit)) (now (log .exit))
-        ≡ stepIn (lent (benchOf kind width crew queue written u n ws) (now (store .entry)) (now (log .entry))) worker)
+        → movedBy (benchOf kind width words crew queue written u n ws) k (r .line) (r .made) (now (store .exit)) (now (log .exit))
+        ≡ stepIn (lent (benchOf kind width words crew queue written u n ws) (now (store .entry)) (now (log .entry))) worker)
         ⌝ }
 {
     if crew <= worker {
@@ -148,9 +150,9 @@ pub fn step_in(
             made: Made::Refused { why },
         };
     }
-    let to = lines::next_line(kind, queue, store, line);
-    let action = lines::decide(kind, width, queue, store, worker, line);
-    let made = act(written, action, store, log);
+    let to = lines::next_line(kind, words, queue, store, line);
+    let action = lines::decide(kind, width, words, queue, store, worker, line);
+    let made = act(words, written, action, store, log);
     Moved { line: to, made }
 }
 
@@ -190,7 +192,7 @@ fn replaced(
 // The state after a step that left the worker at `place` at `line`, and the answer.
 pub fn settled(bench: Bench, place: usize, line: Line, made: Made) -> Returned
     requires { ⌜ place < 8 ⌝ }
-    requires { ⌜ Fits (bench .queue) (bench .written) made ⌝ }
+    requires { ⌜ Fits (bench .words) (bench .queue) (bench .written) made ⌝ }
     ensures { λ r. ⌜ r ≡ record { bench = benchAfter bench place line made; answer = answerAfter made } ⌝ }
 {
     let queue = bench.queue;
@@ -224,7 +226,7 @@ pub fn settled(bench: Bench, place: usize, line: Line, made: Made) -> Returned
             }
         }
         Made::Stops { answer } => {
-            let length = written + 4;
+            let length = written + (3 + bench.words);
             Returned {
                 bench: replaced(bench, place, line, queue, restarts, length),
                 answer,
@@ -232,7 +234,7 @@ pub fn settled(bench: Bench, place: usize, line: Line, made: Made) -> Returned
         }
         Made::Ends { anchor, answer } => {
             let left = state::with_anchor(queue, anchor);
-            let length = written + 4;
+            let length = written + (3 + bench.words);
             Returned {
                 bench: replaced(bench, place, line, left, restarts, length),
                 answer,

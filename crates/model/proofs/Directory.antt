@@ -10,8 +10,8 @@ use lib.Dec.{eqb}
 use lib.Pow.{pow-pos, pow-mono}
 use borrow.Author.Tests.{eqb-true, leb-true}
 use Rattle.model.specs.declared.Region.{Region}
-use Rattle.model.specs.Memory.{offsetAt, sizeAt}
-use Rattle.model.specs.Limits.{isSize, lengthAt, tidy}
+use Rattle.model.specs.Memory.{offsetAt, lengthAt, sizeAt}
+use Rattle.model.specs.Limits.{isSize, tidy}
 use Rattle.model.proofs.Tests.{and-left, and-right, or-cases}
 
 -- an array's size
@@ -40,53 +40,68 @@ size-yes (suc e) c l q = go (or-cases (eqb c (2 ^ suc e)) (isSize e c) q) (λ t.
     go (inl a) f = (suc e, l, eqb-true c (2 ^ suc e) a)
     go (inr b) f = f b
 
-size-of : (l : List Region) (k z : ℕ) → lengthAt l k ≡ 2 * z → sizeAt l k ≡ z
+size-of : (v : ℕ) (l : List Region) (k z : ℕ) → lengthAt l k ≡ (v + 1) * z → sizeAt v l k ≡ z
 unfolding sizeAt
-size-of l k z e = ap (λ (x : ℕ). x / 2) e ∙ mul-div-cancel-left z (omega arith)
+size-of v l k z e = ap (λ (x : ℕ). x / (v + 1)) e ∙ mul-div-cancel-left z (omega arith)
 
 -- one array after the other
-pub record Next (l : List Region) (k : ℕ) : Type 0 where
-  pub place : offsetAt l (suc k) ≡ offsetAt l k + 2 * sizeAt l k
-  pub twice : sizeAt l (suc k) ≡ 2 * sizeAt l k
-  pub small : 2 * sizeAt l k ≤ 1024
+pub record Next (v : ℕ) (l : List Region) (k : ℕ) : Type 0 where
+  pub place : offsetAt l (suc k) ≡ offsetAt l k + lengthAt l k
+  pub longer : lengthAt l (suc k) ≡ 2 * lengthAt l k
+  pub small : 2 * sizeAt v l k ≤ 1024
 
-pub tidy-last : (l : List Region) (k : ℕ) → tidy l (suc (suc k)) ≡ true → Next l k
-tidy-last l k t =
-    let a = and-right (tidy l (suc k)) _ t in
-    let b = and-right (eqb (offsetAt l (suc k)) (offsetAt l k + 2 * sizeAt l k)) _ a in
+pub tidy-last : (v : ℕ) (l : List Region) (k : ℕ) → tidy v l (suc (suc k)) ≡ true → Next v l k
+tidy-last v l k t =
+    let a = and-right (tidy v l (suc k)) _ t in
+    let b = and-right (eqb (offsetAt l (suc k)) (offsetAt l k + lengthAt l k)) _ a in
     record {
       place = eqb-true _ _ (and-left _ _ a);
-      twice = size-of l (suc k) (2 * sizeAt l k) (eqb-true _ _ (and-left _ _ b));
+      longer = eqb-true _ _ (and-left _ _ b);
       small = leb-true _ _ (and-right _ _ b);
     }
 
 -- the front of a tidy directory is tidy
-pub tidy-front : (l : List Region) (n k : ℕ) → tidy l n ≡ true → k < n → tidy l (suc k) ≡ true
-tidy-front l zero k t h = absurd (omega arith)
-tidy-front l (suc zero) k t h = subst (λ (x : ℕ). tidy l (suc x) ≡ true) {x = 0} {y = k} (omega arith) t
-tidy-front l (suc (suc n)) k t h =
-    go (eq-or-lt-of-le (let le : k ≤ suc n = omega arith in le)) (λ i. tidy-front l (suc n) k (and-left (tidy l (suc n)) _ t) i)
+pub tidy-front : (v : ℕ) (l : List Region) (n k : ℕ) → tidy v l n ≡ true → k < n → tidy v l (suc k) ≡ true
+tidy-front v l zero k t h = absurd (omega arith)
+tidy-front v l (suc zero) k t h = subst (λ (x : ℕ). tidy v l (suc x) ≡ true) {x = 0} {y = k} (omega arith) t
+tidy-front v l (suc (suc n)) k t h =
+    go (eq-or-lt-of-le (let le : k ≤ suc n = omega arith in le)) (λ i. tidy-front v l (suc n) k (and-left (tidy v l (suc n)) _ t) i)
   where
-    go : (k ≡ suc n) ⊎ (k < suc n) → (k < suc n → tidy l (suc k) ≡ true) → tidy l (suc k) ≡ true
-    go (inl e) f = subst (λ (x : ℕ). tidy l (suc x) ≡ true) (sym e) t
+    go : (k ≡ suc n) ⊎ (k < suc n) → (k < suc n → tidy v l (suc k) ≡ true) → tidy v l (suc k) ≡ true
+    go (inl e) f = subst (λ (x : ℕ). tidy v l (suc x) ≡ true) (sym e) t
     go (inr i) f = f i
 
-pub tidy-next : (l : List Region) (n k : ℕ) → tidy l n ≡ true → suc k < n → Next l k
-tidy-next l n k t h = tidy-last l k (tidy-front l n (suc k) t h)
+pub tidy-next : (v : ℕ) (l : List Region) (n k : ℕ) → tidy v l n ≡ true → suc k < n → Next v l k
+tidy-next v l n k t h = tidy-last v l k (tidy-front v l n (suc k) t h)
 
-pub tidy-start : (l : List Region) → tidy l 1 ≡ true → (offsetAt l 0 ≡ 0) × Size (sizeAt l 0)
-tidy-start l t = (eqb-true _ _ (and-left _ _ t), size-yes 10 (sizeAt l 0) (omega arith) (and-right _ _ (and-right _ _ t)))
+pub tidy-start : (v : ℕ) (l : List Region) → tidy v l 1 ≡ true → (offsetAt l 0 ≡ 0) × Size (sizeAt v l 0)
+tidy-start v l t = (eqb-true _ _ (and-left _ _ t), size-yes 10 (sizeAt v l 0) (omega arith) (and-right _ _ (and-right _ _ t)))
 
-pub tidy-size : (l : List Region) (k : ℕ) → tidy l (suc k) ≡ true → Size (sizeAt l k)
-tidy-size l zero t = tidy-start l t .1
-tidy-size l (suc k) t =
-    let N = tidy-last l k t in
-    subst Size (sym (N .twice)) (size-twice (tidy-size l k (and-left (tidy l (suc k)) _ t)) (N .small))
+-- each array's length in words is that of its tasks
+pub tidy-long : (v : ℕ) (l : List Region) (k : ℕ) → tidy v l (suc k) ≡ true → lengthAt l k ≡ (v + 1) * sizeAt v l k
+tidy-long v l zero t = eqb-true _ _ (and-left _ _ (and-right _ _ t))
+tidy-long v l (suc k) t =
+    let e : lengthAt l (suc k) ≡ (v + 1) * (2 * sizeAt v l k) = omega (arith, tidy-last v l k t .longer, tidy-long v l k (and-left (tidy v l (suc k)) _ t)) in
+    e ∙ ap (λ (x : ℕ). (v + 1) * x) (sym (size-of v l (suc k) (2 * sizeAt v l k) e))
+
+pub tidy-twice : (v : ℕ) (l : List Region) (k : ℕ) → tidy v l (suc (suc k)) ≡ true → sizeAt v l (suc k) ≡ 2 * sizeAt v l k
+tidy-twice v l k t =
+    size-of v l (suc k) (2 * sizeAt v l k) (omega (arith, tidy-last v l k t .longer, tidy-long v l k (and-left (tidy v l (suc k)) _ t)))
+
+pub tidy-size : (v : ℕ) (l : List Region) (k : ℕ) → tidy v l (suc k) ≡ true → Size (sizeAt v l k)
+tidy-size v l zero t = tidy-start v l t .1
+tidy-size v l (suc k) t =
+    let N = tidy-last v l k t in
+    subst Size (sym (tidy-twice v l k t)) (size-twice (tidy-size v l k (and-left (tidy v l (suc k)) _ t)) (N .small))
 
 -- each array's size is the first one's, doubled
-pub tidy-doubled : (l : List Region) (k : ℕ) → tidy l (suc k) ≡ true → sizeAt l k ≡ sizeAt l 0 * 2 ^ k
-tidy-doubled l zero t = sym (mul-one (sizeAt l 0))
-tidy-doubled l (suc k) t =
-    tidy-last l k t .twice
-    ∙ ap (λ (x : ℕ). 2 * x) (tidy-doubled l k (and-left (tidy l (suc k)) _ t))
-    ∙ sym (ap (λ (x : ℕ). sizeAt l 0 * x) (pow-succ' 2 k) ∙ mul-left-comm (sizeAt l 0) 2 (2 ^ k))
+pub tidy-doubled : (v : ℕ) (l : List Region) (k : ℕ) → tidy v l (suc k) ≡ true → sizeAt v l k ≡ sizeAt v l 0 * 2 ^ k
+tidy-doubled v l zero t = sym (mul-one (sizeAt v l 0))
+tidy-doubled v l (suc k) t =
+    tidy-twice v l k t
+    ∙ ap (λ (x : ℕ). 2 * x) (tidy-doubled v l k (and-left (tidy v l (suc k)) _ t))
+    ∙ sym (ap (λ (x : ℕ). sizeAt v l 0 * x) (pow-succ' 2 k) ∙ mul-left-comm (sizeAt v l 0) 2 (2 ^ k))
+
+-- and so the size that the queue keeps, doubled
+pub tidy-kept : (v : ℕ) (l : List Region) (c k : ℕ) → c ≡ sizeAt v l 0 → tidy v l (suc k) ≡ true → sizeAt v l k ≡ c * 2 ^ k
+tidy-kept v l c k e t = tidy-doubled v l k t ∙ ap (λ (x : ℕ). x * 2 ^ k) (sym e)

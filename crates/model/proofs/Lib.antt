@@ -4,6 +4,7 @@ pub mod Table
 pub mod Mistakes
 pub mod Entries
 pub mod Limits
+pub mod Tasks
 pub mod Arrays
 pub mod Directory
 pub mod Below

@@ -2,7 +2,7 @@
 use mathlib.Core.Path.{_≡_, refl}
 use mathlib.Core.Bool.{true, false}
 use mathlib.Core.List.{List, [], _∷_, _++_, map}
-use Prim.Native.Nat.{ℕ}
+use Prim.Native.Nat.{ℕ, _/_}
 use lib.ListN.{replicate}
 use Rattle.model.specs.declared.Kind.{Kind}
 use Rattle.model.specs.declared.Kind.the-variants.{Lifo, Fifo, Deque}
@@ -13,8 +13,7 @@ use Rattle.model.specs.declared.Line.the-variants.{
   PutRead,
   PutTail,
   PutTest,
-  PutNumber,
-  PutPayload,
+  PutWord,
   PutFinish,
   Claim,
   Note,
@@ -23,26 +22,25 @@ use Rattle.model.specs.declared.Line.the-variants.{
   TakeRead,
   TakeTail,
   TakeTest,
-  TakeNumber,
-  TakePayload,
+  TakeWord,
   TakeFinish,
   StealRead,
   StealTail,
   StealTest,
   StealNote,
-  StealNumber,
-  StealPayload,
+  StealWord,
   StealNext,
   StealCompare,
 }
 use Rattle.model.specs.declared.Region.{Region}
 use Rattle.model.specs.declared.Worker.{Worker}
 use Rattle.model.specs.Tests.{if_then_else_, _and_, _or_}
-use Rattle.model.specs.Memory.{nowhere, offsetAt, sizeAt}
-use Rattle.model.specs.Answers.{task}
+use Rattle.model.specs.Memory.{nowhere, offsetAt, lengthAt, sizeAt}
+use Rattle.model.specs.Tasks.{task, payload, noTask, wordIn, gathered}
 use Rattle.model.specs.Figures.{anchor}
 use Rattle.model.specs.World.{World, resting}
 use Rattle.model.specs.Limits.{validOf}
+use Rattle.model.proofs.Runs.{one}
 
 abbrev pair : ℕ → ℕ → Region
 pair o n = record { offset = o; length = n }
@@ -51,17 +49,18 @@ pair o n = record { offset = o; length = n }
 abbrev at : Line → Line → Line → List Worker
 at o t u = record { line = o } ∷ record { line = t } ∷ record { line = u } ∷ replicate 5 resting
 
--- all that the limits look at: kind, width, crew, the anchor, the directory with its published and claimed pairs, the
--- numbers used, the log's length, the workers, and the lengths of store and log
-abbrev state : Kind → ℕ → ℕ → Anchor → List Region → ℕ → ℕ → ℕ → ℕ → List Worker → ℕ → ℕ → World
-state κ w n a d p c u e l ms ls =
+-- all that the limits look at: payload words and the size kept, kind, tag width, crew, the anchor, the directory with its
+-- published and claimed pairs, the numbers used, the log's length, the workers, and the lengths of store and log
+abbrev stateOf : ℕ → ℕ → Kind → ℕ → ℕ → Anchor → List Region → ℕ → ℕ → ℕ → ℕ → List Worker → ℕ → ℕ → World
+stateOf v z κ w n a d p c u e l ms ls =
     record {
       bench =
           record {
             kind = κ;
             width = w;
+            words = v;
             crew = n;
-            queue = record { anchor = a; arrays = d; published = p; claimed = c };
+            queue = record { anchor = a; arrays = d; published = p; claimed = c; initial = z };
             used = u;
             restarts = 0;
             written = e;
@@ -70,6 +69,21 @@ state κ w n a d p c u e l ms ls =
       store = replicate ms 0;
       log = replicate ls 0;
     }
+
+-- one payload word, and the size that is kept is the first array's
+abbrev state : Kind → ℕ → ℕ → Anchor → List Region → ℕ → ℕ → ℕ → ℕ → List Worker → ℕ → ℕ → World
+state κ w n a d p c u e l ms ls = stateOf 1 (lengthAt d 0 / 2) κ w n a d p c u e l ms ls
+
+-- v payload words and z as the size that is kept, the arrays d, all published, the owner and a thief at these lines
+abbrev wide : ℕ → ℕ → List Region → ℕ → Line → Line → ℕ → World
+wide v z d p o t ms = stateOf v z Lifo 2 2 (anchor 0 0 0) d p p 9 0 (at o t Idle) ms 8
+
+-- arrays of 2 and 4 tasks of three payload words, of 1 and 2 tasks of four
+abbrev threes : List Region
+threes = pair 0 8 ∷ pair 8 16 ∷ replicate 9 nowhere
+
+abbrev fours : List Region
+fours = pair 0 5 ∷ pair 5 10 ∷ replicate 9 nowhere
 
 -- arrays of 2 and 4 tasks, in 12 words
 abbrev two : List Region
@@ -122,36 +136,50 @@ admitted =
     -- put numbers at most 65,535
     ∷ still Lifo 2 2 (anchor 0 0 0) 65535 0
     -- the owner at a line of put or take
-    ∷ busy Lifo (anchor 0 0 0) (PutRead (task 65535 7)) Idle
-    ∷ busy Fifo (anchor 0 0 0) (PutTail (task 1 7) 65535) Idle
-    ∷ busy Lifo (anchor 0 0 0) (PutTest (task 1 7) (anchor 0 4 3)) Idle
-    ∷ busy Lifo (anchor 0 0 0) (PutNumber (task 1 7) (anchor 0 3 3)) Idle
-    ∷ busy Fifo (anchor 0 0 0) (PutPayload (task 1 7) (anchor 0 65534 0)) Idle
-    ∷ busy Deque (anchor 0 0 0) (PutFinish (task 1 7) (anchor 2047 3 3)) Idle
-    ∷ busy Lifo (anchor 0 0 0) (Claim (task 1 7)) Idle
+    ∷ busy Lifo (anchor 0 0 0) (PutRead (task 65535 (one 7))) Idle
+    ∷ busy Fifo (anchor 0 0 0) (PutTail (task 1 (one 7)) 65535) Idle
+    ∷ busy Lifo (anchor 0 0 0) (PutTest (task 1 (one 7)) (anchor 0 4 3)) Idle
+    ∷ busy Lifo (anchor 0 0 0) (PutWord (task 1 (one 7)) (anchor 0 3 3) 0) Idle
+    ∷ busy Fifo (anchor 0 0 0) (PutWord (task 1 (one 7)) (anchor 0 65534 0) 1) Idle
+    ∷ busy Deque (anchor 0 0 0) (PutFinish (task 1 (one 7)) (anchor 2047 3 3)) Idle
+    ∷ busy Lifo (anchor 0 0 0) (Claim (task 1 (one 7))) Idle
     ∷ busy Fifo (anchor 0 0 0) (TakeTail 65535) Idle
     ∷ busy Fifo (anchor 0 0 0) (TakeTest (anchor 0 65535 0)) Idle
-    ∷ busy Lifo (anchor 0 0 0) (TakeNumber (anchor 0 1 0)) Idle
-    ∷ busy Deque (anchor 0 0 0) (TakePayload (anchor 0 1 0) 65535) Idle
-    ∷ busy Lifo (anchor 0 0 0) (TakeFinish (anchor 0 4 0) (task 65535 7)) Idle
+    ∷ busy Lifo (anchor 0 0 0) (TakeWord (anchor 0 1 0) noTask 0) Idle
+    ∷ busy Deque (anchor 0 0 0) (TakeWord (anchor 0 1 0) (task 65535 (one 0)) 1) Idle
+    ∷ busy Lifo (anchor 0 0 0) (TakeFinish (anchor 0 4 0) (task 65535 (one 7))) Idle
+    -- the last word of a task of one payload word; a take that has read its number
+    ∷ busy Lifo (anchor 0 0 0) (PutWord (task 1 (one 7)) (anchor 0 0 0) 1) Idle
+    ∷ busy Lifo (anchor 0 0 0) (TakeWord (anchor 0 1 0) (task 1 (one 0)) 1) Idle
     -- X2 to X4: exactly then an array is claimed and unpublished; what is noted is at most the old size
-    ∷ growing Lifo (anchor 0 0 0) (Note (task 1 7))
-    ∷ growing Lifo (anchor 0 0 0) (Copy (task 1 7) 0 2 1)
-    ∷ growing Fifo (anchor 0 0 0) (Copy (task 1 7) 65533 2 1)
-    ∷ growing Deque (anchor 0 0 0) (Copy (task 1 7) 2047 2 1)
-    ∷ growing Lifo (anchor 0 0 0) (Publish (task 1 7))
+    ∷ growing Lifo (anchor 0 0 0) (Note (task 1 (one 7)))
+    ∷ growing Lifo (anchor 0 0 0) (Copy (task 1 (one 7)) 0 2 1)
+    ∷ growing Fifo (anchor 0 0 0) (Copy (task 1 (one 7)) 65533 2 1)
+    ∷ growing Deque (anchor 0 0 0) (Copy (task 1 (one 7)) 2047 2 1)
+    ∷ growing Lifo (anchor 0 0 0) (Publish (task 1 (one 7)))
     -- a thief at a line of steal; noted arrays and slots exist
     ∷ busy Fifo (anchor 0 0 0) Idle (StealTail 65535)
     ∷ busy Fifo (anchor 0 0 0) Idle (StealTest (anchor 0 65535 0))
     ∷ busy Lifo (anchor 0 0 0) Idle (StealNote (anchor 0 1 0))
-    ∷ busy Lifo (anchor 0 0 0) Idle (StealNumber (anchor 0 2 0) 0)
-    ∷ busy Lifo (anchor 0 0 0) Idle (StealNumber (anchor 0 4 0) 1)
-    ∷ busy Deque (anchor 0 0 0) Idle (StealPayload (anchor 2047 4 0) 0 65535)
-    ∷ busy Deque (anchor 0 0 0) Idle (StealNext (anchor 0 1 0) (task 65535 7))
-    ∷ busy Deque (anchor 0 0 0) Idle (StealCompare (anchor 0 1 0) 2047 (task 65535 7))
+    ∷ busy Lifo (anchor 0 0 0) Idle (StealWord (anchor 0 2 0) 0 noTask 0)
+    ∷ busy Lifo (anchor 0 0 0) Idle (StealWord (anchor 0 4 0) 1 noTask 0)
+    ∷ busy Deque (anchor 0 0 0) Idle (StealWord (anchor 2047 4 0) 0 (task 65535 (one 0)) 1)
+    ∷ busy Deque (anchor 0 0 0) Idle (StealNext (anchor 0 1 0) (task 65535 (one 7)))
+    ∷ busy Deque (anchor 0 0 0) Idle (StealCompare (anchor 0 1 0) 2047 (task 65535 (one 7)))
     -- the last of eight workers too
     ∷ last 8 StealRead
     ∷ last 7 Idle
+    -- payload words 1 to 4; an array of n tasks of v payload words takes n(v+1) words
+    ∷ wide 1 2 two 2 Idle Idle 12
+    ∷ wide 2 1 (pair 0 3 ∷ replicate 10 nowhere) 1 Idle Idle 3
+    ∷ wide 3 2 threes 2 Idle Idle 24
+    ∷ wide 4 1 fours 2 Idle Idle 15
+    ∷ wide 4 1024 (pair 0 5120 ∷ replicate 10 nowhere) 1 Idle Idle 5120
+    -- each word of a task, up to the last
+    ∷ wide 3 2 threes 2 (PutWord (task 1 (payload 7 8 9 0)) (anchor 0 0 0) 3) Idle 24
+    ∷ wide 4 1 fours 2 (TakeWord (anchor 0 1 0) (task 1 (payload 7 8 9 0)) 4) Idle 15
+    ∷ wide 4 1 fours 2 Idle (StealWord (anchor 0 1 0) 0 (task 1 (payload 7 8 9 0)) 4) 15
+    ∷ wide 4 1 fours 2 Idle (StealCompare (anchor 0 1 0) 0 (task 1 (payload 7 8 9 6))) 15
     ∷ []
 
 abbrev foreign : List World
@@ -177,9 +205,9 @@ foreign =
     ∷ directory two 3 3 12
     -- a claimed array with the owner not at X2 to X4, none with it there
     ∷ directory two 1 2 12
-    ∷ busy Lifo (anchor 0 0 0) (Note (task 1 7)) Idle
-    ∷ busy Lifo (anchor 0 0 0) (Publish (task 1 7)) Idle
-    ∷ growing Lifo (anchor 0 0 0) (Claim (task 1 7))
+    ∷ busy Lifo (anchor 0 0 0) (Note (task 1 (one 7))) Idle
+    ∷ busy Lifo (anchor 0 0 0) (Publish (task 1 (one 7))) Idle
+    ∷ growing Lifo (anchor 0 0 0) (Claim (task 1 (one 7)))
     ∷ still Lifo 2 2 (anchor 0 0 0) 9 9
     -- the anchor
     ∷ still Lifo 2 2 (anchor 0 0 4) 9 0
@@ -196,78 +224,104 @@ foreign =
     -- a line of the other's operation, or of another kind; a worker outside the crew not idle
     ∷ busy Lifo (anchor 0 0 0) StealRead Idle
     ∷ busy Lifo (anchor 0 0 0) Idle TakeRead
-    ∷ busy Lifo (anchor 0 0 0) Idle (PutRead (task 1 7))
-    ∷ busy Lifo (anchor 0 0 0) (PutTail (task 1 7) 0) Idle
+    ∷ busy Lifo (anchor 0 0 0) Idle (PutRead (task 1 (one 7)))
+    ∷ busy Lifo (anchor 0 0 0) (PutTail (task 1 (one 7)) 0) Idle
     ∷ busy Deque (anchor 0 0 0) (TakeTail 0) Idle
     ∷ busy Deque (anchor 0 0 0) Idle (StealTail 0)
-    ∷ busy Lifo (anchor 0 0 0) Idle (StealNext (anchor 0 1 0) (task 1 7))
-    ∷ busy Fifo (anchor 0 0 0) Idle (StealNext (anchor 0 1 0) (task 1 7))
+    ∷ busy Lifo (anchor 0 0 0) Idle (StealNext (anchor 0 1 0) (task 1 (one 7)))
+    ∷ busy Fifo (anchor 0 0 0) Idle (StealNext (anchor 0 1 0) (task 1 (one 7)))
     ∷ state Lifo 2 2 (anchor 0 0 0) two 2 2 9 0 (at Idle Idle StealRead) 12 8
     ∷ last 7 StealRead
     ∷ last 8 TakeRead
     -- values out of these ranges
-    ∷ busy Lifo (anchor 0 0 0) (PutRead (task 65536 7)) Idle
-    ∷ busy Fifo (anchor 0 0 0) (PutTail (task 1 7) 65536) Idle
-    ∷ busy Lifo (anchor 0 0 0) (PutTest (task 1 7) (anchor 0 5 0)) Idle
-    ∷ busy Lifo (anchor 0 0 0) (PutTest (task 1 7) (anchor 0 0 4)) Idle
-    ∷ busy Lifo (anchor 0 0 0) (PutNumber (task 1 7) (anchor 0 4 0)) Idle
-    ∷ busy Fifo (anchor 0 0 0) (PutNumber (task 1 7) (anchor 0 65535 0)) Idle
-    ∷ busy Deque (anchor 0 0 0) (PutFinish (task 1 7) (anchor 0 4 0)) Idle
+    ∷ busy Lifo (anchor 0 0 0) (PutRead (task 65536 (one 7))) Idle
+    ∷ busy Fifo (anchor 0 0 0) (PutTail (task 1 (one 7)) 65536) Idle
+    ∷ busy Lifo (anchor 0 0 0) (PutTest (task 1 (one 7)) (anchor 0 5 0)) Idle
+    ∷ busy Lifo (anchor 0 0 0) (PutTest (task 1 (one 7)) (anchor 0 0 4)) Idle
+    ∷ busy Lifo (anchor 0 0 0) (PutWord (task 1 (one 7)) (anchor 0 4 0) 0) Idle
+    ∷ busy Fifo (anchor 0 0 0) (PutWord (task 1 (one 7)) (anchor 0 65535 0) 0) Idle
+    ∷ busy Deque (anchor 0 0 0) (PutFinish (task 1 (one 7)) (anchor 0 4 0)) Idle
     ∷ busy Fifo (anchor 0 0 0) (TakeTest (anchor 2 1 0)) Idle
-    ∷ busy Lifo (anchor 0 0 0) (TakeNumber (anchor 0 0 0)) Idle
-    ∷ busy Deque (anchor 0 0 0) (TakePayload (anchor 0 0 0) 1) Idle
-    ∷ busy Lifo (anchor 0 0 0) (TakePayload (anchor 0 1 0) 65536) Idle
-    ∷ busy Lifo (anchor 0 0 0) (TakeFinish (anchor 0 1 0) (task 65536 7)) Idle
-    ∷ growing Lifo (anchor 0 0 0) (Copy (task 1 7) 1 1 0)
-    ∷ growing Lifo (anchor 0 0 0) (Copy (task 1 7) 0 3 1)
-    ∷ growing Lifo (anchor 0 0 0) (Copy (task 1 7) 0 2 2)
-    ∷ growing Fifo (anchor 0 0 0) (Copy (task 1 7) 65534 2 1)
-    ∷ growing Deque (anchor 0 0 0) (Copy (task 1 7) 2048 2 1)
+    ∷ busy Lifo (anchor 0 0 0) (TakeWord (anchor 0 0 0) noTask 0) Idle
+    ∷ busy Deque (anchor 0 0 0) (TakeWord (anchor 0 0 0) (task 1 (one 0)) 1) Idle
+    ∷ busy Lifo (anchor 0 0 0) (TakeWord (anchor 0 1 0) (task 65536 (one 0)) 1) Idle
+    ∷ busy Lifo (anchor 0 0 0) (TakeFinish (anchor 0 1 0) (task 65536 (one 7))) Idle
+    ∷ growing Lifo (anchor 0 0 0) (Copy (task 1 (one 7)) 1 1 0)
+    ∷ growing Lifo (anchor 0 0 0) (Copy (task 1 (one 7)) 0 3 1)
+    ∷ growing Lifo (anchor 0 0 0) (Copy (task 1 (one 7)) 0 2 2)
+    ∷ growing Fifo (anchor 0 0 0) (Copy (task 1 (one 7)) 65534 2 1)
+    ∷ growing Deque (anchor 0 0 0) (Copy (task 1 (one 7)) 2048 2 1)
     ∷ busy Lifo (anchor 0 0 0) Idle (StealNote (anchor 0 0 0))
-    ∷ busy Lifo (anchor 0 0 0) Idle (StealNumber (anchor 0 1 0) 2)
-    ∷ busy Lifo (anchor 0 0 0) Idle (StealNumber (anchor 0 3 0) 0)
-    ∷ busy Deque (anchor 0 0 0) Idle (StealPayload (anchor 0 1 0) 0 65536)
-    ∷ busy Deque (anchor 0 0 0) Idle (StealCompare (anchor 0 1 0) 2048 (task 1 7))
-    ∷ busy Lifo (anchor 0 0 0) Idle (StealCompare (anchor 0 1 0) 1 (task 1 7))
-    ∷ busy Lifo (anchor 0 0 0) Idle (StealCompare (anchor 0 0 0) 0 (task 1 7))
+    ∷ busy Lifo (anchor 0 0 0) Idle (StealWord (anchor 0 1 0) 2 noTask 0)
+    ∷ busy Lifo (anchor 0 0 0) Idle (StealWord (anchor 0 3 0) 0 noTask 0)
+    ∷ busy Deque (anchor 0 0 0) Idle (StealWord (anchor 0 1 0) 0 (task 65536 (one 0)) 1)
+    ∷ busy Deque (anchor 0 0 0) Idle (StealCompare (anchor 0 1 0) 2048 (task 1 (one 7)))
+    ∷ busy Lifo (anchor 0 0 0) Idle (StealCompare (anchor 0 1 0) 1 (task 1 (one 7)))
+    ∷ busy Lifo (anchor 0 0 0) Idle (StealCompare (anchor 0 0 0) 0 (task 1 (one 7)))
     -- each of these in each line that has it: the put number, of the put and as it was read
-    ∷ busy Fifo (anchor 0 0 0) (PutTail (task 65536 7) 0) Idle
-    ∷ busy Lifo (anchor 0 0 0) (PutTest (task 65536 7) (anchor 0 0 0)) Idle
-    ∷ busy Lifo (anchor 0 0 0) (PutNumber (task 65536 7) (anchor 0 0 0)) Idle
-    ∷ busy Lifo (anchor 0 0 0) (PutPayload (task 65536 7) (anchor 0 0 0)) Idle
-    ∷ busy Lifo (anchor 0 0 0) (PutFinish (task 65536 7) (anchor 0 0 0)) Idle
-    ∷ busy Lifo (anchor 0 0 0) (Claim (task 65536 7)) Idle
-    ∷ growing Lifo (anchor 0 0 0) (Note (task 65536 7))
-    ∷ growing Lifo (anchor 0 0 0) (Copy (task 65536 7) 0 2 1)
-    ∷ growing Lifo (anchor 0 0 0) (Publish (task 65536 7))
-    ∷ busy Deque (anchor 0 0 0) Idle (StealNext (anchor 0 1 0) (task 65536 7))
-    ∷ busy Lifo (anchor 0 0 0) Idle (StealCompare (anchor 0 1 0) 0 (task 65536 7))
+    ∷ busy Fifo (anchor 0 0 0) (PutTail (task 65536 (one 7)) 0) Idle
+    ∷ busy Lifo (anchor 0 0 0) (PutTest (task 65536 (one 7)) (anchor 0 0 0)) Idle
+    ∷ busy Lifo (anchor 0 0 0) (PutWord (task 65536 (one 7)) (anchor 0 0 0) 0) Idle
+    ∷ busy Lifo (anchor 0 0 0) (PutWord (task 65536 (one 7)) (anchor 0 0 0) 1) Idle
+    ∷ busy Lifo (anchor 0 0 0) (PutFinish (task 65536 (one 7)) (anchor 0 0 0)) Idle
+    ∷ busy Lifo (anchor 0 0 0) (Claim (task 65536 (one 7))) Idle
+    ∷ growing Lifo (anchor 0 0 0) (Note (task 65536 (one 7)))
+    ∷ growing Lifo (anchor 0 0 0) (Copy (task 65536 (one 7)) 0 2 1)
+    ∷ growing Lifo (anchor 0 0 0) (Publish (task 65536 (one 7)))
+    ∷ busy Deque (anchor 0 0 0) Idle (StealNext (anchor 0 1 0) (task 65536 (one 7)))
+    ∷ busy Lifo (anchor 0 0 0) Idle (StealCompare (anchor 0 1 0) 0 (task 65536 (one 7)))
     -- the anchor read: here its tag is 2^w
-    ∷ busy Lifo (anchor 0 0 0) (PutNumber (task 1 7) (anchor 0 0 4)) Idle
-    ∷ busy Lifo (anchor 0 0 0) (PutPayload (task 1 7) (anchor 0 0 4)) Idle
-    ∷ busy Lifo (anchor 0 0 0) (PutFinish (task 1 7) (anchor 0 0 4)) Idle
-    ∷ busy Lifo (anchor 0 0 0) (TakeNumber (anchor 0 1 4)) Idle
-    ∷ busy Lifo (anchor 0 0 0) (TakePayload (anchor 0 1 4) 1) Idle
-    ∷ busy Lifo (anchor 0 0 0) (TakeFinish (anchor 0 1 4) (task 1 7)) Idle
+    ∷ busy Lifo (anchor 0 0 0) (PutWord (task 1 (one 7)) (anchor 0 0 4) 0) Idle
+    ∷ busy Lifo (anchor 0 0 0) (PutWord (task 1 (one 7)) (anchor 0 0 4) 1) Idle
+    ∷ busy Lifo (anchor 0 0 0) (PutFinish (task 1 (one 7)) (anchor 0 0 4)) Idle
+    ∷ busy Lifo (anchor 0 0 0) (TakeWord (anchor 0 1 4) noTask 0) Idle
+    ∷ busy Lifo (anchor 0 0 0) (TakeWord (anchor 0 1 4) (task 1 (one 0)) 1) Idle
+    ∷ busy Lifo (anchor 0 0 0) (TakeFinish (anchor 0 1 4) (task 1 (one 7))) Idle
     ∷ busy Lifo (anchor 0 0 0) Idle (StealTest (anchor 0 1 4))
     ∷ busy Lifo (anchor 0 0 0) Idle (StealNote (anchor 0 1 4))
-    ∷ busy Lifo (anchor 0 0 0) Idle (StealNumber (anchor 0 1 4) 0)
-    ∷ busy Lifo (anchor 0 0 0) Idle (StealPayload (anchor 0 1 4) 0 1)
-    ∷ busy Deque (anchor 0 0 0) Idle (StealNext (anchor 0 1 4) (task 1 7))
-    ∷ busy Lifo (anchor 0 0 0) Idle (StealCompare (anchor 0 1 4) 0 (task 1 7))
+    ∷ busy Lifo (anchor 0 0 0) Idle (StealWord (anchor 0 1 4) 0 noTask 0)
+    ∷ busy Lifo (anchor 0 0 0) Idle (StealWord (anchor 0 1 4) 0 (task 1 (one 0)) 1)
+    ∷ busy Deque (anchor 0 0 0) Idle (StealNext (anchor 0 1 4) (task 1 (one 7)))
+    ∷ busy Lifo (anchor 0 0 0) Idle (StealCompare (anchor 0 1 4) 0 (task 1 (one 7)))
     -- t below the size past a put's test, at least 1 past a test for EMPTY
-    ∷ busy Lifo (anchor 0 0 0) (PutPayload (task 1 7) (anchor 0 4 0)) Idle
-    ∷ busy Lifo (anchor 0 0 0) (TakeFinish (anchor 0 0 0) (task 1 7)) Idle
-    ∷ busy Lifo (anchor 0 0 0) Idle (StealNumber (anchor 0 0 0) 0)
-    ∷ busy Lifo (anchor 0 0 0) Idle (StealPayload (anchor 0 0 0) 0 1)
-    ∷ busy Deque (anchor 0 0 0) Idle (StealNext (anchor 0 0 0) (task 1 7))
+    ∷ busy Lifo (anchor 0 0 0) (PutWord (task 1 (one 7)) (anchor 0 4 0) 1) Idle
+    ∷ busy Lifo (anchor 0 0 0) (TakeFinish (anchor 0 0 0) (task 1 (one 7))) Idle
+    ∷ busy Lifo (anchor 0 0 0) Idle (StealWord (anchor 0 0 0) 0 noTask 0)
+    ∷ busy Lifo (anchor 0 0 0) Idle (StealWord (anchor 0 0 0) 0 (task 1 (one 0)) 1)
+    ∷ busy Deque (anchor 0 0 0) Idle (StealNext (anchor 0 0 0) (task 1 (one 7)))
     -- the noted array, once claimed and not yet published; the slot in it; an h2 that is not figure 3's
-    ∷ busy Deque (anchor 0 0 0) Idle (StealNumber (anchor 0 1 0) 2)
-    ∷ state Deque 2 2 (anchor 0 0 0) two 1 2 9 0 (at (Note (task 1 7)) (StealNumber (anchor 0 1 0) 1) Idle) 12 8
-    ∷ busy Lifo (anchor 0 0 0) Idle (StealPayload (anchor 0 3 0) 0 1)
-    ∷ busy Fifo (anchor 0 0 0) Idle (StealCompare (anchor 0 1 0) 1 (task 1 7))
+    ∷ busy Deque (anchor 0 0 0) Idle (StealWord (anchor 0 1 0) 2 noTask 0)
+    ∷ state Deque 2 2 (anchor 0 0 0) two 1 2 9 0 (at (Note (task 1 (one 7))) (StealWord (anchor 0 1 0) 1 noTask 0) Idle) 12 8
+    ∷ busy Lifo (anchor 0 0 0) Idle (StealWord (anchor 0 3 0) 0 (task 1 (one 0)) 1)
+    ∷ busy Fifo (anchor 0 0 0) Idle (StealCompare (anchor 0 1 0) 1 (task 1 (one 7)))
+    -- a word past the task's; words that a task has not or that are not read yet
+    ∷ busy Lifo (anchor 0 0 0) (PutWord (task 1 (one 7)) (anchor 0 0 0) 2) Idle
+    ∷ busy Lifo (anchor 0 0 0) (TakeWord (anchor 0 1 0) (task 1 (one 7)) 2) Idle
+    ∷ busy Lifo (anchor 0 0 0) (PutRead (task 1 (payload 7 1 0 0))) Idle
+    ∷ busy Lifo (anchor 0 0 0) (TakeWord (anchor 0 1 0) (task 1 (one 0)) 0) Idle
+    ∷ busy Lifo (anchor 0 0 0) (TakeWord (anchor 0 1 0) (task 1 (one 7)) 1) Idle
+    ∷ busy Lifo (anchor 0 0 0) Idle (StealWord (anchor 0 1 0) 0 (task 0 (payload 0 0 0 1)) 1)
+    -- payload words 0 and 5; lengths that are of another width; another size kept than the first array's; a word short
+    ∷ wide 0 1 (pair 0 1 ∷ replicate 10 nowhere) 1 Idle Idle 12
+    ∷ wide 5 1 (pair 0 6 ∷ replicate 10 nowhere) 1 Idle Idle 12
+    ∷ wide 2 2 two 2 Idle Idle 12
+    ∷ wide 3 1 two 2 Idle Idle 11
+    ∷ wide 1 4 threes 2 Idle Idle 23
+    ∷ wide 3 1 threes 2 Idle Idle 24
+    ∷ wide 3 4 threes 2 Idle Idle 24
+    ∷ wide 4 1 (pair 0 5 ∷ pair 5 8 ∷ replicate 9 nowhere) 2 Idle Idle 15
+    ∷ wide 4 1 fours 2 Idle Idle 14
+    -- the word past the last; words past the width; words not read yet
+    ∷ wide 3 2 threes 2 (PutWord (task 1 (payload 7 8 9 0)) (anchor 0 0 0) 4) Idle 24
+    ∷ wide 4 1 fours 2 (TakeWord (anchor 0 1 0) (task 1 (payload 7 8 9 6)) 5) Idle 15
+    ∷ wide 4 1 fours 2 Idle (StealWord (anchor 0 1 0) 0 (task 1 (payload 7 8 9 6)) 5) 15
+    ∷ wide 3 2 threes 2 (PutRead (task 1 (payload 7 8 9 6))) Idle 24
+    ∷ wide 3 2 threes 2 (TakeFinish (anchor 0 1 0) (task 1 (payload 7 8 9 6))) Idle 24
+    ∷ wide 3 2 threes 2 Idle (StealCompare (anchor 0 1 0) 0 (task 1 (payload 7 8 9 6))) 24
+    ∷ wide 4 1 fours 2 (TakeWord (anchor 0 1 0) (task 1 (payload 7 8 9 0)) 3) Idle 15
+    ∷ wide 4 1 fours 2 Idle (StealWord (anchor 0 1 0) 0 (task 1 (payload 7 8 9 6)) 4) 15
     ∷ []
 
 pub limits : map validOf (admitted ++ foreign) ≡ map (λ W. true) admitted ++ map (λ W. false) foreign
-unfolding validOf offsetAt sizeAt if_then_else_ _and_ _or_
+unfolding validOf offsetAt lengthAt sizeAt if_then_else_ _and_ _or_ gathered wordIn
 limits = refl

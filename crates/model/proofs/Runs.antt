@@ -1,19 +1,22 @@
 -- Runs as rows of a table: what is played, and what it shows.
-use mathlib.Core.List.{List, _∷_, map}
+use mathlib.Core.List.{List, [], _∷_, map}
 use Prim.Native.Nat.{ℕ}
 use lib.ListN.{replicate}
+use Rattle.model.specs.declared.Payload.{Payload}
 use Rattle.model.specs.declared.Answer.{Answer}
 use Rattle.model.specs.declared.Command.{Command}
+use Rattle.model.specs.declared.Command.the-variants.{Open, BeginPut}
+use Rattle.model.specs.Tasks.{payload}
 use Rattle.model.specs.World.{Outcome}
 use Rattle.model.specs.Calls.{freshOf, setup, Call}
 use Rattle.model.specs.Run.{played}
-use Rattle.model.specs.Listing.{Print, listing}
+use Rattle.model.specs.Listing.{Print, H, listing}
 
--- commands of the program; or calls of the library after a fresh with a kind, width, size, workers, and so many words of
--- store and of log
+-- commands of the program; or calls of the library after a fresh with a kind, width, size, workers, payload words, and so many
+-- words of store and of log
 pub data Run : Type 0 where
   lines : List Command → Run
-  calls : ℕ → ℕ → ℕ → ℕ → ℕ → ℕ → List Call → Run
+  calls : ℕ → ℕ → ℕ → ℕ → ℕ → ℕ → ℕ → List Call → Run
 
 -- what the program prints; what the calls answer, fresh's answer first
 pub data Shown : Type 0 where
@@ -33,4 +36,17 @@ answersFrom d cs = d .answer ∷ map (λ p. p .answer) (played (d .world) cs)
 
 unfoldable pub show : Run → Shown
 show (lines l) = prints (listing l)
-show (calls k w c n s e cs) = answers (answersFrom (freshOf (setup k w c n) (replicate s 0) (replicate e 0)) cs)
+show (calls k w c n v s e cs) = answers (answersFrom (freshOf (setup k w c n v) (replicate s 0) (replicate e 0)) cs)
+
+-- one payload word: a payload, `queue` without a sixth number, `put`, and what `H` shows
+abbrev pub one : ℕ → Payload
+one p = payload p 0 0 0
+
+abbrev pub queue : ℕ → ℕ → ℕ → ℕ → ℕ → Command
+queue k w c n s = Open k w c n s 1
+
+abbrev pub put : ℕ → Command
+put p = BeginPut 1 (one p)
+
+abbrev pub handed : ℕ → ℕ → ℕ → Print
+handed i n p = H i n (p ∷ [])

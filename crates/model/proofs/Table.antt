@@ -3,66 +3,79 @@ use mathlib.Core.Path.{_≡_, refl}
 use mathlib.Core.List.{List, [], _∷_, _++_, map}
 use Prim.Native.Nat.{ℕ}
 use lib.ListN.{replicate}
-use Rattle.model.specs.declared.Operation.the-variants.{Put, Steal}
-use Rattle.model.specs.declared.Refusal.the-variants.{WrongHand}
-use Rattle.model.specs.declared.Answer.the-variants.{Accepted, Numbered, GoesOn, Finished, HandedOut, Full, Refused}
+use Rattle.model.specs.declared.Operation.the-variants.{Put, Take, Steal}
+use Rattle.model.specs.declared.Refusal.the-variants.{WrongHand, LogFull}
+use Rattle.model.specs.declared.Answer.the-variants.{Accepted, Numbered, GoesOn, Finished, HandedOut, Empty, Full, Refused}
 use Rattle.model.specs.declared.Command.{Command}
 use Rattle.model.specs.declared.Command.the-variants.{Open, BeginPut, BeginTake, BeginSteal, Steps, End}
 use Rattle.model.specs.Tests.{if_then_else_, _and_, _or_}
-use Rattle.model.specs.Memory.{zeros, wordAt, setWord, offsetAt, sizeAt}
-use Rattle.model.specs.Answers.{task}
+use Rattle.model.specs.Memory.{zeros, wordAt, setWord, offsetAt, lengthAt, sizeAt}
+use Rattle.model.specs.Tasks.{task, payload, wordIn, withWord, gathered}
 use Rattle.model.specs.Lines.{lineStep}
 use Rattle.model.specs.Limits.{validOf}
 use Rattle.model.specs.Calls.{freshOf, beginOf, stepOf, begin, step}
 use Rattle.model.specs.Run.{played}
 use Rattle.model.specs.Counts.{someBelow, countBelow, countsOf}
 use Rattle.model.specs.Listing.{D, H, F, R, T, stepsOf, respond, listingFrom}
-use Rattle.model.proofs.Runs.{Row, lines, calls, prints, answers, _shows_, show}
+use Rattle.model.proofs.Runs.{Row, one, queue, put, handed, lines, calls, prints, answers, _shows_, show}
 
 -- P1; P2 differs in the tag's width only
 abbrev p1 : ℕ → List Command
 p1 w =
-    Open 1 w 2 2 12 ∷ BeginPut 65 ∷ Steps 0 5 ∷ BeginSteal 1 ∷ Steps 1 5 ∷ BeginTake ∷ Steps 0 5 ∷ BeginPut 66 ∷ Steps 0 5 ∷ BeginTake
-    ∷ Steps 0 5 ∷ BeginPut 67 ∷ Steps 0 5 ∷ Steps 1 1 ∷ End ∷ []
+    queue 1 w 2 2 12 ∷ put 65 ∷ Steps 0 5 ∷ BeginSteal 1 ∷ Steps 1 5 ∷ BeginTake ∷ Steps 0 5 ∷ put 66 ∷ Steps 0 5 ∷ BeginTake
+    ∷ Steps 0 5 ∷ put 67 ∷ Steps 0 5 ∷ Steps 1 1 ∷ End ∷ []
 
 abbrev pub table : List Row
 table =
     -- P1: two puts in one attempt, and a one-bit tag loses
-    (lines (p1 1) shows prints (D 1 ∷ H 0 1 65 ∷ D 2 ∷ H 0 2 66 ∷ D 3 ∷ H 1 1 65 ∷ T 3 3 2 0 0 1 ∷ []))
+    (lines (p1 1) shows prints (D 1 ∷ handed 0 1 65 ∷ D 2 ∷ handed 0 2 66 ∷ D 3 ∷ handed 1 1 65 ∷ T 3 3 2 0 0 1 ∷ []))
     -- P2: width 2: the last H is gone
-    ∷ (lines (p1 2) shows prints (D 1 ∷ H 0 1 65 ∷ D 2 ∷ H 0 2 66 ∷ D 3 ∷ T 3 2 2 1 1 0 ∷ []))
+    ∷ (lines (p1 2) shows prints (D 1 ∷ handed 0 1 65 ∷ D 2 ∷ handed 0 2 66 ∷ D 3 ∷ T 3 2 2 1 1 0 ∷ []))
     -- P3: FIFO, size 2: take does 3 steps, a steal all 7, take its last 3
-    ∷ (lines (Open 2 1 2 2 4 ∷ BeginPut 5 ∷ Steps 0 6 ∷ BeginTake ∷ Steps 0 3 ∷ BeginSteal 1 ∷ Steps 1 7 ∷ Steps 0 3 ∷ End ∷ [])
-    shows prints (D 1 ∷ H 1 1 5 ∷ H 0 1 5 ∷ T 1 2 1 0 0 0 ∷ []))
+    ∷ (lines (queue 2 1 2 2 4 ∷ put 5 ∷ Steps 0 6 ∷ BeginTake ∷ Steps 0 3 ∷ BeginSteal 1 ∷ Steps 1 7 ∷ Steps 0 3 ∷ End ∷ [])
+    shows prints (D 1 ∷ handed 1 1 5 ∷ handed 0 1 5 ∷ T 1 2 1 0 0 0 ∷ []))
     -- P4: LIFO, size 1, store 2: the second put's third step is FULL
-    ∷ (lines (Open 1 1 1 1 2 ∷ BeginPut 7 ∷ Steps 0 5 ∷ BeginPut 8 ∷ Steps 0 3 ∷ End ∷ []) shows prints (D 1 ∷ F 2 ∷ T 1 0 0 0 1 0 ∷ []))
-    ∷ (calls 1 1 1 1 2 8 (begin 0 (Put 7) ∷ replicate 5 (step 0) ++ begin 0 (Put 8) ∷ replicate 3 (step 0))
+    ∷ (lines (queue 1 1 1 1 2 ∷ put 7 ∷ Steps 0 5 ∷ put 8 ∷ Steps 0 3 ∷ End ∷ []) shows prints (D 1 ∷ F 2 ∷ T 1 0 0 0 1 0 ∷ []))
+    ∷ (calls 1 1 1 1 1 2 8 (begin 0 (Put (one 7)) ∷ replicate 5 (step 0) ++ begin 0 (Put (one 8)) ∷ replicate 3 (step 0))
     shows answers
-    (Accepted ∷ Numbered 1 ∷ replicate 4 GoesOn ++ Finished 0 (task 1 7) ∷ Numbered 2 ∷ GoesOn ∷ GoesOn ∷ Full 0 (task 2 8) ∷ []))
+    (Accepted ∷ Numbered 1 ∷ replicate 4 GoesOn ++ Finished 0 (task 1 (one 7)) ∷ Numbered 2 ∷ GoesOn ∷ GoesOn ∷ Full 0 (task 2 (one 8)) ∷ []))
     -- P5: store 6: it finishes at step 11; restarts 0, as document 02 counts them
-    ∷ (lines (Open 1 1 1 1 6 ∷ BeginPut 7 ∷ Steps 0 5 ∷ BeginPut 8 ∷ Steps 0 11 ∷ End ∷ []) shows prints (D 1 ∷ D 2 ∷ T 2 0 0 0 2 0 ∷ []))
-    ∷ (calls 1 1 1 1 6 8 (begin 0 (Put 7) ∷ replicate 5 (step 0) ++ begin 0 (Put 8) ∷ replicate 11 (step 0))
+    ∷ (lines (queue 1 1 1 1 6 ∷ put 7 ∷ Steps 0 5 ∷ put 8 ∷ Steps 0 11 ∷ End ∷ []) shows prints (D 1 ∷ D 2 ∷ T 2 0 0 0 2 0 ∷ []))
+    ∷ (calls 1 1 1 1 1 6 8 (begin 0 (Put (one 7)) ∷ replicate 5 (step 0) ++ begin 0 (Put (one 8)) ∷ replicate 11 (step 0))
     shows answers
-    (Accepted ∷ Numbered 1 ∷ replicate 4 GoesOn ++ Finished 0 (task 1 7) ∷ Numbered 2 ∷ replicate 10 GoesOn ++ Finished 0 (task 2 8) ∷ []))
+    (Accepted ∷ Numbered 1 ∷ replicate 4 GoesOn ++ Finished 0 (task 1 (one 7)) ∷ Numbered 2 ∷ replicate 10 GoesOn ++ Finished 0 (task 2 (one 8)) ∷ []))
     -- P6: double-ended, size 1, store 6, one task: put does 2 steps, a steal takes the task, put finishes in 8 more
-    ∷ (lines (Open 3 1 1 2 6 ∷ BeginPut 7 ∷ Steps 0 5 ∷ BeginPut 8 ∷ Steps 0 2 ∷ BeginSteal 1 ∷ Steps 1 7 ∷ Steps 0 8 ∷ End ∷ [])
-    shows prints (D 1 ∷ H 1 1 7 ∷ D 2 ∷ T 2 1 1 0 1 0 ∷ []))
-    ∷ (calls 3 1 1 2 6 12
-    (begin 0 (Put 7) ∷ replicate 5 (step 0) ++ begin 0 (Put 8) ∷ step 0 ∷ step 0 ∷ begin 1 Steal ∷ replicate 7 (step 1) ++ replicate 8 (step 0))
+    ∷ (lines (queue 3 1 1 2 6 ∷ put 7 ∷ Steps 0 5 ∷ put 8 ∷ Steps 0 2 ∷ BeginSteal 1 ∷ Steps 1 7 ∷ Steps 0 8 ∷ End ∷ [])
+    shows prints (D 1 ∷ handed 1 1 7 ∷ D 2 ∷ T 2 1 1 0 1 0 ∷ []))
+    ∷ (calls 3 1 1 2 1 6 12
+    (begin 0 (Put (one 7)) ∷ replicate 5 (step 0) ++ begin 0 (Put (one 8)) ∷ step 0 ∷ step 0 ∷ begin 1 Steal ∷ replicate 7 (step 1) ++ replicate 8 (step 0))
     shows answers
-    (Accepted ∷ Numbered 1 ∷ replicate 4 GoesOn ++ Finished 0 (task 1 7) ∷ Numbered 2 ∷ GoesOn ∷ GoesOn
-    ∷ Accepted ∷ replicate 6 GoesOn ++ HandedOut 1 (task 1 7) ∷ replicate 7 GoesOn ++ Finished 0 (task 2 8) ∷ []))
+    (Accepted ∷ Numbered 1 ∷ replicate 4 GoesOn ++ Finished 0 (task 1 (one 7)) ∷ Numbered 2 ∷ GoesOn ∷ GoesOn
+    ∷ Accepted ∷ replicate 6 GoesOn ++ HandedOut 1 (task 1 (one 7)) ∷ replicate 7 GoesOn ++ Finished 0 (task 2 (one 8)) ∷ []))
     -- P7: width 16 accepted, 0 and 17 refused
-    ∷ (lines (Open 1 16 1 1 2 ∷ End ∷ []) shows prints (T 0 0 0 0 0 0 ∷ []))
-    ∷ (lines (Open 1 0 1 1 2 ∷ []) shows prints (R 2 ∷ []))
-    ∷ (lines (Open 1 17 1 1 2 ∷ []) shows prints (R 2 ∷ []))
+    ∷ (lines (queue 1 16 1 1 2 ∷ End ∷ []) shows prints (T 0 0 0 0 0 0 ∷ []))
+    ∷ (lines (queue 1 0 1 1 2 ∷ []) shows prints (R 2 ∷ []))
+    ∷ (lines (queue 1 17 1 1 2 ∷ []) shows prints (R 2 ∷ []))
     -- P8: size 1,024 with 2,048 words accepted, 2,047 refused 5
-    ∷ (lines (Open 1 1 1024 1 2048 ∷ End ∷ []) shows prints (T 0 0 0 0 0 0 ∷ []))
-    ∷ (lines (Open 1 1 1024 1 2047 ∷ []) shows prints (R 5 ∷ []))
+    ∷ (lines (queue 1 1 1024 1 2048 ∷ End ∷ []) shows prints (T 0 0 0 0 0 0 ∷ []))
+    ∷ (lines (queue 1 1 1024 1 2047 ∷ []) shows prints (R 5 ∷ []))
     -- P9: busy thief told to put: 9
-    ∷ (calls 1 1 1 2 2 4 (begin 1 Steal ∷ step 1 ∷ begin 1 (Put 9) ∷ []) shows answers (Accepted ∷ Accepted ∷ GoesOn ∷ Refused WrongHand ∷ []))
+    ∷ (calls 1 1 1 2 1 2 4 (begin 1 Steal ∷ step 1 ∷ begin 1 (Put (one 9)) ∷ []) shows answers (Accepted ∷ Accepted ∷ GoesOn ∷ Refused WrongHand ∷ []))
+    -- three payload words: take and steal read four words each; a size of 2 takes 8 words
+    ∷ (lines
+    (Open 3 2 2 2 24 3 ∷ BeginPut 3 (payload 5 6 7 0) ∷ Steps 0 7 ∷ BeginPut 3 (payload 8 9 10 0) ∷ Steps 0 7 ∷ BeginTake ∷ Steps 0 7 ∷ BeginSteal 1 ∷ Steps 1 9
+    ∷ BeginPut 2 (payload 1 2 0 0) ∷ End ∷ [])
+    shows prints (D 1 ∷ D 2 ∷ H 0 2 (8 ∷ 9 ∷ 10 ∷ []) ∷ H 1 1 (5 ∷ 6 ∷ 7 ∷ []) ∷ R 13 ∷ T 2 2 2 0 0 0 ∷ []))
+    -- four payload words: growth copies whole tasks; the log's entries have 7 words
+    ∷ (lines (Open 1 1 1 1 15 4 ∷ BeginPut 4 (payload 1 2 3 4) ∷ Steps 0 8 ∷ BeginPut 4 (payload 5 6 7 8) ∷ Steps 0 14 ∷ BeginTake ∷ Steps 0 8 ∷ BeginTake ∷ Steps 0 8 ∷ End ∷ [])
+    shows prints (D 1 ∷ D 2 ∷ H 0 2 (5 ∷ 6 ∷ 7 ∷ 8 ∷ []) ∷ H 0 1 (1 ∷ 2 ∷ 3 ∷ 4 ∷ []) ∷ T 2 2 2 0 0 0 ∷ []))
+    -- 0 and 5 payload words refused 16, before a short store; the last of 4 words needs 5 words of store
+    ∷ (lines (Open 1 1 1 1 0 0 ∷ Open 1 1 1 1 0 5 ∷ Open 1 1 1 1 4 4 ∷ Open 1 1 1 9 5 0 ∷ Open 1 1 1 1 5 4 ∷ End ∷ []) shows prints (R 16 ∷ R 16 ∷ R 5 ∷ R 4 ∷ T 0 0 0 0 0 0 ∷ []))
+    -- with two payload words an ending step needs 5 words of the log
+    ∷ (calls 1 1 1 1 2 3 4 (begin 0 Take ∷ step 0 ∷ step 0 ∷ []) shows answers (Accepted ∷ Accepted ∷ GoesOn ∷ Refused LogFull ∷ []))
+    ∷ (calls 1 1 1 1 2 3 5 (begin 0 Take ∷ step 0 ∷ step 0 ∷ []) shows answers (Accepted ∷ Accepted ∷ GoesOn ∷ Empty 0 ∷ []))
     ∷ []
 
 pub p1-to-p9 : map (λ r. show (r .run)) table ≡ map (λ r. r .shown) table
-unfolding show played listingFrom respond stepsOf countsOf someBelow countBelow freshOf beginOf stepOf validOf lineStep zeros wordAt setWord offsetAt sizeAt if_then_else_ _and_ _or_
+unfolding show played listingFrom respond stepsOf countsOf someBelow countBelow freshOf beginOf stepOf validOf lineStep zeros wordAt setWord offsetAt lengthAt sizeAt if_then_else_ _and_ _or_ gathered wordIn withWord
 p1-to-p9 = refl

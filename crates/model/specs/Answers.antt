@@ -1,9 +1,9 @@
 -- Document 01's number of each refusal, and the log entry of each answer.
 use mathlib.Core.Bool.{Bool}
-use mathlib.Core.List.{List, [], _∷_}
+use mathlib.Core.List.{List, _∷_}
 use Prim.Native.Nat.{ℕ, _+_}
 use lib.Dec.{ltb}
-use lib.ListN.{set}
+use lib.ListN.{take}
 use Rattle.model.specs.declared.Task.{Task}
 use Rattle.model.specs.declared.Refusal.{Refusal}
 use Rattle.model.specs.declared.Refusal.the-variants.{
@@ -20,6 +20,7 @@ use Rattle.model.specs.declared.Refusal.the-variants.{
   LogFull,
   ForeignState,
   BadLine,
+  PayloadWords,
 }
 use Rattle.model.specs.declared.Answer.{Answer}
 use Rattle.model.specs.declared.Answer.the-variants.{
@@ -33,6 +34,8 @@ use Rattle.model.specs.declared.Answer.the-variants.{
   Refused,
 }
 use Rattle.model.specs.Tests.{if_then_else_}
+use Rattle.model.specs.Tasks.{wordsIn, noTask}
+use Rattle.model.specs.Memory.{setAll}
 
 -- the table of refusals
 abbrev pub numberOf : Refusal → ℕ
@@ -49,43 +52,39 @@ numberOf NumbersSpent = 10
 numberOf LogFull = 11
 numberOf ForeignState = 12
 numberOf BadLine = 13
+numberOf PayloadWords = 16
 
-abbrev pub task : ℕ → ℕ → Task
-task n p = record { number = n; payload = p }
-
--- an entry of the log: its four words
+-- an entry of the log
 pub record Entry : Type 0 where
   pub kind : ℕ
   pub worker : ℕ
-  pub number : ℕ
-  pub payload : ℕ
+  pub task : Task
 
 abbrev pub entry : ℕ → ℕ → Task → Entry
-entry k i t = record { kind = k; worker = i; number = t .number; payload = t .payload }
+entry k i t = record { kind = k; worker = i; task = t }
 
 -- the entry of an answer that ends an operation; the others have none, and kind 0 here
 abbrev pub entryOf : Answer → Entry
-entryOf Accepted = entry 0 0 (task 0 0)
-entryOf (Numbered n) = entry 0 0 (task 0 0)
-entryOf GoesOn = entry 0 0 (task 0 0)
+entryOf Accepted = entry 0 0 noTask
+entryOf (Numbered n) = entry 0 0 noTask
+entryOf GoesOn = entry 0 0 noTask
 entryOf (Finished i t) = entry 1 i t
 entryOf (HandedOut i t) = entry 2 i t
-entryOf (Empty i) = entry 3 i (task 0 0)
+entryOf (Empty i) = entry 3 i noTask
 entryOf (Full i t) = entry 4 i t
-entryOf (Refused r) = entry 0 0 (task 0 0)
+entryOf (Refused r) = entry 0 0 noTask
 
 -- the answer ends an operation
 abbrev pub ends : Answer → Bool
 ends a = ltb 0 (entryOf a .kind)
 
--- the entry's words
-abbrev pub entryWords : Entry → List ℕ
-entryWords e = e .kind ∷ e .worker ∷ e .number ∷ e .payload ∷ []
+-- its words: 3 and the payload, of v words
+abbrev pub entryLength : ℕ → ℕ
+entryLength v = 3 + v
 
--- they stand from word `at` of the log on
-abbrev pub writeEntry : List ℕ → ℕ → Entry → List ℕ
-writeEntry l at e =
-    set (set (set (set l at (e .kind)) (at + 1) (e .worker)) (at + 2) (e .number)) (at + 3) (e .payload)
+abbrev pub entryWords : ℕ → Entry → List ℕ
+entryWords v e = e .kind ∷ e .worker ∷ take (v + 1) (wordsIn (e .task))
 
-abbrev pub logged : List ℕ → ℕ → Answer → List ℕ
-logged l at a = if ends a then writeEntry l at (entryOf a) else l
+-- written from word `at` of the log on
+abbrev pub logged : ℕ → List ℕ → ℕ → Answer → List ℕ
+logged v l at a = if ends a then setAll l at (entryWords v (entryOf a)) else l

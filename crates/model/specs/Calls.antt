@@ -26,30 +26,34 @@ use Rattle.model.specs.declared.Refusal.the-variants.{
   NumbersSpent,
   LogFull,
   ForeignState,
+  PayloadWords,
 }
 use Rattle.model.specs.declared.Answer.{Answer}
 use Rattle.model.specs.declared.Answer.the-variants.{Accepted, Numbered}
 use Rattle.model.specs.Tests.{if_then_else_, unless_then_else_, _and_, _or_}
+use Rattle.model.specs.Tasks.{task, firstWords}
 use Rattle.model.specs.Memory.{zeros, nowhere}
-use Rattle.model.specs.Answers.{task, ends, logged}
+use Rattle.model.specs.Answers.{ends, logged, entryLength}
 use Rattle.model.specs.Figures.{anchor}
 use Rattle.model.specs.Lines.{Effect, lineStep, failsCompare}
 use Rattle.model.specs.World.{World, Outcome, refuse, resting, lineAt, isIdle}
-use Rattle.model.specs.Limits.{isSize, widthOk, crewOk, validOf}
+use Rattle.model.specs.Limits.{isSize, widthOk, crewOk, wordsOk, validOf}
 
--- FRESH. A bench with no operation open, an array of c tasks, and all counters 0
-abbrev pub blank : Kind → ℕ → ℕ → ℕ → Bench
-blank κ w c n =
+-- FRESH. A bench with no operation open, an array of c tasks of v payload words, and all counters 0
+abbrev pub blank : Kind → ℕ → ℕ → ℕ → ℕ → Bench
+blank κ w c n v =
     record {
       kind = κ;
       width = w;
+      words = v;
       crew = n;
       queue =
           record {
             anchor = anchor 0 0 0;
-            arrays = record { offset = 0; length = 2 * c } ∷ replicate 10 nowhere;
+            arrays = record { offset = 0; length = (v + 1) * c } ∷ replicate 10 nowhere;
             published = 1;
             claimed = 1;
+            initial = c;
           };
       used = 0;
       restarts = 0;
@@ -59,7 +63,7 @@ blank κ w c n =
 
 -- what stands for no bench: a crew of 0, which every call refuses 12
 abbrev pub noBench : Bench
-noBench = blank Lifo 0 0 0
+noBench = blank Lifo 0 0 0 0
 
 abbrev pub lent : Bench → List ℕ → List ℕ → World
 lent b m l = record { bench = b; store = m; log = l }
@@ -68,22 +72,24 @@ lent b m l = record { bench = b; store = m; log = l }
 abbrev pub kindOf : ℕ → Kind
 kindOf k = if eqb k 1 then Lifo else if eqb k 2 then Fifo else Deque
 
--- on the store m and the log l: refusals 1 to 5
+-- on the store m and the log l: refusals 1 to 4, 16, 5
 unfoldable pub freshOf : Setup → List ℕ → List ℕ → Outcome
 freshOf s m l =
     unless ltb 0 (s .kind) and leb (s .kind) 3 then refuse (lent noBench m l) UnknownQueue
     else unless widthOk (s .width) then refuse (lent noBench m l) TagWidth
     else unless isSize 10 (s .size) then refuse (lent noBench m l) ArraySize
     else unless crewOk (s .crew) then refuse (lent noBench m l) Crew
-    else unless leb (2 * s .size) (length m) then refuse (lent noBench m l) ShortStore
+    else unless wordsOk (s .words) then refuse (lent noBench m l) PayloadWords
+    else unless leb ((s .words + 1) * s .size) (length m) then refuse (lent noBench m l) ShortStore
     else record {
-      world = lent (blank (kindOf (s .kind)) (s .width) (s .size) (s .crew)) (zeros m 0 (2 * s .size)) l;
+      world =
+          lent (blank (kindOf (s .kind)) (s .width) (s .size) (s .crew) (s .words)) (zeros m 0 ((s .words + 1) * s .size)) l;
       answer = Accepted;
     }
 
--- kind k, tag width w, first size c, n workers
-abbrev pub setup : ℕ → ℕ → ℕ → ℕ → Setup
-setup k w c n = record { kind = k; width = w; size = c; crew = n }
+-- kind k, tag width w, first size c, n workers, v payload words
+abbrev pub setup : ℕ → ℕ → ℕ → ℕ → ℕ → Setup
+setup k w c n v = record { kind = k; width = w; size = c; crew = n; words = v }
 
 -- BEGIN. The owner, worker 0, puts and takes; a thief steals
 abbrev pub rightHand : ℕ → Operation → Bool
@@ -102,11 +108,11 @@ usedBy (Put p) u = u + 1
 usedBy Take u = u
 usedBy Steal u = u
 
--- line 1, and the answer
-abbrev pub firstLine : Operation → ℕ → Line
-firstLine (Put p) u = PutRead (task (u + 1) p)
-firstLine Take u = TakeRead
-firstLine Steal u = StealRead
+-- line 1 (a task has v payload words; a payload's words past them are not used), and the answer
+abbrev pub firstLine : Operation → ℕ → ℕ → Line
+firstLine (Put p) v u = PutRead (firstWords (v + 1) (task (u + 1) p))
+firstLine Take v u = TakeRead
+firstLine Steal v u = StealRead
 
 abbrev pub beginAnswer : Operation → ℕ → Answer
 beginAnswer (Put p) u = Numbered (u + 1)
@@ -122,12 +128,13 @@ begun W i op =
                 record {
                   kind = W .bench .kind;
                   width = W .bench .width;
+                  words = W .bench .words;
                   crew = W .bench .crew;
                   queue = W .bench .queue;
                   used = usedBy op (W .bench .used);
                   restarts = W .bench .restarts;
                   written = W .bench .written;
-                  workers = set (W .bench .workers) i (record { line = firstLine op (W .bench .used) });
+                  workers = set (W .bench .workers) i (record { line = firstLine op (W .bench .words) (W .bench .used) });
                 };
             store = W .store;
             log = W .log;
@@ -166,35 +173,36 @@ stepped W i E =
                 record {
                   kind = W .bench .kind;
                   width = W .bench .width;
+                  words = W .bench .words;
                   crew = W .bench .crew;
                   queue = E .queue;
                   used = W .bench .used;
                   restarts =
                       restarted (W .bench .kind) (W .bench .queue .anchor) (lineAt (W .bench .workers) i)
                       (W .bench .restarts);
-                  written = if ends (E .answer) then W .bench .written + 4 else W .bench .written;
+                  written = if ends (E .answer) then W .bench .written + entryLength (W .bench .words) else W .bench .written;
                   workers = set (W .bench .workers) i (record { line = E .line });
                 };
             store = E .store;
-            log = logged (W .log) (W .bench .written) (E .answer);
+            log = logged (W .bench .words) (W .log) (W .bench .written) (E .answer);
           };
       answer = E .answer;
     }
 
--- the step would end an operation, and under 4 words are left; the log's length is a 32-bit number, so words past
+-- the step would end an operation, and under an entry's words are left; the log's length is a 32-bit number, so words past
 -- what it can count are not there
-abbrev pub logFull : List ℕ → ℕ → Bool
-logFull l n = ltb (length l) (n + 4) or ltb 4294967295 (n + 4)
+abbrev pub logFull : ℕ → List ℕ → ℕ → Bool
+logFull v l n = ltb (length l) (n + entryLength v) or ltb 4294967295 (n + entryLength v)
 
 abbrev pub noRoom : World → Effect → Bool
-noRoom W E = ends (E .answer) and logFull (W .log) (W .bench .written)
+noRoom W E = ends (E .answer) and logFull (W .bench .words) (W .log) (W .bench .written)
 
 abbrev pub commit : World → ℕ → Effect → Outcome
 commit W i E = if noRoom W E then refuse W LogFull else stepped W i E
 
 abbrev pub nextEffect : World → ℕ → Effect
 nextEffect W i =
-    lineStep (W .bench .kind) (W .bench .width) (W .bench .queue) (W .store) i (lineAt (W .bench .workers) i)
+    lineStep (W .bench .kind) (W .bench .width) (W .bench .words) (W .bench .queue) (W .store) i (lineAt (W .bench .workers) i)
 
 -- past the test of the limits: refusals 6, 8, 11
 abbrev pub stepIn : World → ℕ → Outcome

@@ -1,4 +1,5 @@
--- The six counts of `T`, from the log, the store and the state. A log of n entries has entry j at its words 4j to 4j+3.
+-- The six counts of `T`, from the log, the store and the state. With v payload words an entry has 3+v words: entry j has those
+-- from (3+v)j on.
 use mathlib.Core.Bool.{Bool, false, not}
 use mathlib.Core.List.{List}
 use Prim.Native.Nat.{ℕ, zero, suc, _+_, _*_, _/_}
@@ -7,29 +8,22 @@ use lib.ListN.{getD}
 use Rattle.model.specs.declared.Task.{Task}
 use Rattle.model.specs.declared.Counts.{Counts}
 use Rattle.model.specs.Tests.{if_then_else_, _and_, _or_}
-use Rattle.model.specs.Answers.{Entry, task}
+use Rattle.model.specs.Tasks.{sameTask, gathered}
+use Rattle.model.specs.Answers.{Entry, entryLength}
 use Rattle.model.specs.World.{World}
-use Rattle.model.specs.Window.{windowSize, windowWord}
+use Rattle.model.specs.Window.{windowSize, windowTask}
 
-abbrev pub entryAt : List ℕ → ℕ → Entry
-entryAt l j =
+abbrev pub entryAt : ℕ → List ℕ → ℕ → Entry
+entryAt v l j =
     record {
-      kind = getD l (4 * j) 0;
-      worker = getD l (4 * j + 1) 0;
-      number = getD l (4 * j + 2) 0;
-      payload = getD l (4 * j + 3) 0;
+      kind = getD l (entryLength v * j) 0;
+      worker = getD l (entryLength v * j + 1) 0;
+      task = gathered (v + 1) (λ k. getD l (entryLength v * j + 2 + k) 0);
     }
 
--- the task of entry j
-abbrev pub taskAt : List ℕ → ℕ → Task
-taskAt l j = task (entryAt l j .number) (entryAt l j .payload)
-
 -- entry j has kind k
-abbrev pub isKind : List ℕ → ℕ → ℕ → Bool
-isKind l k j = eqb (entryAt l j .kind) k
-
-abbrev pub sameTask : Task → Task → Bool
-sameTask t u = eqb (t .number) (u .number) and eqb (t .payload) (u .payload)
+abbrev pub isKind : ℕ → List ℕ → ℕ → ℕ → Bool
+isKind v l k j = eqb (entryAt v l j .kind) k
 
 -- one of 0 to n-1 passes the test; how many do
 unfoldable pub someBelow : (ℕ → Bool) → ℕ → Bool
@@ -40,36 +34,38 @@ unfoldable pub countBelow : (ℕ → Bool) → ℕ → ℕ
 countBelow p zero = 0
 countBelow p (suc j) = if p j then countBelow p j + 1 else countBelow p j
 
--- entry j hands out put number x; hands out the task, both words of it
-abbrev pub outAs : List ℕ → ℕ → ℕ → Bool
-outAs l x j = isKind l 2 j and eqb (entryAt l j .number) x
+-- entry j hands out put number x; hands out the task, all words of it
+abbrev pub outAs : ℕ → List ℕ → ℕ → ℕ → Bool
+outAs v l x j = isKind v l 2 j and eqb (entryAt v l j .task .number) x
 
-abbrev pub outWhole : List ℕ → Task → ℕ → Bool
-outWhole l t j = isKind l 2 j and sameTask (taskAt l j) t
+abbrev pub outWhole : ℕ → List ℕ → Task → ℕ → Bool
+outWhole v l t j = isKind v l 2 j and sameTask (entryAt v l j .task) t
 
 -- entry j hands out a put number that no entry before it does
-abbrev pub outFirst : List ℕ → ℕ → Bool
-outFirst l j = isKind l 2 j and not (someBelow (outAs l (entryAt l j .number)) j)
+abbrev pub outFirst : ℕ → List ℕ → ℕ → Bool
+outFirst v l j = isKind v l 2 j and not (someBelow (outAs v l (entryAt v l j .task .number)) j)
 
 -- the i-th task of the window is this one
 abbrev pub standsAt : World → Task → ℕ → Bool
-standsAt W t i = sameTask (task (windowWord W i 0) (windowWord W i 1)) t
+standsAt W t i = sameTask (windowTask W i) t
 
 -- of n entries, entry j is a finished put that none hands out and no slot of the window holds
 abbrev pub isLost : World → ℕ → ℕ → Bool
 isLost W n j =
-    isKind (W .log) 1 j
-    and not (someBelow (outWhole (W .log) (taskAt (W .log) j)) n or someBelow (standsAt W (taskAt (W .log) j)) (windowSize W))
+    let v = W .bench .words in
+    let t = entryAt v (W .log) j .task in
+    isKind v (W .log) 1 j and not (someBelow (outWhole v (W .log) t) n or someBelow (standsAt W t) (windowSize W))
 
 abbrev pub entriesIn : World → ℕ
-entriesIn W = W .bench .written / 4
+entriesIn W = W .bench .written / entryLength (W .bench .words)
 
 unfoldable pub countsOf : World → Counts
 countsOf W =
+    let v = W .bench .words in
     record {
-      finished = countBelow (isKind (W .log) 1) (entriesIn W);
-      handouts = countBelow (isKind (W .log) 2) (entriesIn W);
-      different = countBelow (outFirst (W .log)) (entriesIn W);
+      finished = countBelow (isKind v (W .log) 1) (entriesIn W);
+      handouts = countBelow (isKind v (W .log) 2) (entriesIn W);
+      different = countBelow (outFirst v (W .log)) (entriesIn W);
       restarts = W .bench .restarts;
       window = windowSize W;
       lost = countBelow (isLost W (entriesIn W)) (entriesIn W);

@@ -1,4 +1,5 @@
 pub mod Tests
+pub mod Tasks
 pub mod Memory
 pub mod Answers
 pub mod Figures

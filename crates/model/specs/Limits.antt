@@ -3,9 +3,10 @@ use mathlib.Core.Bool.{Bool, true, false}
 use mathlib.Core.List.{List}
 use Prim.Native.Nat.{ℕ, zero, suc, _+_, _-_, _*_, _^_}
 use lib.Dec.{eqb, ltb, leb}
-use lib.ListN.{length, getD}
+use lib.ListN.{length}
 use Rattle.model.specs.declared.Kind.{Kind}
 use Rattle.model.specs.declared.Kind.the-variants.{Lifo, Fifo, Deque}
+use Rattle.model.specs.declared.Task.{Task}
 use Rattle.model.specs.declared.Anchor.{Anchor}
 use Rattle.model.specs.declared.Line.{Line}
 use Rattle.model.specs.declared.Line.the-variants.{
@@ -13,8 +14,7 @@ use Rattle.model.specs.declared.Line.the-variants.{
   PutRead,
   PutTail,
   PutTest,
-  PutNumber,
-  PutPayload,
+  PutWord,
   PutFinish,
   Claim,
   Note,
@@ -23,15 +23,13 @@ use Rattle.model.specs.declared.Line.the-variants.{
   TakeRead,
   TakeTail,
   TakeTest,
-  TakeNumber,
-  TakePayload,
+  TakeWord,
   TakeFinish,
   StealRead,
   StealTail,
   StealTest,
   StealNote,
-  StealNumber,
-  StealPayload,
+  StealWord,
   StealNext,
   StealCompare,
 }
@@ -40,7 +38,8 @@ use Rattle.model.specs.declared.Queue.{Queue}
 use Rattle.model.specs.declared.Worker.{Worker}
 use Rattle.model.specs.declared.Bench.{Bench}
 use Rattle.model.specs.Tests.{if_then_else_, _and_, _or_}
-use Rattle.model.specs.Memory.{nowhere, offsetAt, sizeAt}
+use Rattle.model.specs.Tasks.{noneFrom}
+use Rattle.model.specs.Memory.{offsetAt, lengthAt, sizeAt}
 use Rattle.model.specs.Lines.{size}
 use Rattle.model.specs.World.{World, lineAt, isIdle, isExpanding, isOwners, isThiefs}
 
@@ -49,36 +48,38 @@ abbrev pub isSize : ℕ → ℕ → Bool
 isSize zero c = eqb c 1
 isSize (suc e) c = eqb c (2 ^ suc e) or isSize e c
 
--- fresh's ranges: the tag's width, the crew
+-- fresh's ranges: the tag's width, the crew, the payload words
 abbrev pub widthOk : ℕ → Bool
 widthOk w = ltb 0 w and leb w 16
 
 abbrev pub crewOk : ℕ → Bool
 crewOk n = ltb 0 n and leb n 8
 
--- the directory's first n arrays: laid end to end from offset 0, each twice the one before, of a size from 1 to 1,024
-abbrev pub lengthAt : List Region → ℕ → ℕ
-lengthAt l k = getD l k nowhere .length
+abbrev pub wordsOk : ℕ → Bool
+wordsOk v = ltb 0 v and leb v 4
 
-abbrev pub tidy : List Region → ℕ → Bool
-tidy l zero = true
-tidy l (suc zero) = eqb (offsetAt l 0) 0 and eqb (lengthAt l 0) (2 * sizeAt l 0) and isSize 10 (sizeAt l 0)
-tidy l (suc (suc k)) =
-    tidy l (suc k)
-    and eqb (offsetAt l (suc k)) (offsetAt l k + 2 * sizeAt l k)
-    and eqb (lengthAt l (suc k)) (2 * (2 * sizeAt l k)) and leb (2 * sizeAt l k) 1024
+-- the directory's first n arrays: laid end to end from offset 0, each twice the one before, of a size from 1 to 1,024
+abbrev pub tidy : ℕ → List Region → ℕ → Bool
+tidy v l zero = true
+tidy v l (suc zero) = eqb (offsetAt l 0) 0 and eqb (lengthAt l 0) ((v + 1) * sizeAt v l 0) and isSize 10 (sizeAt v l 0)
+tidy v l (suc (suc k)) =
+    tidy v l (suc k)
+    and eqb (offsetAt l (suc k)) (offsetAt l k + lengthAt l k)
+    and eqb (lengthAt l (suc k)) (2 * lengthAt l k) and leb (2 * sizeAt v l k) 1024
 
 -- the words that the directory takes, claimed ones included
 abbrev pub taken : Queue → ℕ
-taken q = offsetAt (q .arrays) (q .claimed - 1) + 2 * sizeAt (q .arrays) (q .claimed - 1)
+taken q = offsetAt (q .arrays) (q .claimed - 1) + lengthAt (q .arrays) (q .claimed - 1)
 
--- it fits the store, and an array is claimed and unpublished exactly while the owner, at line o, is at X2 to X4
-abbrev pub directoryOk : Queue → List ℕ → Line → Bool
-directoryOk q m o =
+-- it fits the store, an array is claimed and unpublished exactly while the owner, at line o, is at X2 to X4, and the size that is
+-- kept is the first array's
+abbrev pub directoryOk : ℕ → Queue → List ℕ → Line → Bool
+directoryOk v q m o =
     ltb 0 (q .published)
     and leb (q .claimed) 11
     and eqb (q .claimed) (if isExpanding o then q .published + 1 else q .published)
-    and tidy (q .arrays) (q .claimed) and leb (taken q) (length m)
+    and tidy v (q .arrays) (q .claimed)
+    and leb (taken q) (length m) and eqb (q .initial) (sizeAt v (q .arrays) 0)
 
 -- an anchor as a worker read it, in an array of z tasks; what a kind does not use is 0
 abbrev pub readOk : Kind → ℕ → ℕ → Anchor → Bool
@@ -125,8 +126,8 @@ slotOk Fifo z r = true
 slotOk Deque z r = true
 
 -- the noted array, at place k of the directory, exists, and the slot in it
-abbrev pub placeOk : Kind → Queue → Anchor → ℕ → Bool
-placeOk κ q r k = ltb k (q .published) and slotOk κ (sizeAt (q .arrays) k) r
+abbrev pub placeOk : Kind → ℕ → Queue → Anchor → ℕ → Bool
+placeOk κ v q r k = ltb k (q .published) and slotOk κ (sizeAt v (q .arrays) k) r
 
 -- figure 3's line 5, and the h2 that it works out
 abbrev pub isDeque : Kind → Bool
@@ -143,56 +144,60 @@ nextOk Deque e = ltb e 2048
 abbrev pub numberOk : ℕ → Bool
 numberOk n = leb n 65535
 
+-- a task of which n words are known: the others are 0
+abbrev pub taskOk : ℕ → Task → Bool
+taskOk n t = numberOk (t .number) and noneFrom n t
+
 -- what a worker at the line has read
-abbrev pub lineOk : Kind → ℕ → Queue → Line → Bool
-lineOk κ w q Idle = true
-lineOk κ w q (PutRead t) = numberOk (t .number)
-lineOk κ w q (PutTail t h) = numberOk (t .number) and headOk κ h
-lineOk κ w q (PutTest t r) = numberOk (t .number) and readOk κ w (size q) r
-lineOk κ w q (PutNumber t r) = numberOk (t .number) and readOk κ w (size q) r and roomOk κ (size q) r
-lineOk κ w q (PutPayload t r) = numberOk (t .number) and readOk κ w (size q) r and roomOk κ (size q) r
-lineOk κ w q (PutFinish t r) = numberOk (t .number) and readOk κ w (size q) r and roomOk κ (size q) r
-lineOk κ w q (Claim t) = numberOk (t .number)
-lineOk κ w q (Note t) = numberOk (t .number)
-lineOk κ w q (Copy t h n k) = numberOk (t .number) and notedOk κ h n and leb n (size q) and ltb k n
-lineOk κ w q (Publish t) = numberOk (t .number)
-lineOk κ w q TakeRead = true
-lineOk κ w q (TakeTail h) = headOk κ h
-lineOk κ w q (TakeTest r) = readOk κ w (size q) r
-lineOk κ w q (TakeNumber r) = readOk κ w (size q) r and someOk κ r
-lineOk κ w q (TakePayload r n) = readOk κ w (size q) r and someOk κ r and numberOk n
-lineOk κ w q (TakeFinish r t) = readOk κ w (size q) r and someOk κ r and numberOk (t .number)
-lineOk κ w q StealRead = true
-lineOk κ w q (StealTail h) = headOk κ h
-lineOk κ w q (StealTest r) = readOk κ w (size q) r
-lineOk κ w q (StealNote r) = readOk κ w (size q) r and someOk κ r
-lineOk κ w q (StealNumber r k) = readOk κ w (size q) r and someOk κ r and placeOk κ q r k
-lineOk κ w q (StealPayload r k n) = readOk κ w (size q) r and someOk κ r and placeOk κ q r k and numberOk n
-lineOk κ w q (StealNext r t) = readOk κ w (size q) r and someOk κ r and isDeque κ and numberOk (t .number)
-lineOk κ w q (StealCompare r e t) = readOk κ w (size q) r and someOk κ r and nextOk κ e and numberOk (t .number)
+abbrev pub lineOk : Kind → ℕ → ℕ → Queue → Line → Bool
+lineOk κ w v q Idle = true
+lineOk κ w v q (PutRead t) = taskOk (v + 1) t
+lineOk κ w v q (PutTail t h) = taskOk (v + 1) t and headOk κ h
+lineOk κ w v q (PutTest t r) = taskOk (v + 1) t and readOk κ w (size v q) r
+lineOk κ w v q (PutWord t r j) =
+    taskOk (v + 1) t and readOk κ w (size v q) r and roomOk κ (size v q) r and leb j v
+lineOk κ w v q (PutFinish t r) = taskOk (v + 1) t and readOk κ w (size v q) r and roomOk κ (size v q) r
+lineOk κ w v q (Claim t) = taskOk (v + 1) t
+lineOk κ w v q (Note t) = taskOk (v + 1) t
+lineOk κ w v q (Copy t h n k) = taskOk (v + 1) t and notedOk κ h n and leb n (size v q) and ltb k n
+lineOk κ w v q (Publish t) = taskOk (v + 1) t
+lineOk κ w v q TakeRead = true
+lineOk κ w v q (TakeTail h) = headOk κ h
+lineOk κ w v q (TakeTest r) = readOk κ w (size v q) r
+lineOk κ w v q (TakeWord r t j) = readOk κ w (size v q) r and someOk κ r and taskOk j t and leb j v
+lineOk κ w v q (TakeFinish r t) = readOk κ w (size v q) r and someOk κ r and taskOk (v + 1) t
+lineOk κ w v q StealRead = true
+lineOk κ w v q (StealTail h) = headOk κ h
+lineOk κ w v q (StealTest r) = readOk κ w (size v q) r
+lineOk κ w v q (StealNote r) = readOk κ w (size v q) r and someOk κ r
+lineOk κ w v q (StealWord r k t j) =
+    readOk κ w (size v q) r and someOk κ r and placeOk κ v q r k and taskOk j t and leb j v
+lineOk κ w v q (StealNext r t) = readOk κ w (size v q) r and someOk κ r and isDeque κ and taskOk (v + 1) t
+lineOk κ w v q (StealCompare r e t) = readOk κ w (size v q) r and someOk κ r and nextOk κ e and taskOk (v + 1) t
 
 -- each worker at a line of its own operation: the owner; thieves 1 to k, those outside the crew of n idle
-abbrev pub ownerOk : Kind → ℕ → Queue → Line → Bool
-ownerOk κ w q l = isOwners l and lineOk κ w q l
+abbrev pub ownerOk : Kind → ℕ → ℕ → Queue → Line → Bool
+ownerOk κ w v q l = isOwners l and lineOk κ w v q l
 
-abbrev pub thiefOk : Kind → ℕ → Queue → Line → Bool
-thiefOk κ w q l = isThiefs l and lineOk κ w q l
+abbrev pub thiefOk : Kind → ℕ → ℕ → Queue → Line → Bool
+thiefOk κ w v q l = isThiefs l and lineOk κ w v q l
 
-abbrev pub thievesOk : Kind → ℕ → Queue → ℕ → List Worker → ℕ → Bool
-thievesOk κ w q n l zero = true
-thievesOk κ w q n l (suc k) =
-    thievesOk κ w q n l k and (if ltb (suc k) n then thiefOk κ w q (lineAt l (suc k)) else isIdle (lineAt l (suc k)))
+abbrev pub thievesOk : Kind → ℕ → ℕ → Queue → ℕ → List Worker → ℕ → Bool
+thievesOk κ w v q n l zero = true
+thievesOk κ w v q n l (suc k) =
+    thievesOk κ w v q n l k and (if ltb (suc k) n then thiefOk κ w v q (lineAt l (suc k)) else isIdle (lineAt l (suc k)))
 
 abbrev pub benchOk : Bench → List ℕ → List ℕ → Bool
 benchOk b m l =
     widthOk (b .width)
+    and wordsOk (b .words)
     and crewOk (b .crew)
-    and directoryOk (b .queue) m (lineAt (b .workers) 0)
+    and directoryOk (b .words) (b .queue) m (lineAt (b .workers) 0)
     and leb (b .written) (length l)
-    and anchorOk (b .kind) (b .width) (size (b .queue)) (b .queue .anchor)
+    and anchorOk (b .kind) (b .width) (size (b .words) (b .queue)) (b .queue .anchor)
     and numberOk (b .used)
-    and ownerOk (b .kind) (b .width) (b .queue) (lineAt (b .workers) 0)
-    and thievesOk (b .kind) (b .width) (b .queue) (b .crew) (b .workers) 7
+    and ownerOk (b .kind) (b .width) (b .words) (b .queue) (lineAt (b .workers) 0)
+    and thievesOk (b .kind) (b .width) (b .words) (b .queue) (b .crew) (b .workers) 7
 
 -- the state, with the lengths of its lent memory, is no foreign one
 unfoldable pub validOf : World → Bool

@@ -2,7 +2,9 @@
 use Prim.Native.Nat.{ℕ, _+_, _-_}
 use Rattle.model.specs.declared.Kind.{Kind}
 use Rattle.model.specs.declared.Kind.the-variants.{Lifo, Fifo, Deque}
+use Rattle.model.specs.declared.Task.{Task}
 use Rattle.model.specs.declared.Anchor.{Anchor}
+use Rattle.model.specs.Tasks.{gathered}
 use Rattle.model.specs.Lines.{wordOf}
 use Rattle.model.specs.World.{World}
 
@@ -20,8 +22,11 @@ windowIndex Deque a i = a .head + i
 abbrev pub windowSize : World → ℕ
 windowSize W = tasks (W .bench .kind) (W .bench .queue .anchor)
 
--- word j of its i-th task
+-- word j of its i-th task; and the task
 abbrev pub windowWord : World → ℕ → ℕ → ℕ
 windowWord W i j =
-    wordOf (W .bench .kind) (W .bench .queue) (W .store) (W .bench .queue .published - 1)
+    wordOf (W .bench .kind) (W .bench .words) (W .bench .queue) (W .store) (W .bench .queue .published - 1)
     (windowIndex (W .bench .kind) (W .bench .queue .anchor) i) j
+
+abbrev pub windowTask : World → ℕ → Task
+windowTask W i = gathered (W .bench .words + 1) (windowWord W i)

@@ -10,8 +10,7 @@ use Rattle.model.specs.declared.Line.the-variants.{
   PutRead,
   PutTail,
   PutTest,
-  PutNumber,
-  PutPayload,
+  PutWord,
   PutFinish,
   Claim,
   Note,
@@ -20,15 +19,13 @@ use Rattle.model.specs.declared.Line.the-variants.{
   TakeRead,
   TakeTail,
   TakeTest,
-  TakeNumber,
-  TakePayload,
+  TakeWord,
   TakeFinish,
   StealRead,
   StealTail,
   StealTest,
   StealNote,
-  StealNumber,
-  StealPayload,
+  StealWord,
   StealNext,
   StealCompare,
 }
@@ -65,8 +62,7 @@ stage Idle = 0
 stage (PutRead t) = 1
 stage (PutTail t h) = 3
 stage (PutTest t r) = 3
-stage (PutNumber t r) = 3
-stage (PutPayload t r) = 3
+stage (PutWord t r j) = 3
 stage (PutFinish t r) = 3
 stage (Claim t) = 3
 stage (Note t) = 2
@@ -75,15 +71,13 @@ stage (Publish t) = 2
 stage TakeRead = 1
 stage (TakeTail h) = 3
 stage (TakeTest r) = 3
-stage (TakeNumber r) = 3
-stage (TakePayload r n) = 3
+stage (TakeWord r t j) = 3
 stage (TakeFinish r t) = 3
 stage StealRead = 4
 stage (StealTail h) = 5
 stage (StealTest r) = 5
 stage (StealNote r) = 5
-stage (StealNumber r k) = 5
-stage (StealPayload r k n) = 5
+stage (StealWord r k t j) = 5
 stage (StealNext r t) = 5
 stage (StealCompare r e t) = 5
 

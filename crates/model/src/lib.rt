@@ -9,11 +9,19 @@ pub enum Kind {
     Deque,
 }
 
-// A task: its put number and the caller's payload. The figures' task is the payload alone; the number is the bench's, and tells
-// two tasks with one payload apart.
+// The caller's payload: 1 to 4 words, as many as `Bench.words` says. The others are 0. (An enum can't hold an array.)
+pub struct Payload {
+    pub first: u32,
+    pub second: u32,
+    pub third: u32,
+    pub fourth: u32,
+}
+
+// A task: its put number, word 0, and the caller's payload, words 1 and up. The figures' task is the payload alone; the number is
+// the bench's, and tells two tasks with one payload apart.
 pub struct Task {
     pub number: u32,
-    pub payload: u32,
+    pub payload: Payload,
 }
 
 // What line 1 reads whole and a compare (the field's compare-and-swap) compares. Double-ended: (h, s, g). LIFO: (t, g) is `count`
@@ -44,15 +52,11 @@ pub enum Line {
         task: Task,
         read: Anchor,
     },
-    // put 3a; 4a
-    PutNumber {
+    // put 3a, 3b ..; 4a, 4b ..: `word` is the task's word to be written
+    PutWord {
         task: Task,
         read: Anchor,
-    },
-    // put 3b; 4b
-    PutPayload {
-        task: Task,
-        read: Anchor,
+        word: u32,
     },
     // put 4; 5
     PutFinish {
@@ -88,14 +92,11 @@ pub enum Line {
     TakeTest {
         read: Anchor,
     },
-    // take 3a; 4a
-    TakeNumber {
+    // take 3a, 3b ..; 4a, 4b ..: `word` is the task's word to be read; in `task` are those before it, the others are 0
+    TakeWord {
         read: Anchor,
-    },
-    // take 3b; 4b
-    TakePayload {
-        read: Anchor,
-        number: u32,
+        task: Task,
+        word: u32,
     },
     // take 4; 5
     TakeFinish {
@@ -116,16 +117,12 @@ pub enum Line {
     StealNote {
         read: Anchor,
     },
-    // steal 4a; 5a: `place` is the noted array's place in the directory
-    StealNumber {
+    // steal 4a, 4b ..; 5a, 5b ..: `place` is the noted array's place in the directory
+    StealWord {
         read: Anchor,
         place: u32,
-    },
-    // steal 4b; 5b
-    StealPayload {
-        read: Anchor,
-        place: u32,
-        number: u32,
+        task: Task,
+        word: u32,
     },
     // figure 3's steal 5
     StealNext {
@@ -153,19 +150,22 @@ pub struct Region {
 }
 
 // The shared words outside the store: the anchor, and the directory of arrays (sizes 1 to 1,024 are
-// at most 11). The first `published` pairs are published, the first `claimed` are claimed.
+// at most 11). The first `published` pairs are published, the first `claimed` are claimed. `initial` is the first array's size, in
+// tasks: it never changes, and array k's is this, doubled k times, so that no line has to divide a length for a size.
 pub struct Queue {
     pub anchor: Anchor,
     pub arrays: [Region; 11],
     pub published: u32,
     pub claimed: u32,
+    pub initial: u32,
 }
 
-// The bench's state. `crew` counts the workers, `used` the put numbers given out, `restarts` the compares that failed (the
-// field's retries); `written` is the log's length, in words.
+// The bench's state. `width` is the tag's, `words` counts the payload words of a task, `crew` the workers, `used` the put numbers
+// given out, `restarts` the compares that failed (the field's retries); `written` is the log's length, in words.
 pub struct Bench {
     pub kind: Kind,
     pub width: u32,
+    pub words: u32,
     pub crew: u32,
     pub queue: Queue,
     pub used: u32,
@@ -175,22 +175,23 @@ pub struct Bench {
 }
 
 // What fresh is told: the kind's number (1 LIFO, 2 FIFO, 3 double-ended), the tag's width in bits, the size of the first array in
-// tasks, and how many workers there are. It may be told any numbers.
+// tasks, how many workers there are, and how many payload words a task has. It may be told any numbers.
 pub struct Setup {
     pub kind: u32,
     pub width: u32,
     pub size: u32,
     pub crew: u32,
+    pub words: u32,
 }
 
 // What a begin gives a worker to do.
 pub enum Operation {
-    Put { payload: u32 },
+    Put { payload: Payload },
     Take,
     Steal,
 }
 
-// The table of refusals, in its order.
+// The table of refusals, in its order (14 and 15 are the judge's own).
 pub enum Refusal {
     UnknownQueue,
     TagWidth,
@@ -205,6 +206,7 @@ pub enum Refusal {
     LogFull,
     ForeignState,
     BadLine,
+    PayloadWords,
 }
 
 // What a call answers: a fresh or a begin is accepted (a put with its number); a step goes on, or ends its operation with an
@@ -221,18 +223,20 @@ pub enum Answer {
     Refused { why: Refusal },
 }
 
-// A line of the bench program's input: `queue`, `put`, `take`, `steal`, `step`, `end`, or none of
-// these forms.
+// A line of the bench program's input: `queue`, `put`, `take`, `steal`, `step`, `end`, or none of these forms. Of a `queue`
+// without a sixth number `words` is 1; a `put` says how many words it has.
 pub enum Command {
     Open {
         kind: u32,
         width: u32,
         size: u32,
         workers: u32,
+        store: u32,
         words: u32,
     },
     BeginPut {
-        payload: u32,
+        words: u32,
+        payload: Payload,
     },
     BeginTake,
     BeginSteal {

@@ -1,6 +1,6 @@
 // The calls that open something: fresh a bench, begin an operation. Fresh zeroes the store's first words once nothing is left to
 // refuse; a begin writes nothing.
-// Uses `model`, `stages`, `admission`, `limits`, `memory` and `state`. It is used by `queues` and `replies`.
+// Uses `model`, `tasks`, `stages`, `admission`, `limits`, `memory` and `state`. It is used by `queues` and `replies`.
 ghost use mathlib.Core.Path.{_≡_};
 ghost use mathlib.Core.Bool.{true};
 ghost use mathlib.Core.List.{List};
@@ -34,6 +34,7 @@ pub fn fresh(setup: Setup, store: &mut [u32]) -> Returned
     let width = setup.width;
     let size = setup.size;
     let crew = setup.crew;
+    let words = setup.words;
     if !admission::kind_ok(kind) {
         return unmade(Refusal::UnknownQueue);
     }
@@ -46,13 +47,17 @@ pub fn fresh(setup: Setup, store: &mut [u32]) -> Returned
     if !admission::crew_ok(crew) {
         return unmade(Refusal::Crew);
     }
-    let words = 2 * (size as usize);
-    if store.len() < words {
+    if !admission::words_ok(words) {
+        return unmade(Refusal::PayloadWords);
+    }
+    let each = words as usize + 1;
+    let long = each * (size as usize);
+    if store.len() < long {
         return unmade(Refusal::ShortStore);
     }
-    memory::zero(store, 0, words);
+    memory::zero(store, 0, long);
     Returned {
-        bench: state::made(admission::kind_of(kind), width, size, crew),
+        bench: state::made(admission::kind_of(kind), width, size, crew, words),
         answer: Answer::Accepted,
     }
 }
@@ -61,6 +66,7 @@ pub fn fresh(setup: Setup, store: &mut [u32]) -> Returned
 fn accept(bench: Bench, worker: u32, operation: Operation) -> Returned
     requires { ⌜ worker < 8 ⌝ }
     requires { ⌜ bench .used ≤ 65535 ⌝ }
+    requires { ⌜ (0 < bench .words) × (bench .words ≤ 4) ⌝ }
     ensures { λ r. ⌜ ((m l : List ℕ) → returned r m l ≡ begun (lent bench m l) worker operation) ⌝ }
 {
     let i = worker as usize;
@@ -68,10 +74,11 @@ fn accept(bench: Bench, worker: u32, operation: Operation) -> Returned
     match operation {
         Operation::Put { payload } => {
             let number = used + 1;
-            let task = Task {
+            let whole = Task {
                 number: number,
                 payload: payload,
             };
+            let task = tasks::cut(whole, bench.words);
             Returned {
                 bench: state::opens(bench, i, number, Line::PutRead { task: task }),
                 answer: Answer::Numbered { number: number },

@@ -13,16 +13,18 @@ use Rattle.model.specs.declared.Kind.the-variants.{Lifo, Fifo, Deque}
 use Rattle.model.specs.declared.Task.{Task}
 use Rattle.model.specs.declared.Anchor.{Anchor}
 use Rattle.model.specs.declared.Line.{Line}
-use Rattle.model.specs.declared.Line.the-variants.{Idle, PutRead, PutTail, PutTest, PutNumber, PutPayload, PutFinish, Claim, Note, Copy, Publish, TakeRead, TakeTail, TakeTest, TakeNumber, TakePayload, TakeFinish, StealRead, StealTail, StealTest, StealNote, StealNumber, StealPayload, StealNext, StealCompare}
+use Rattle.model.specs.declared.Line.the-variants.{Idle, PutRead, PutTail, PutTest, PutWord, PutFinish, Claim, Note, Copy, Publish, TakeRead, TakeTail, TakeTest, TakeWord, TakeFinish, StealRead, StealTail, StealTest, StealNote, StealWord, StealNext, StealCompare}
 use Rattle.model.specs.declared.Queue.{Queue}
 use Rattle.model.specs.declared.Operation.{Operation}
 use Rattle.model.specs.declared.Operation.the-variants.{Put, Take, Steal}
 use Rattle.model.specs.declared.Answer.{Answer}
 use Rattle.model.specs.declared.Answer.the-variants.{Accepted, Numbered, GoesOn, Finished, HandedOut, Empty, Full, Refused}
 use Rattle.model.specs.Tests.{if_then_else_}
-use Rattle.model.specs.Answers.{entryOf, task}
-use Rattle.model.specs.Figures.{isSame, isFull, isEmpty, stealIndex, putRead, takeRead, stealRead, note, stealLast}
-use Rattle.model.specs.Lines.{Effect, size, fits, copyOn, wordOf, lineStep}
+use Rattle.model.specs.Tasks.{task}
+use Rattle.model.proofs.Tasks.{first-number}
+use Rattle.model.specs.Answers.{entryOf}
+use Rattle.model.specs.Figures.{isSame, isFull, isEmpty, putRead, takeRead, stealRead, note, stealLast}
+use Rattle.model.specs.Lines.{Effect, size, fits, copyOn, putOn, takeOn, stealOn, lineStep}
 use Rattle.model.specs.World.{World, Outcome, lineAt}
 use Rattle.model.specs.Calls.{usedBy, firstLine, beginAnswer, begun, stepped, nextEffect, freshOf, Call, callOf}
 use Rattle.model.specs.Run.{Played, played}
@@ -35,7 +37,7 @@ use Rattle.theorems.proofs.Fresh.{Started, fresh-started}
 
 -- the call ends a put, with an entry of kind 1 or 4 and the number n
 abbrev pub EndsPut : ℕ → Played → Type 0
-EndsPut n s = ((entryOf (s .answer) .kind ≡ 1) ⊎ (entryOf (s .answer) .kind ≡ 4)) × (entryOf (s .answer) .number ≡ n)
+EndsPut n s = ((entryOf (s .answer) .kind ≡ 1) ⊎ (entryOf (s .answer) .kind ≡ 4)) × (entryOf (s .answer) .task .number ≡ n)
 
 -- the number of the put that is open at a line; d if none is
 abbrev pub openPut : Line → ℕ → ℕ
@@ -43,8 +45,7 @@ openPut Idle d = d
 openPut (PutRead t) d = t .number
 openPut (PutTail t h) d = t .number
 openPut (PutTest t r) d = t .number
-openPut (PutNumber t r) d = t .number
-openPut (PutPayload t r) d = t .number
+openPut (PutWord t r j) d = t .number
 openPut (PutFinish t r) d = t .number
 openPut (Claim t) d = t .number
 openPut (Note t) d = t .number
@@ -53,15 +54,13 @@ openPut (Publish t) d = t .number
 openPut TakeRead d = d
 openPut (TakeTail h) d = d
 openPut (TakeTest r) d = d
-openPut (TakeNumber r) d = d
-openPut (TakePayload r x) d = d
+openPut (TakeWord r t j) d = d
 openPut (TakeFinish r t) d = d
 openPut StealRead d = d
 openPut (StealTail h) d = d
 openPut (StealTest r) d = d
 openPut (StealNote r) d = d
-openPut (StealNumber r k) d = d
-openPut (StealPayload r k x) d = d
+openPut (StealWord r k t j) d = d
 openPut (StealNext r t) d = d
 openPut (StealCompare r e t) d = d
 
@@ -127,62 +126,57 @@ steal-lasts Lifo r t d = refl
 steal-lasts Fifo r t d = refl
 steal-lasts Deque r t d = refl
 
-line-leaves : (u : ℕ) (κ : Kind) (w : ℕ) (q : Queue) (m : List ℕ) (i : ℕ) (o : Line) → Within u o → Leaves u o (lineStep κ w q m i o)
+line-leaves : (u : ℕ) (κ : Kind) (w ω : ℕ) (q : Queue) (m : List ℕ) (i : ℕ) (o : Line) → Within u o → Leaves u o (lineStep κ w ω q m i o)
 unfolding lineStep
-line-leaves u κ w q m i Idle l = omega arith
-line-leaves u κ w q m i (PutRead t) l = same-put u (PutRead t) (putRead κ (q .anchor) t) l (put-reads κ (q .anchor) t)
-line-leaves u κ w q m i (PutTail t h) l = omega arith
-line-leaves u κ w q m i (PutTest t r) l = same-put u (PutTest t r) (if isFull κ (size q) r then Claim t else PutNumber t r) l (λ d. either-line d (t .number) (isFull κ (size q) r) (Claim t) (PutNumber t r) refl refl)
-line-leaves u κ w q m i (PutNumber t r) l = omega arith
-line-leaves u κ w q m i (PutPayload t r) l = omega arith
-line-leaves u κ w q m i (PutFinish t r) l = omega arith
-line-leaves u κ w q m i (Claim t) l = either u (Claim t) (fits q m) _ _ (omega arith) (omega arith)
-line-leaves u κ w q m i (Note t) l = same-put u (Note t) (note κ (size q) (q .anchor) t) l (put-notes κ (size q) (q .anchor) t)
-line-leaves u κ w q m i (Copy t h n k) l = same-put u (Copy t h n k) (copyOn t h n k) l (λ d. either-line d (t .number) (eqb (k + 1) n) (Publish t) (Copy t h n (k + 1)) refl refl)
-line-leaves u κ w q m i (Publish t) l = omega arith
-line-leaves u κ w q m i TakeRead l = same-put u TakeRead (takeRead κ (q .anchor)) l (take-reads κ (q .anchor))
-line-leaves u κ w q m i (TakeTail h) l = omega arith
-line-leaves u κ w q m i (TakeTest r) l = either u (TakeTest r) (isEmpty κ r) _ _ (omega arith) (omega arith)
-line-leaves u κ w q m i (TakeNumber r) l = omega arith
-line-leaves u κ w q m i (TakePayload r x) l = omega arith
-line-leaves u κ w q m i (TakeFinish r t) l = omega arith
-line-leaves u κ w q m i StealRead l = same-put u StealRead (stealRead κ (q .anchor)) l (steal-reads κ (q .anchor))
-line-leaves u κ w q m i (StealTail h) l = omega arith
-line-leaves u κ w q m i (StealTest r) l = either u (StealTest r) (isEmpty κ r) _ _ (omega arith) (omega arith)
-line-leaves u κ w q m i (StealNote r) l = omega arith
-line-leaves u κ w q m i (StealNumber r k) l = omega arith
-line-leaves u κ w q m i (StealPayload r k x) l =
-    let t = task x (wordOf κ q m k (stealIndex κ r) 1) in same-put u (StealPayload r k x) (stealLast κ r t) l (steal-lasts κ r t)
-line-leaves u κ w q m i (StealNext r t) l = omega arith
-line-leaves u κ w q m i (StealCompare r e t) l = either u (StealCompare r e t) (isSame κ (q .anchor) r) _ _ (omega arith) (omega arith)
+line-leaves u κ w ω q m i Idle l = omega arith
+line-leaves u κ w ω q m i (PutRead t) l = same-put u (PutRead t) (putRead κ (q .anchor) t) l (put-reads κ (q .anchor) t)
+line-leaves u κ w ω q m i (PutTail t h) l = omega arith
+line-leaves u κ w ω q m i (PutTest t r) l = same-put u (PutTest t r) (if isFull κ (size ω q) r then Claim t else PutWord t r 0) l (λ d. either-line d (t .number) (isFull κ (size ω q) r) (Claim t) (PutWord t r 0) refl refl)
+line-leaves u κ w ω q m i (PutWord t r j) l = same-put u (PutWord t r j) (putOn ω t r j) l (λ d. either-line d (t .number) (eqb j ω) (PutFinish t r) (PutWord t r (j + 1)) refl refl)
+line-leaves u κ w ω q m i (PutFinish t r) l = omega arith
+line-leaves u κ w ω q m i (Claim t) l = either u (Claim t) (fits ω q m) _ _ (omega arith) (omega arith)
+line-leaves u κ w ω q m i (Note t) l = same-put u (Note t) (note κ (size ω q) (q .anchor) t) l (put-notes κ (size ω q) (q .anchor) t)
+line-leaves u κ w ω q m i (Copy t h n k) l = same-put u (Copy t h n k) (copyOn t h n k) l (λ d. either-line d (t .number) (eqb (k + 1) n) (Publish t) (Copy t h n (k + 1)) refl refl)
+line-leaves u κ w ω q m i (Publish t) l = omega arith
+line-leaves u κ w ω q m i TakeRead l = same-put u TakeRead (takeRead κ (q .anchor)) l (take-reads κ (q .anchor))
+line-leaves u κ w ω q m i (TakeTail h) l = omega arith
+line-leaves u κ w ω q m i (TakeTest r) l = either u (TakeTest r) (isEmpty κ r) _ _ (omega arith) (omega arith)
+line-leaves u κ w ω q m i (TakeWord r t j) l =
+    same-put u (TakeWord r t j) (takeOn ω r _ j) l (λ d. either-line d d (eqb j ω) (TakeFinish r _) (TakeWord r _ (j + 1)) refl refl)
+line-leaves u κ w ω q m i (TakeFinish r t) l = omega arith
+line-leaves u κ w ω q m i StealRead l = same-put u StealRead (stealRead κ (q .anchor)) l (steal-reads κ (q .anchor))
+line-leaves u κ w ω q m i (StealTail h) l = omega arith
+line-leaves u κ w ω q m i (StealTest r) l = either u (StealTest r) (isEmpty κ r) _ _ (omega arith) (omega arith)
+line-leaves u κ w ω q m i (StealNote r) l = omega arith
+line-leaves u κ w ω q m i (StealWord r k t j) l =
+    same-put u (StealWord r k t j) (stealOn κ ω r k _ j) l (λ d. either-line d d (eqb j ω) (stealLast κ r _) (StealWord r k _ (j + 1)) (steal-lasts κ r _ d) refl)
+line-leaves u κ w ω q m i (StealNext r t) l = omega arith
+line-leaves u κ w ω q m i (StealCompare r e t) l = either u (StealCompare r e t) (isSame κ (q .anchor) r) _ _ (omega arith) (omega arith)
 
 -- a thief has no put open, and so ends none
-thief-open : (κ : Kind) (w : ℕ) (q : Queue) (τ : ℕ) (θ : Line) → ThiefShape κ w q τ θ → (d : ℕ) → openPut θ d ≡ d
-thief-open κ w q τ Idle s d = refl
-thief-open κ w q τ (PutRead t) s d = absurd s
-thief-open κ w q τ (PutTail t h) s d = absurd s
-thief-open κ w q τ (PutTest t r) s d = absurd s
-thief-open κ w q τ (PutNumber t r) s d = absurd s
-thief-open κ w q τ (PutPayload t r) s d = absurd s
-thief-open κ w q τ (PutFinish t r) s d = absurd s
-thief-open κ w q τ (Claim t) s d = absurd s
-thief-open κ w q τ (Note t) s d = absurd s
-thief-open κ w q τ (Copy t h n k) s d = absurd s
-thief-open κ w q τ (Publish t) s d = absurd s
-thief-open κ w q τ TakeRead s d = absurd s
-thief-open κ w q τ (TakeTail h) s d = absurd s
-thief-open κ w q τ (TakeTest r) s d = absurd s
-thief-open κ w q τ (TakeNumber r) s d = absurd s
-thief-open κ w q τ (TakePayload r x) s d = absurd s
-thief-open κ w q τ (TakeFinish r t) s d = absurd s
-thief-open κ w q τ StealRead s d = refl
-thief-open κ w q τ (StealTail h) s d = refl
-thief-open κ w q τ (StealTest r) s d = refl
-thief-open κ w q τ (StealNote r) s d = refl
-thief-open κ w q τ (StealNumber r k) s d = refl
-thief-open κ w q τ (StealPayload r k x) s d = refl
-thief-open κ w q τ (StealNext r t) s d = refl
-thief-open κ w q τ (StealCompare r e t) s d = refl
+thief-open : (κ : Kind) (w ω : ℕ) (q : Queue) (τ : ℕ) (θ : Line) → ThiefShape κ w ω q τ θ → (d : ℕ) → openPut θ d ≡ d
+thief-open κ w ω q τ Idle s d = refl
+thief-open κ w ω q τ (PutRead t) s d = absurd s
+thief-open κ w ω q τ (PutTail t h) s d = absurd s
+thief-open κ w ω q τ (PutTest t r) s d = absurd s
+thief-open κ w ω q τ (PutWord t r j) s d = absurd s
+thief-open κ w ω q τ (PutFinish t r) s d = absurd s
+thief-open κ w ω q τ (Claim t) s d = absurd s
+thief-open κ w ω q τ (Note t) s d = absurd s
+thief-open κ w ω q τ (Copy t h n k) s d = absurd s
+thief-open κ w ω q τ (Publish t) s d = absurd s
+thief-open κ w ω q τ TakeRead s d = absurd s
+thief-open κ w ω q τ (TakeTail h) s d = absurd s
+thief-open κ w ω q τ (TakeTest r) s d = absurd s
+thief-open κ w ω q τ (TakeWord r t j) s d = absurd s
+thief-open κ w ω q τ (TakeFinish r t) s d = absurd s
+thief-open κ w ω q τ StealRead s d = refl
+thief-open κ w ω q τ (StealTail h) s d = refl
+thief-open κ w ω q τ (StealTest r) s d = refl
+thief-open κ w ω q τ (StealNote r) s d = refl
+thief-open κ w ω q τ (StealWord r k t j) s d = refl
+thief-open κ w ω q τ (StealNext r t) s d = refl
+thief-open κ w ω q τ (StealCompare r e t) s d = refl
 
 ends-none : (x y z : ℕ) (a : Answer) → y ≤ x → Next x y a → Next z z a
 ends-none x y z Accepted h n = omega arith
@@ -218,14 +212,14 @@ module _ {W : World} (H : Whole W) (J : OpenUsed W) where
       (sym (line-other (W .bench .workers) (suc k) 0 x (omega arith))) (J, n _)
 
   own-begins : (op : Operation) → MayBegin W 0 op
-      → Goes (W .bench .used) Idle (usedBy op (W .bench .used)) (firstLine op (W .bench .used)) (beginAnswer op (W .bench .used)) → Moves W (begun W 0 op)
+      → Goes (W .bench .used) Idle (usedBy op (W .bench .used)) (firstLine op (W .bench .words) (W .bench .used)) (beginAnswer op (W .bench .used)) → Moves W (begun W 0 op)
   own-begins op B g =
-      own-moves (usedBy op (W .bench .used)) (firstLine op (W .bench .used)) (beginAnswer op (W .bench .used)) (B .member)
-      (subst (λ (o : Line). Goes (W .bench .used) o (usedBy op (W .bench .used)) (firstLine op (W .bench .used)) (beginAnswer op (W .bench .used)))
+      own-moves (usedBy op (W .bench .used)) (firstLine op (W .bench .words) (W .bench .used)) (beginAnswer op (W .bench .used)) (B .member)
+      (subst (λ (o : Line). Goes (W .bench .used) o (usedBy op (W .bench .used)) (firstLine op (W .bench .words) (W .bench .used)) (beginAnswer op (W .bench .used)))
       (sym (idle-is (lineAt (W .bench .workers) 0) (B .idle))) g)
 
   begun-moves : (i : ℕ) (op : Operation) → MayBegin W i op → Moves W (begun W i op)
-  begun-moves zero (Put p) B = own-begins (Put p) B (omega arith)
+  begun-moves zero (Put p) B = own-begins (Put p) B (omega (arith, first-number (W .bench .words) (task (W .bench .used + 1) p)))
   begun-moves (suc k) (Put p) B = not-thief k (B .hand)
   begun-moves zero Take B = own-begins Take B (omega arith)
   begun-moves (suc k) Take B = not-thief k (B .hand)
@@ -234,12 +228,12 @@ module _ {W : World} (H : Whole W) (J : OpenUsed W) where
 
   line-of : (i : ℕ) → Within (W .bench .used) (lineAt (W .bench .workers) i)
       → Leaves (W .bench .used) (lineAt (W .bench .workers) i) (nextEffect W i)
-  line-of i l = line-leaves (W .bench .used) (W .bench .kind) (W .bench .width) (W .bench .queue) (W .store) i (lineAt (W .bench .workers) i) l
+  line-of i l = line-leaves (W .bench .used) (W .bench .kind) (W .bench .width) (W .bench .words) (W .bench .queue) (W .store) i (lineAt (W .bench .workers) i) l
 
   thief-ends-none : (k z : ℕ) → Next z z (nextEffect W (suc k) .answer)
   thief-ends-none k z =
       let θ = thieves (W .bench .workers) k in
-      let e = thief-open _ _ _ _ θ (H .shape .th k) in
+      let e = thief-open _ _ _ _ _ θ (H .shape .th k) in
       let L = line-of (suc k) (omega (arith, e (W .bench .used), e (suc (W .bench .used)))) in
       ends-none (openPut θ (suc (W .bench .used))) (openPut (nextEffect W (suc k) .line) (suc (W .bench .used))) z (nextEffect W (suc k) .answer)
       (omega (arith, e (suc (W .bench .used)), L .0)) (L .1)
@@ -269,7 +263,7 @@ other-kind : (k : ℕ) {A : Type 0} → k ≢ 1 → k ≢ 4 → (k ≡ 1) ⊎ (k
 other-kind k a b (inl e) = absurd (a e)
 other-kind k a b (inr e) = absurd (b e)
 
-ends-next : (x y : ℕ) (a : Answer) → Next x y a → Ends a → (entryOf a .number ≡ x) × (x < y)
+ends-next : (x y : ℕ) (a : Answer) → Next x y a → Ends a → (entryOf a .task .number ≡ x) × (x < y)
 ends-next x y Accepted n e = other-kind 0 (omega arith) (omega arith) e
 ends-next x y (Numbered m) n e = other-kind 0 (omega arith) (omega arith) e
 ends-next x y GoesOn n e = other-kind 0 (omega arith) (omega arith) e

@@ -6,13 +6,16 @@ use mathlib.Core.List.{List, [], _∷_, _++_}
 use Prim.Native.Nat.{ℕ, zero, suc, _+_, _*_, _≤_, _<_}
 use native.Mathlib.Omega.{arith}
 use native.Mathlib.Nat.{eq-or-lt-of-le}
-use lib.ListN.{length, getD}
+use lib.ListN.{length, getD, take, List·getD-append, length-append}
+use lib.Seq.{getD-append-add, getD-take, length-take-le}
 use borrow.Author.Tests.{ltb-true}
 use Rattle.model.specs.declared.Task.{Task}
 use Rattle.model.specs.declared.Answer.{Answer}
 use Rattle.model.specs.declared.Answer.the-variants.{Accepted, Numbered, GoesOn, Finished, HandedOut, Empty, Full, Refused}
 use Rattle.model.specs.Tests.{if_then_else_}
-use Rattle.model.specs.Answers.{Entry, entryOf, ends, entryWords}
+use Rattle.model.specs.Tasks.{wordsIn, wordIn, firstWords}
+use Rattle.model.proofs.Tasks.{same-words}
+use Rattle.model.specs.Answers.{Entry, entry, entryOf, ends, entryLength, entryWords}
 use Rattle.model.specs.Run.{Played}
 use Rattle.model.specs.Counts.{entryAt}
 use Rattle.theorems.specs.Demand3.{At}
@@ -62,71 +65,104 @@ pub place-rises : (T : List Played) (j k : ℕ) → j < k → place T j < place 
 place-rises [] j k h = h
 place-rises (s ∷ T) j k h = rises-behind (ends (s .answer)) (λ i. place T i) (λ i m g. place-rises T i m g) j k h
 
--- entry j + 1 behind an entry is entry j of the rest
-word-behind : (e : Entry) (l : List ℕ) (m n : ℕ) → n ≡ m + 4 → getD (entryWords e ++ l) n 0 ≡ getD l m 0
-word-behind e l m n q = ap (λ (i : ℕ). getD (entryWords e ++ l) i 0) (let z : n ≡ suc (suc (suc (suc m))) = omega arith in z)
+-- an entry's words: of a task that has no other words than ω payload words, they tell the entry
+pub words-long : (ω : ℕ) (e : Entry) → ω ≤ 4 → length (entryWords ω e) ≡ entryLength ω
+words-long ω e h =
+    let z : ω + 1 ≤ length (wordsIn (e .task)) = omega arith in
+    omega (arith, length-take-le (ω + 1) (wordsIn (e .task)) z)
 
-entry-behind : (e : Entry) (l : List ℕ) (j : ℕ) → entryAt (entryWords e ++ l) (suc j) ≡ entryAt l j
-entry-behind e l j =
+abbrev pub Cut : ℕ → Answer → Type 0
+Cut ω a = entryOf a .task ≡ firstWords (ω + 1) (entryOf a .task)
+
+entry-here : (ω : ℕ) (a : Answer) (l : List ℕ) → ω ≤ 4 → Cut ω a → entryAt ω (entryWords ω (entryOf a) ++ l) 0 ≡ entryOf a
+unfolding wordIn
+entry-here ω a l h c = rw none (ap (entry (entryOf a .kind) (entryOf a .worker)) (same-words (ω + 1) _ _ word ∙ sym c))
+  where
+    none : entryLength ω * 0 ≡ 0
+    none = omega arith
+
+    t : Task
+    t = entryOf a .task
+
+    word : (k : ℕ) → k < ω + 1 → getD (entryWords ω (entryOf a) ++ l) (0 + 2 + k) 0 ≡ wordIn t k
+    word k g =
+        let z : ω + 1 ≤ length (wordsIn t) = omega arith in
+        ap (λ (i : ℕ). getD (entryWords ω (entryOf a) ++ l) i 0) (let q : 0 + 2 + k ≡ suc (suc k) = omega arith in q)
+        ∙ List·getD-append (take (ω + 1) (wordsIn t)) l 0 k (omega (arith, g, length-take-le (ω + 1) (wordsIn t) z)) ∙ getD-take (ω + 1) (wordsIn t) k 0 g
+
+-- entry j + 1 behind an entry is entry j of the rest
+word-behind : (ω : ℕ) (e : Entry) (l : List ℕ) (m n : ℕ) → ω ≤ 4 → n ≡ m + entryLength ω → getD (entryWords ω e ++ l) n 0 ≡ getD l m 0
+word-behind ω e l m n h q =
+    ap (λ (i : ℕ). getD (entryWords ω e ++ l) i 0) (let z : n ≡ length (entryWords ω e) + m = omega (arith, words-long ω e h) in z)
+    ∙ getD-append-add (entryWords ω e) l m 0
+
+entry-behind : (ω : ℕ) (e : Entry) (l : List ℕ) (j : ℕ) → ω ≤ 4 → entryAt ω (entryWords ω e ++ l) (suc j) ≡ entryAt ω l j
+entry-behind ω e l j h =
     rw (
-      word-behind e l (4 * j) (4 * suc j) (omega arith),
-      word-behind e l (4 * j + 1) (4 * suc j + 1) (omega arith),
-      word-behind e l (4 * j + 2) (4 * suc j + 2) (omega arith),
-      word-behind e l (4 * j + 3) (4 * suc j + 3) (omega arith),
+      word-behind ω e l (entryLength ω * j) (entryLength ω * suc j) h (omega arith),
+      word-behind ω e l (entryLength ω * j + 1) (entryLength ω * suc j + 1) h (omega arith),
+      same-words (ω + 1) (λ k. getD (entryWords ω e ++ l) (entryLength ω * suc j + 2 + k) 0) (λ k. getD l (entryLength ω * j + 2 + k) 0)
+          (λ k g. word-behind ω e l (entryLength ω * j + 2 + k) (entryLength ω * suc j + 2 + k) h (omega arith)),
     )
 
 -- the words of the entries behind an answer
-abbrev behind : Bool → Answer → List ℕ → List ℕ
-behind x a l = (if x then entryWords (entryOf a) else []) ++ l
+abbrev behind : ℕ → Bool → Answer → List ℕ → List ℕ
+behind ω x a l = (if x then entryWords ω (entryOf a) else []) ++ l
+
+-- of a list whose answers' tasks have no other words
+abbrev pub AllCut : ℕ → List Played → Type 0
+AllCut ω [] = Unit {0}
+AllCut ω (s ∷ T) = Cut ω (s .answer) × AllCut ω T
 
 -- FROM ENTRIES TO PLACES. An entry has the place of the answer that wrote it; past the entries kinds are 0
-abbrev Placed : List Played → (ℕ → ℕ) → List ℕ → Type 0
-Placed T f l = (j : ℕ) → 0 < entryAt l j .kind → At T (f j) (λ s. entryOf (s .answer) ≡ entryAt l j)
+abbrev Placed : ℕ → List Played → (ℕ → ℕ) → List ℕ → Type 0
+Placed ω T f l = (j : ℕ) → 0 < entryAt ω l j .kind → At T (f j) (λ s. entryOf (s .answer) ≡ entryAt ω l j)
 
-placed-behind : (s : Played) (T : List Played) (f : ℕ → ℕ) (l : List ℕ) (x : Bool) → Placed T f l → Placed (s ∷ T) (placeBehind x f) (behind x (s .answer) l)
+placed-behind : (ω : ℕ) (s : Played) (T : List Played) (f : ℕ → ℕ) (l : List ℕ) (x : Bool) → ω ≤ 4 → Cut ω (s .answer) → Placed ω T f l
+    → Placed ω (s ∷ T) (placeBehind x f) (behind ω x (s .answer) l)
 unfolding if_then_else_
-placed-behind s T f l true r zero h = refl
-placed-behind s T f l true r (suc j) h =
-    let e = entry-behind (entryOf (s .answer)) l j in
+placed-behind ω s T f l true g c r zero h = sym (entry-here ω (s .answer) l g c)
+placed-behind ω s T f l true g c r (suc j) h =
+    let e = entry-behind ω (entryOf (s .answer)) l j g in
     subst (λ (y : Entry). At T (f j) (λ s. entryOf (s .answer) ≡ y)) (sym e) (r j (subst (λ (y : Entry). 0 < y .kind) e h))
-placed-behind s T f l false r j h = r j h
+placed-behind ω s T f l false g c r j h = r j h
 
-pub placed : (T : List Played) → Placed T (place T) (entries T)
-placed [] j h = absurd (omega arith)
-placed (s ∷ T) j h = placed-behind s T (place T) (entries T) (ends (s .answer)) (placed T) j h
+pub placed : (ω : ℕ) (T : List Played) → ω ≤ 4 → AllCut ω T → Placed ω T (place T) (entries ω T)
+placed ω [] g c j h = absurd (omega arith)
+placed ω (s ∷ T) g (c, d) j h = placed-behind ω s T (place T) (entries ω T) (ends (s .answer)) g c (placed ω T g d) j h
 
 -- FROM PLACES TO ENTRIES. A call of the list that ends an operation wrote an entry
-abbrev Wrote : (Played → Type 0) → List ℕ → ℕ → Type 0
-Wrote P l i = (s : Played) × P s × (entryAt l i ≡ entryOf (s .answer))
+abbrev Wrote : ℕ → (Played → Type 0) → List ℕ → ℕ → Type 0
+Wrote ω P l i = (s : Played) × P s × (entryAt ω l i ≡ entryOf (s .answer))
 
-abbrev Entered : List Played → (ℕ → ℕ) → List ℕ → Type 1
-Entered T f l =
-    (p : ℕ) (P : Played → Type 0) → ((s : Played) → P s → ends (s .answer) ≡ true) → At T p P → (i : ℕ) × (f i ≡ p) × Wrote P l i
+abbrev Entered : ℕ → List Played → (ℕ → ℕ) → List ℕ → Type 1
+Entered ω T f l =
+    (p : ℕ) (P : Played → Type 0) → ((s : Played) → P s → ends (s .answer) ≡ true) → At T p P → (i : ℕ) × (f i ≡ p) × Wrote ω P l i
 
-entered-behind : (s : Played) (T : List Played) (f : ℕ → ℕ) (l : List ℕ) (x : Bool) → ends (s .answer) ≡ x → Entered T f l
-    → Entered (s ∷ T) (placeBehind x f) (behind x (s .answer) l)
+entered-behind : (ω : ℕ) (s : Played) (T : List Played) (f : ℕ → ℕ) (l : List ℕ) (x : Bool) → ends (s .answer) ≡ x → ω ≤ 4 → Cut ω (s .answer) → Entered ω T f l
+    → Entered ω (s ∷ T) (placeBehind x f) (behind ω x (s .answer) l)
 unfolding if_then_else_
-entered-behind s T f l true q r zero P E a = (0, refl, (s, a, refl))
-entered-behind s T f l true q r (suc p) P E a =
-    let (i, g, (u, b, e)) = r p P E a in (suc i, ap suc g, (u, b, entry-behind (entryOf (s .answer)) l i ∙ e))
-entered-behind s T f l false q r zero P E a = absurd (true≢false (sym (E s a) ∙ q))
-entered-behind s T f l false q r (suc p) P E a = let (i, g, w) = r p P E a in (i, ap suc g, w)
+entered-behind ω s T f l true q h c r zero P E a = (0, refl, (s, a, entry-here ω (s .answer) l h c))
+entered-behind ω s T f l true q h c r (suc p) P E a =
+    let (i, g, (u, b, e)) = r p P E a in (suc i, ap suc g, (u, b, entry-behind ω (entryOf (s .answer)) l i h ∙ e))
+entered-behind ω s T f l false q h c r zero P E a = absurd (true≢false (sym (E s a) ∙ q))
+entered-behind ω s T f l false q h c r (suc p) P E a = let (i, g, w) = r p P E a in (i, ap suc g, w)
 
-pub entered : (T : List Played) → Entered T (place T) (entries T)
-entered [] p P E a = absurd a
-entered (s ∷ T) p P E a = entered-behind s T (place T) (entries T) (ends (s .answer)) refl (entered T) p P E a
+pub entered : (ω : ℕ) (T : List Played) → ω ≤ 4 → AllCut ω T → Entered ω T (place T) (entries ω T)
+entered ω [] h c p P E a = absurd a
+entered ω (s ∷ T) h (c, d) p P E a = entered-behind ω s T (place T) (entries ω T) (ends (s .answer)) refl h c (entered ω T h d) p P E a
 
 -- before the place of entry j, an entry before entry j
-pub earlier : (T : List Played) (j p : ℕ) (P : Played → Type 0) → ((s : Played) → P s → ends (s .answer) ≡ true) → p < place T j → At T p P
-    → (i : ℕ) × (i < j) × Wrote P (entries T) i
-earlier T j p P E h a = let (i, e, w) = entered T p P E a in (i, before i e (le-or-lt j i), w)
+pub earlier : (ω : ℕ) (T : List Played) → ω ≤ 4 → AllCut ω T → (j p : ℕ) (P : Played → Type 0) → ((s : Played) → P s → ends (s .answer) ≡ true) → p < place T j → At T p P
+    → (i : ℕ) × (i < j) × Wrote ω P (entries ω T) i
+earlier ω T g c j p P E h a = let (i, e, w) = entered ω T g c p P E a in (i, before i e (le-or-lt j i), w)
   where
     before : (i : ℕ) → place T i ≡ p → (j ≤ i) ⊎ (i < j) → i < j
     before i e (inl g) =
         absurd (⊎-elim (λ q. omega (arith, h, e, ap (place T) q)) (λ q. omega (arith, h, e, place-rises T j i q)) (eq-or-lt-of-le g))
     before i e (inr g) = g
 
--- HOW MANY. Each has four words and a kind from 1 to 4; a kind that is not 0 is an entry's
+-- HOW MANY. Each has an entry's words and a kind from 1 to 4; a kind that is not 0 is an entry's
 abbrev countBehind : Bool → ℕ → ℕ
 countBehind true n = suc n
 countBehind false n = n
@@ -135,14 +171,14 @@ abbrev pub count : List Played → ℕ
 count [] = 0
 count (s ∷ T) = countBehind (ends (s .answer)) (count T)
 
-long-behind : (a : Answer) (l : List ℕ) (n : ℕ) (x : Bool) → length l ≡ 4 * n → length (behind x a l) ≡ 4 * countBehind x n
+long-behind : (ω : ℕ) (a : Answer) (l : List ℕ) (n : ℕ) (x : Bool) → ω ≤ 4 → length l ≡ entryLength ω * n → length (behind ω x a l) ≡ entryLength ω * countBehind x n
 unfolding if_then_else_
-long-behind a l n true e = omega arith
-long-behind a l n false e = e
+long-behind ω a l n true h e = omega (arith, length-append (entryWords ω (entryOf a)) l, words-long ω (entryOf a) h, e)
+long-behind ω a l n false h e = e
 
-pub entries-long : (T : List Played) → length (entries T) ≡ 4 * count T
-entries-long [] = refl
-entries-long (s ∷ T) = long-behind (s .answer) (entries T) (count T) (ends (s .answer)) (entries-long T)
+pub entries-long : (ω : ℕ) (T : List Played) → ω ≤ 4 → length (entries ω T) ≡ entryLength ω * count T
+entries-long ω [] h = omega arith
+entries-long ω (s ∷ T) h = long-behind ω (s .answer) (entries ω T) (count T) (ends (s .answer)) h (entries-long ω T h)
 
 kind-le : (a : Answer) → entryOf a .kind ≤ 4
 kind-le Accepted = omega arith
@@ -154,28 +190,31 @@ kind-le (Empty i) = omega arith
 kind-le (Full i t) = omega arith
 kind-le (Refused r) = omega arith
 
-abbrev Known : List ℕ → ℕ → Type 0
-Known l n = (j : ℕ) → j < n → (0 < entryAt l j .kind) × (entryAt l j .kind ≤ 4)
+kind-here : (ω : ℕ) (a : Answer) (l : List ℕ) → entryAt ω (entryWords ω (entryOf a) ++ l) 0 .kind ≡ entryOf a .kind
+kind-here ω a l = let none : entryLength ω * 0 ≡ 0 = omega arith in rw none
 
-known-behind : (a : Answer) (l : List ℕ) (n : ℕ) (x : Bool) → ends a ≡ x → Known l n → Known (behind x a l) (countBehind x n)
+abbrev Known : ℕ → List ℕ → ℕ → Type 0
+Known ω l n = (j : ℕ) → j < n → (0 < entryAt ω l j .kind) × (entryAt ω l j .kind ≤ 4)
+
+known-behind : (ω : ℕ) (a : Answer) (l : List ℕ) (n : ℕ) (x : Bool) → ends a ≡ x → ω ≤ 4 → Known ω l n → Known ω (behind ω x a l) (countBehind x n)
 unfolding if_then_else_
-known-behind a l n true q r zero h = (ltb-true 0 _ q, kind-le a)
-known-behind a l n true q r (suc j) h = omega (arith, r j (omega arith), ap (λ (e : Entry). e .kind) (entry-behind (entryOf a) l j))
-known-behind a l n false q r j h = r j h
+known-behind ω a l n true q g r zero h = rw (kind-here ω a l) (ltb-true 0 _ q, kind-le a)
+known-behind ω a l n true q g r (suc j) h = omega (arith, r j (omega arith), ap (λ (e : Entry). e .kind) (entry-behind ω (entryOf a) l j g))
+known-behind ω a l n false q g r j h = r j h
 
-pub entries-known : (T : List Played) → Known (entries T) (count T)
-entries-known [] j h = absurd (omega arith)
-entries-known (s ∷ T) j h = known-behind (s .answer) (entries T) (count T) (ends (s .answer)) refl (entries-known T) j h
+pub entries-known : (ω : ℕ) (T : List Played) → ω ≤ 4 → Known ω (entries ω T) (count T)
+entries-known ω [] g j h = absurd (omega arith)
+entries-known ω (s ∷ T) g j h = known-behind ω (s .answer) (entries ω T) (count T) (ends (s .answer)) refl g (entries-known ω T g) j h
 
-abbrev Inside : List ℕ → ℕ → Type 0
-Inside l n = (j : ℕ) → 0 < entryAt l j .kind → j < n
+abbrev Inside : ℕ → List ℕ → ℕ → Type 0
+Inside ω l n = (j : ℕ) → 0 < entryAt ω l j .kind → j < n
 
-inside-behind : (a : Answer) (l : List ℕ) (n : ℕ) (x : Bool) → Inside l n → Inside (behind x a l) (countBehind x n)
+inside-behind : (ω : ℕ) (a : Answer) (l : List ℕ) (n : ℕ) (x : Bool) → ω ≤ 4 → Inside ω l n → Inside ω (behind ω x a l) (countBehind x n)
 unfolding if_then_else_
-inside-behind a l n true r zero h = omega arith
-inside-behind a l n true r (suc j) h = omega (arith, r j (omega (arith, h, ap (λ (e : Entry). e .kind) (entry-behind (entryOf a) l j))))
-inside-behind a l n false r j h = r j h
+inside-behind ω a l n true g r zero h = omega arith
+inside-behind ω a l n true g r (suc j) h = omega (arith, r j (omega (arith, h, ap (λ (e : Entry). e .kind) (entry-behind ω (entryOf a) l j g))))
+inside-behind ω a l n false g r j h = r j h
 
-pub entries-inside : (T : List Played) → Inside (entries T) (count T)
-entries-inside [] j h = absurd (omega arith)
-entries-inside (s ∷ T) j h = inside-behind (s .answer) (entries T) (count T) (ends (s .answer)) (entries-inside T) j h
+pub entries-inside : (ω : ℕ) (T : List Played) → ω ≤ 4 → Inside ω (entries ω T) (count T)
+entries-inside ω [] g j h = absurd (omega arith)
+entries-inside ω (s ∷ T) g j h = inside-behind ω (s .answer) (entries ω T) (count T) (ends (s .answer)) g (entries-inside ω T g) j h

@@ -24,6 +24,7 @@ use Rattle.theorems.proofs.Places.{EventAt, rev, said-rev, mem-rev, at-mem}
 use Rattle.theorems.proofs.SoundRun.{event-at, events, InvOf, run-kept, call-like}
 use Rattle.theorems.proofs.Fresh.{Started, fresh-started, fresh-is}
 use Rattle.order.proofs.LogFront.{log-is-answers}
+use Rattle.order.proofs.CutAnswers.{answers-cut, words-le}
 use Rattle.order.proofs.LogOrder.{log-in-order}
 use Rattle.theorems.proofs.Translate.{at-map, from-ev, out-ev, ev-out}
 
@@ -57,12 +58,12 @@ event-the (x ∷ T) (suc j) s a = event-the T j s a
 gives-event : (T : List Played) (j n : ℕ) → At T j (Gives n) → (i : ℕ) × (t : Task) × EventAt (events T) j (handed-out i t) × (t .number ≡ n)
 gives-event T j n a =
     let (s, (i, t, q, e), x) = at-the T j (Gives n) a in
-    let (k, p) = out-ev t s (i, t, q, (refl, refl)) in
+    let (k, p) = out-ev t s (i, q) in
     (k, t, subst (EventAt (events T) j) p (event-the T j s x), e)
 
 event-gives : (T : List Played) (j n i : ℕ) (t : Task) → t .number ≡ n → EventAt (events T) j (handed-out i t) → At T j (Gives n)
 event-gives T j n i t e a =
-    at-map T j (HandsOut t) (Gives n) (λ s (k, u, q, b). (k, u, q, b .0 ∙ e))
+    at-map T j (HandsOut t) (Gives n) (λ s (k, q). (k, t, q, e))
     (at-map T j (λ s. event-at s ≡ handed-out i t) (HandsOut t) (ev-out i t) (from-ev T j (handed-out i t) a))
 
 -- a list whose history rises is in order
@@ -118,4 +119,6 @@ unfolding if_then_else_
 fifo-in-order s m l is e cs = fifo-run s m l e (ap kindOf is) cs
 
 pub fifo-log-in-order : FifoLogInOrder
-fifo-log-in-order s m l is e cs = subst LogInOrder (sym (log-is-answers s m l e cs)) (log-in-order _ (fifo-in-order s m l is e cs))
+fifo-log-in-order s m l is e cs =
+    subst (LogInOrder _) (sym (log-is-answers s m l e cs))
+    (log-in-order _ _ (words-le s m l e) (answers-cut s m l e cs) (fifo-in-order s m l is e cs))

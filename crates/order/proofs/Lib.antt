@@ -1,6 +1,7 @@
 pub mod EndedPuts
-pub mod LogFront
 pub mod Entries
+pub mod LogFront
+pub mod CutAnswers
 pub mod FrontEntries
 pub mod KeptEntries
 pub mod LogOrder

@@ -4,7 +4,9 @@ use mathlib.Core.Bool.{Bool, true, false}
 use mathlib.Core.Logic.{_⊎_, inl, inr}
 use mathlib.Core.List.{List, [], _∷_, _++_, append-assoc}
 use Prim.Native.Nat.{ℕ, zero, suc}
+use lib.Dec.{eqb}
 use lib.ListN.{take}
+use Rattle.model.specs.declared.Payload.{Payload}
 use Rattle.model.specs.declared.Setup.{Setup}
 use Rattle.model.specs.declared.Answer.{Answer}
 use Rattle.model.specs.declared.Answer.the-variants.{
@@ -38,10 +40,12 @@ use Rattle.model.specs.Listing.{
   Response,
   response,
   printed,
+  printedBy,
   isRefused,
   totals,
   opened,
   showing,
+  bad,
   stepsOf,
   respond,
   listingFrom,
@@ -87,7 +91,7 @@ steps-play (suc m) W i is = go (steps-play m (stepOf W i .world) i is) (isRefuse
     r = stepsOf U i m
 
     out : List Print
-    out = printed (stepOf W i .answer)
+    out = printedBy (stepOf W i)
 
     go : shows U (stepItems U i m ++ is) ≡ r .output ++ shows (after U (callsIn (stepItems U i m))) is → (b : Bool)
         → out ++ shows U ((if b then [] else stepItems U i m) ++ is)
@@ -109,7 +113,7 @@ steps-stand (suc m) W i = go (steps-stand m (stepOf W i .world) i) (isRefused (s
     r = stepsOf U i m
 
     go : r .program ≡ playing (after U (callsIn (stepItems U i m))) → (b : Bool)
-        → (if b then showing (stepOf W i) else response (r .program) (printed (stepOf W i .answer) ++ r .output)) .program
+        → (if b then showing (stepOf W i) else response (r .program) (printedBy (stepOf W i) ++ r .output)) .program
         ≡ playing (after U (callsIn (if b then [] else stepItems U i m)))
     go e true = refl
     go e false = e
@@ -118,8 +122,8 @@ steps-stand (suc m) W i = go (steps-stand m (stepOf W i .world) i) (isRefused (s
 over : (cs : List Command) → listingFrom ended cs ≡ []
 unfolding listingFrom respond
 over [] = refl
-over (Open k w c n s ∷ cs) = over cs
-over (BeginPut p ∷ cs) = over cs
+over (Open k w c n s v ∷ cs) = over cs
+over (BeginPut v p ∷ cs) = over cs
 over (BeginTake ∷ cs) = over cs
 over (BeginSteal i ∷ cs) = over cs
 over (Steps i m ∷ cs) = over cs
@@ -129,21 +133,33 @@ over (Bad ∷ cs) = over cs
 -- a line that is one call, and a line that is refused 13
 one-call : (W : World) (c : Call) (cs : List Command)
     → listingFrom (playing (callOf W c .world)) cs ≡ shows (callOf W c .world) (itemsOf (callOf W c .world) cs)
-    → printed (callOf W c .answer) ++ listingFrom (playing (callOf W c .world)) cs
+    → printedBy (callOf W c) ++ listingFrom (playing (callOf W c .world)) cs
     ≡ shows W (plays c ∷ itemsOf (callOf W c .world) cs)
 unfolding shows
-one-call W c cs e = ap (λ (l : List Print). printed (callOf W c .answer) ++ l) e
+one-call W c cs e = ap (λ (l : List Print). printedBy (callOf W c) ++ l) e
 
 bad-line : (W : World) (cs : List Command) → listingFrom (playing W) cs ≡ shows W (itemsOf W cs)
     → R (numberOf BadLine) ∷ listingFrom (playing W) cs ≡ shows W (badLine ∷ itemsOf W cs)
 unfolding shows
 bad-line W cs e = ap (λ (l : List Print). R (numberOf BadLine) ∷ l) e
 
+-- `put`, with the payload's count of words or not
+put-line : (W : World) (x : Bool) (p : Payload) (cs : List Command)
+    → let U : World = beginOf W 0 (Put p) .world in
+    listingFrom (playing U) cs ≡ shows U (itemsOf U cs) → listingFrom (playing W) cs ≡ shows W (itemsOf W cs)
+    → let r : Response = (if x then showing (beginOf W 0 (Put p)) else bad (playing W)) in
+    let is : List Item = (if x then plays (begin 0 (Put p)) ∷ [] else badLine ∷ []) in
+    r .output ++ listingFrom (r .program) cs ≡ shows W (is ++ itemsOf (after W (callsIn is)) cs)
+unfolding callsIn after if_then_else_
+put-line W true p cs e f = one-call W (begin 0 (Put p)) cs e
+put-line W false p cs e f = bad-line W cs f
+
 pub listing-plays : ListingPlays
 unfolding listingFrom respond itemsOf shows callsIn after
 listing-plays W [] = refl
-listing-plays W (Open k w c n s ∷ cs) = bad-line W cs (listing-plays W cs)
-listing-plays W (BeginPut p ∷ cs) = one-call W (begin 0 (Put p)) cs (listing-plays (beginOf W 0 (Put p) .world) cs)
+listing-plays W (Open k w c n s v ∷ cs) = bad-line W cs (listing-plays W cs)
+listing-plays W (BeginPut v p ∷ cs) =
+    put-line W (eqb v (W .bench .words)) p cs (listing-plays (beginOf W 0 (Put p) .world) cs) (listing-plays W cs)
 listing-plays W (BeginTake ∷ cs) = one-call W (begin 0 Take) cs (listing-plays (beginOf W 0 Take .world) cs)
 listing-plays W (BeginSteal i ∷ cs) = one-call W (begin i Steal) cs (listing-plays (beginOf W i Steal .world) cs)
 listing-plays W (Steps i m ∷ cs) =
@@ -160,8 +176,8 @@ start = waiting programStore programLog
 
 first-line : (c : Command) → respond start c ≡ opened start (beforeQueue c)
 unfolding respond if_then_else_ start
-first-line (Open k w c n s) = refl
-first-line (BeginPut p) = refl
+first-line (Open k w c n s v) = refl
+first-line (BeginPut v p) = refl
 first-line BeginTake = refl
 first-line (BeginSteal i) = refl
 first-line (Steps i m) = refl
@@ -169,25 +185,25 @@ first-line End = refl
 first-line Bad = refl
 
 first-refused : (c : Command) (cs : List Command) → isRefused (beforeQueue c .answer) ≡ true
-    → listing (c ∷ cs) ≡ printed (beforeQueue c .answer) ++ listing cs
+    → listing (c ∷ cs) ≡ printedBy (beforeQueue c) ++ listing cs
 unfolding listingFrom if_then_else_ start
 first-refused c cs e =
     ap (λ (r : Response). r .output ++ listingFrom (r .program) cs) (first-line c)
-    ∙ ap (λ (b : Bool). printed (beforeQueue c .answer) ++ listingFrom (if b then start else playing (beforeQueue c .world)) cs) e
+    ∙ ap (λ (b : Bool). printedBy (beforeQueue c) ++ listingFrom (if b then start else playing (beforeQueue c .world)) cs) e
 
 first-accepted : (c : Command) (cs : List Command) → beforeQueue c .answer ≡ Accepted
     → listing (c ∷ cs) ≡ listingFrom (playing (beforeQueue c .world)) cs
 unfolding listingFrom if_then_else_ start
 first-accepted c cs e =
     ap (λ (r : Response). r .output ++ listingFrom (r .program) cs) (first-line c)
-    ∙ ap (λ (a : Answer). printed a ++ listingFrom (if isRefused a then start else playing (beforeQueue c .world)) cs) e
+    ∙ ap (λ (a : Answer). printed (beforeQueue c .world .bench .words) a ++ listingFrom (if isRefused a then start else playing (beforeQueue c .world)) cs) e
 
 all-refused : (cs rest : List Command) → AllRefused cs → listing (cs ++ rest) ≡ refusals cs ++ listing rest
 all-refused [] rest h = refl
 all-refused (c ∷ cs) rest h =
     first-refused c (cs ++ rest) (h .0)
-    ∙ ap (λ (l : List Print). printed (beforeQueue c .answer) ++ l) (all-refused cs rest (h .1))
-    ∙ sym (append-assoc (printed (beforeQueue c .answer)) (refusals cs) _)
+    ∙ ap (λ (l : List Print). printedBy (beforeQueue c) ++ l) (all-refused cs rest (h .1))
+    ∙ sym (append-assoc (printedBy (beforeQueue c)) (refusals cs) _)
 
 pub program-plays : ProgramPlays
 program-plays input o =
@@ -209,12 +225,12 @@ fresh-opens : (s : Setup) (m l : List ℕ) → Opens (freshOf s m l)
 unfolding freshOf
 fresh-opens s m l =
     unless-refused _ _ _ _ (unless-refused _ _ _ _ (unless-refused _ _ _ _ (
-    unless-refused _ _ _ _ (unless-refused _ _ _ _ (inr refl))
+    unless-refused _ _ _ _ (unless-refused _ _ _ _ (unless-refused _ _ _ _ (inr refl)))
     )))
 
 line-opens : (c : Command) → Opens (beforeQueue c)
-line-opens (Open k w c n s) = fresh-opens (setup k w c n) (take s programStore) programLog
-line-opens (BeginPut p) = inl refl
+line-opens (Open k w c n s v) = fresh-opens (setup k w c n v) (take s programStore) programLog
+line-opens (BeginPut v p) = inl refl
 line-opens BeginTake = inl refl
 line-opens (BeginSteal i) = inl refl
 line-opens (Steps i m) = inl refl
@@ -235,7 +251,7 @@ behind c cs e (inl o) =
       accepted = o .accepted;
     })
 behind c cs e (inr (h, f)) =
-    inr ((e, h), first-refused c cs e ∙ ap (λ (l : List Print). printed (beforeQueue c .answer) ++ l) f)
+    inr ((e, h), first-refused c cs e ∙ ap (λ (l : List Print). printedBy (beforeQueue c) ++ l) f)
 
 pub input-splits : InputSplits
 unfolding listingFrom
@@ -252,26 +268,26 @@ none-joined : (xs ys : List Print) → NoneLostIn xs → NoneLostIn ys → NoneL
 none-joined [] ys a b = b
 none-joined (x ∷ xs) ys a b = (a .0, none-joined xs ys (a .1) b)
 
-none-answered : (a : Answer) → NoneLostIn (printed a)
-none-answered Accepted = tt
-none-answered (Numbered n) = tt
-none-answered GoesOn = tt
-none-answered (Finished i t) = (refl, tt)
-none-answered (HandedOut i t) = (refl, tt)
-none-answered (Empty i) = (refl, tt)
-none-answered (Full i t) = (refl, tt)
-none-answered (Refused r) = (refl, tt)
+none-answered : (v : ℕ) (a : Answer) → NoneLostIn (printed v a)
+none-answered v Accepted = tt
+none-answered v (Numbered n) = tt
+none-answered v GoesOn = tt
+none-answered v (Finished i t) = (refl, tt)
+none-answered v (HandedOut i t) = (refl, tt)
+none-answered v (Empty i) = (refl, tt)
+none-answered v (Full i t) = (refl, tt)
+none-answered v (Refused r) = (refl, tt)
 
 none-refused : (cs : List Command) → NoneLostIn (refusals cs)
 none-refused [] = tt
 none-refused (c ∷ cs) =
-    none-joined (printed (beforeQueue c .answer)) (refusals cs) (none-answered (beforeQueue c .answer)) (none-refused cs)
+    none-joined (printedBy (beforeQueue c)) (refusals cs) (none-answered _ (beforeQueue c .answer)) (none-refused cs)
 
 none-shown : (W : World) (is : List Item) → countsOf (after W (callsIn is)) .lost ≡ 0 → NoneLostIn (shows W is)
 unfolding shows callsIn after
 none-shown W [] e = tt
 none-shown W (plays c ∷ is) e =
-    none-joined (printed (callOf W c .answer)) (shows (callOf W c .world) is) (none-answered (callOf W c .answer))
+    none-joined (printedBy (callOf W c)) (shows (callOf W c .world) is) (none-answered _ (callOf W c .answer))
     (none-shown (callOf W c .world) is e)
 none-shown W (badLine ∷ is) e = (refl, none-shown W is e)
 none-shown W (endLine ∷ is) e = (e, tt)
@@ -279,8 +295,8 @@ none-shown W (endLine ∷ is) e = (e, tt)
 -- the bench of an accepted `queue` is a fresh one
 none-lost-by : (q : Command) → beforeQueue q .answer ≡ Accepted → (cs : List Call) → FewPuts (beforeQueue q .world) cs
     → countsOf (after (beforeQueue q .world) cs) .lost ≡ 0
-none-lost-by (Open k w c n s) e cs f = none-lost (setup k w c n) (take s programStore) programLog e cs f
-none-lost-by (BeginPut p) e cs f = cc
+none-lost-by (Open k w c n s v) e cs f = none-lost (setup k w c n v) (take s programStore) programLog e cs f
+none-lost-by (BeginPut v p) e cs f = cc
 none-lost-by BeginTake e cs f = cc
 none-lost-by (BeginSteal i) e cs f = cc
 none-lost-by (Steps i m) e cs f = cc

@@ -2,7 +2,7 @@
 use mathlib.Core.Path.{_≡_, refl, sym, _∙_, ap}
 use mathlib.Core.Bool.{true, true≢false}
 use mathlib.Core.List.{List}
-use Prim.Native.Nat.{ℕ, _<_}
+use Prim.Native.Nat.{ℕ, _≤_, _<_}
 use native.Mathlib.Omega.{arith}
 use borrow.Author.Tests.{not-true, eqb-true, eq-eqb}
 use Rattle.model.specs.declared.Answer.{Answer}
@@ -14,33 +14,33 @@ use Rattle.model.proofs.Below.{some-at}
 use Rattle.theorems.specs.Demand3.{At}
 use Rattle.order.specs.Order.{Gives, First, InOrder, entries, LogInOrder}
 use Rattle.theorems.proofs.Translate.{at-map}
-use Rattle.order.proofs.Entries.{kind-2, place, place-rises, placed, earlier}
+use Rattle.order.proofs.Entries.{AllCut, kind-2, place, place-rises, placed, earlier}
 
 -- the first entry of a put number has the place of its first hand-out
-first : (T : List Played) (j : ℕ) → outFirst (entries T) j ≡ true → First T (place T j) (entryAt (entries T) j .number)
-first T j e = record { here = at-map T (place T j) _ (Gives n) gives (placed T j (omega (arith, kind))); none-before = none }
+first : (ω : ℕ) (T : List Played) → ω ≤ 4 → AllCut ω T → (j : ℕ) → outFirst ω (entries ω T) j ≡ true → First T (place T j) (entryAt ω (entries ω T) j .task .number)
+first ω T g c j e = record { here = at-map T (place T j) _ (Gives n) gives (placed ω T g c j (omega (arith, kind))); none-before = none }
   where
     l : List ℕ
-    l = entries T
+    l = entries ω T
 
     n : ℕ
-    n = entryAt l j .number
+    n = entryAt ω l j .task .number
 
-    kind : entryAt l j .kind ≡ 2
+    kind : entryAt ω l j .kind ≡ 2
     kind = eqb-true _ _ (and-left _ _ e)
 
-    gives : (s : Played) → entryOf (s .answer) ≡ entryAt l j → Gives n s
+    gives : (s : Played) → entryOf (s .answer) ≡ entryAt ω l j → Gives n s
     gives s q =
         let (i, t, a) = kind-2 (s .answer) (ap (λ (x : Entry). x .kind) q ∙ kind) in
-        (i, t, a, ap (λ (x : Answer). entryOf x .number) (sym a) ∙ ap (λ (x : Entry). x .number) q)
+        (i, t, a, ap (λ (x : Answer). entryOf x .task .number) (sym a) ∙ ap (λ (x : Entry). x .task .number) q)
 
     none : (p : ℕ) → p < place T j → At T p (Gives n) → ⊥
     none p h a =
-        let (i, g, (s, (w, t, b, m), q)) = earlier T j p (Gives n) (λ s (w, t, b, m). ap ends b) h a in
+        let (i, f, (s, (w, t, b, m), q)) = earlier ω T g c j p (Gives n) (λ s (w, t, b, m). ap ends b) h a in
         let x = q ∙ ap entryOf b in
-        let out : outAs l n i ≡ true = and-both _ _ (eq-eqb _ _ (ap (λ (x : Entry). x .kind) x)) (eq-eqb _ _ (ap (λ (x : Entry). x .number) x ∙ m)) in
-        true≢false (some-at (outAs l n) j i g refl out ∙ not-true (someBelow (outAs l n) j) (and-right _ _ e))
+        let out : outAs ω l n i ≡ true = and-both _ _ (eq-eqb _ _ (ap (λ (x : Entry). x .kind) x)) (eq-eqb _ _ (ap (λ (x : Entry). x .task .number) x ∙ m)) in
+        true≢false (some-at (outAs ω l n) j i f refl out ∙ not-true (someBelow (outAs ω l n) j) (and-right _ _ e))
 
-pub log-in-order : (T : List Played) → InOrder T → LogInOrder (entries T)
-log-in-order T I j k h a b =
-    I (place T j) (place T k) (entryAt (entries T) j .number) (entryAt (entries T) k .number) (first T j a) (first T k b) (place-rises T j k h)
+pub log-in-order : (ω : ℕ) (T : List Played) → ω ≤ 4 → AllCut ω T → InOrder T → LogInOrder ω (entries ω T)
+log-in-order ω T g c I j k h a b =
+    I (place T j) (place T k) (entryAt ω (entries ω T) j .task .number) (entryAt ω (entries ω T) k .task .number) (first ω T g c j a) (first ω T g c k b) (place-rises T j k h)

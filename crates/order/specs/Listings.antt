@@ -4,6 +4,7 @@ use mathlib.Core.Bool.{true}
 use mathlib.Core.Logic.{_⊎_}
 use mathlib.Core.List.{List, [], _∷_, _++_}
 use Prim.Native.Nat.{ℕ, zero, suc}
+use lib.Dec.{eqb}
 use lib.ListN.{take}
 use Rattle.model.specs.declared.Operation.the-variants.{Put, Take, Steal}
 use Rattle.model.specs.declared.Refusal.the-variants.{BadLine}
@@ -24,7 +25,7 @@ use Rattle.model.specs.Listing.{
   F,
   R,
   T,
-  printed,
+  printedBy,
   isRefused,
   totals,
   playing,
@@ -47,9 +48,10 @@ stepItems W i zero = []
 stepItems W i (suc m) =
     plays (step i) ∷ (if isRefused (stepOf W i .answer) then [] else stepItems (stepOf W i .world) i m)
 
+-- a `put` with another count of words than the queue's is a bad line
 abbrev pub lineItems : World → Command → List Item
-lineItems W (Open k w c n s) = badLine ∷ []
-lineItems W (BeginPut p) = plays (begin 0 (Put p)) ∷ []
+lineItems W (Open k w c n s v) = badLine ∷ []
+lineItems W (BeginPut v p) = if eqb v (W .bench .words) then plays (begin 0 (Put p)) ∷ [] else badLine ∷ []
 lineItems W BeginTake = plays (begin 0 Take) ∷ []
 lineItems W (BeginSteal i) = plays (begin i Steal) ∷ []
 lineItems W (Steps i m) = stepItems W i m
@@ -72,7 +74,7 @@ itemsOf W (c ∷ cs) = lineItems W c ++ itemsOf (after W (callsIn (lineItems W c
 -- left, and no more
 unfoldable pub shows : World → List Item → List Print
 shows W [] = []
-shows W (plays c ∷ is) = printed (callOf W c .answer) ++ shows (callOf W c .world) is
+shows W (plays c ∷ is) = printedBy (callOf W c) ++ shows (callOf W c .world) is
 shows W (badLine ∷ is) = R (numberOf BadLine) ∷ shows W is
 shows W (endLine ∷ is) = totals (countsOf W) ∷ []
 
@@ -86,8 +88,8 @@ abbrev pub outOfPlace : Outcome
 outOfPlace = refuse (lent noBench programStore programLog) BadLine
 
 abbrev pub beforeQueue : Command → Outcome
-beforeQueue (Open k w c n s) = freshOf (setup k w c n) (take s programStore) programLog
-beforeQueue (BeginPut p) = outOfPlace
+beforeQueue (Open k w c n s v) = freshOf (setup k w c n v) (take s programStore) programLog
+beforeQueue (BeginPut v p) = outOfPlace
 beforeQueue BeginTake = outOfPlace
 beforeQueue (BeginSteal i) = outOfPlace
 beforeQueue (Steps i m) = outOfPlace
@@ -101,7 +103,7 @@ AllRefused (c ∷ cs) = (isRefused (beforeQueue c .answer) ≡ true) × AllRefus
 
 abbrev pub refusals : List Command → List Print
 refusals [] = []
-refusals (c ∷ cs) = printed (beforeQueue c .answer) ++ refusals cs
+refusals (c ∷ cs) = printedBy (beforeQueue c) ++ refusals cs
 
 -- an input with refused lines, a `queue` that is accepted, and the rest
 pub record Opened (input : List Command) : Type 0 where

@@ -38,24 +38,24 @@ FromFifo P =
 abbrev pub FifoInOrder : Type 0
 FifoInOrder = FromFifo (λ W. (cs : List Call) → InOrder (played W cs))
 
--- THE LOG. Its written front; the four words of an entry; those of the answers of a list, in order
+-- THE LOG. Its written front; the words of the entries that the answers of a list wrote, of v payload words, in order
 abbrev pub logFront : World → List ℕ
 logFront W = frontOf (W .bench) (W .log)
 
-abbrev pub entries : List Played → List ℕ
-entries [] = []
-entries (s ∷ T) = (if ends (s .answer) then entryWords (entryOf (s .answer)) else []) ++ entries T
+abbrev pub entries : ℕ → List Played → List ℕ
+entries v [] = []
+entries v (s ∷ T) = (if ends (s .answer) then entryWords v (entryOf (s .answer)) else []) ++ entries v T
 
 -- the log's written front is the entries that the steps answered, in order: of every kind
 abbrev pub LogIsAnswers : Type 0
-LogIsAnswers = FromFresh (λ W. (cs : List Call) → logFront (after W cs) ≡ entries (played W cs))
+LogIsAnswers = FromFresh (λ W. (cs : List Call) → logFront (after W cs) ≡ entries (W .bench .words) (played W cs))
 
 -- of two entries of the log l, each the first hand-out of its put number, the later one has the larger number; past a log's
 -- end there is no hand-out
-abbrev pub LogInOrder : List ℕ → Type 0
-LogInOrder l =
-    (j k : ℕ) → j < k → outFirst l j ≡ true → outFirst l k ≡ true → entryAt l j .number < entryAt l k .number
+abbrev pub LogInOrder : ℕ → List ℕ → Type 0
+LogInOrder v l =
+    (j k : ℕ) → j < k → outFirst v l j ≡ true → outFirst v l k ≡ true → entryAt v l j .task .number < entryAt v l k .task .number
 
 -- THE CLAIM, of the log
 abbrev pub FifoLogInOrder : Type 0
-FifoLogInOrder = FromFifo (λ W. (cs : List Call) → LogInOrder (logFront (after W cs)))
+FifoLogInOrder = FromFifo (λ W. (cs : List Call) → LogInOrder (W .bench .words) (logFront (after W cs)))

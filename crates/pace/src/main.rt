@@ -5,6 +5,7 @@
 use libc::STDOUT_FILENO;
 use model::Answer;
 use model::Operation;
+use model::Payload;
 use model::Setup;
 use queues::Bench;
 use queues::Reply;
@@ -25,7 +26,13 @@ fn went_on(answer: Answer) -> u64 {
 
 // The owner's put, from its begin to its last line.
 fn put(bench: Bench, store: &mut [u32], log: &mut [u32]) -> Reply {
-    let mut last = bench.begin(0, Operation::Put { payload: 7 }, store, log);
+    let payload = Payload {
+        first: 7,
+        second: 0,
+        third: 0,
+        fourth: 0,
+    };
+    let mut last = bench.begin(0, Operation::Put { payload }, store, log);
     let mut line: u32 = 0;
     while line < 5 {
         last = last.bench.step(0, store, log);
@@ -68,6 +75,7 @@ fn main() {
         width: 4,
         size: 4,
         crew: 8,
+        words: 1,
     };
     let mut last = Bench::fresh(setup, &mut store);
     last = put(last.bench, &mut store, &mut log);

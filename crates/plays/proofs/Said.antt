@@ -1,13 +1,14 @@
--- Which call three words say.
+-- Which call an operation's number says.
 use mathlib.Core.Path.{_≡_, _∙_}
 use Prim.Native.Nat.{ℕ}
 use borrow.Author.Tests.{eq-eqb, ne-eqb}
+use Rattle.model.specs.declared.Payload.{Payload}
 use Rattle.model.specs.declared.Operation.the-variants.{Put, Take, Steal}
 use Rattle.model.specs.Calls.{begin, step}
 use Rattle.model.proofs.Tests.{if-true, if-false}
 use Rattle.plays.specs.Words.{callBy}
 
-module _ (o i p : ℕ) where
+module _ (o i : ℕ) (p : Payload) where
   pub says-put : o ≡ 1 → callBy o i p ≡ begin i (Put p)
   says-put e = if-true _ (eq-eqb o 1 e)
 

@@ -27,15 +27,15 @@ words-one (d ∷ cs) c W =
     ∙ sym (append-assoc (asWords (callOf W d .answer)) _ _)
 
 -- how many words there are
-pub words-four : (a : Answer) → length (asWords a) ≡ answerWords
-words-four Accepted = refl
-words-four (Numbered n) = refl
-words-four GoesOn = refl
-words-four (Finished i t) = refl
-words-four (HandedOut i t) = refl
-words-four (Empty i) = refl
-words-four (Full i t) = refl
-words-four (Refused r) = refl
+pub words-each : (a : Answer) → length (asWords a) ≡ answerWords
+words-each Accepted = refl
+words-each (Numbered n) = refl
+words-each GoesOn = refl
+words-each (Finished i t) = refl
+words-each (HandedOut i t) = refl
+words-each (Empty i) = refl
+words-each (Full i t) = refl
+words-each (Refused r) = refl
 
 words-many : (s : List ℕ) (W : World) (n : ℕ) → length (allAsWords (played W (callsFrom s n))) ≡ n * answerWords
 unfolding callsFrom allAsWords played
@@ -43,7 +43,7 @@ words-many s W zero = refl
 words-many s W (suc n) =
     ap length (words-one (callsFrom s n) (callAt s n) W)
     ∙ length-append (allAsWords (played W (callsFrom s n))) _
-    ∙ omega (arith, words-many s W n, words-four (callOf (after W (callsFrom s n)) (callAt s n) .answer))
+    ∙ omega (arith, words-many s W n, words-each (callOf (after W (callsFrom s n)) (callAt s n) .answer))
 
 -- the k words ws behind those of p, over the words that are left of d
 behind : (p d ws : List ℕ) (at k : ℕ) → length p ≡ at → length ws ≡ k → paste (p ++ drop at d) at ws k ≡ p ++ ws ++ drop (at + k) d
@@ -81,7 +81,7 @@ module _ (s : List ℕ) (n : ℕ) (U W : World) (o : Outcome) (here : W ≡ afte
         let up : n * answerWords + answerWords ≡ (n + 1) * answerWords = omega arith in
         g
         ∙ ap (λ (l : List ℕ). paste l (n * answerWords) ws answerWords) e
-        ∙ behind (allAsWords (played U (callsFrom s n))) rest ws (n * answerWords) answerWords (words-many s U n) (ap length f ∙ words-four (o .answer))
+        ∙ behind (allAsWords (played U (callsFrom s n))) rest ws (n * answerWords) answerWords (words-many s U n) (ap length f ∙ words-each (o .answer))
         ∙ ap (λ (l : List ℕ). allAsWords (played U (callsFrom s n)) ++ l ++ drop (n * answerWords + answerWords) rest) f
         ∙ ap (λ (l : List ℕ). l ++ drop (n * answerWords + answerWords) rest) (sym next-answer)
         ∙ ap (λ (k : ℕ). allAsWords (played U (callsFrom s (n + 1))) ++ drop k rest) up

@@ -3,20 +3,22 @@ use mathlib.Core.List.{List, [], _∷_, _++_}
 use Prim.Native.Nat.{ℕ, zero, suc, _+_, _*_}
 use lib.Dec.{eqb}
 use lib.ListN.{getD}
+use Rattle.model.specs.declared.Payload.{Payload}
 use Rattle.model.specs.declared.Operation.the-variants.{Put, Take, Steal}
 use Rattle.model.specs.declared.Answer.{Answer}
 use Rattle.model.specs.declared.Answer.the-variants.{Accepted, Numbered, GoesOn, Finished, HandedOut, Empty, Full, Refused}
 use Rattle.model.specs.Tests.{if_then_else_}
+use Rattle.model.specs.Tasks.{payload}
 use Rattle.model.specs.Answers.{numberOf, entryOf, entryWords}
 use Rattle.model.specs.Calls.{Call, begin, step}
 use Rattle.model.specs.Run.{Played}
 
--- CALLS. How many words one has: operation, worker, payload
+-- CALLS. How many words one has: operation, worker, and a payload of four words
 abbrev pub callWords : ℕ
-callWords = 3
+callWords = 6
 
 -- operation 1 is put, 2 take, 3 steal, and any other number a step; the payload is a put's
-abbrev pub callBy : ℕ → ℕ → ℕ → Call
+abbrev pub callBy : ℕ → ℕ → Payload → Call
 callBy o i p =
     if eqb o 1 then begin i (Put p)
     else if eqb o 2 then begin i Take
@@ -25,7 +27,10 @@ callBy o i p =
 
 -- call k of the words s; the first n calls
 abbrev pub callAt : List ℕ → ℕ → Call
-callAt s k = callBy (getD s (k * callWords) 0) (getD s (k * callWords + 1) 0) (getD s (k * callWords + 2) 0)
+callAt s k =
+    callBy (getD s (k * callWords) 0) (getD s (k * callWords + 1) 0)
+    (payload (getD s (k * callWords + 2) 0) (getD s (k * callWords + 3) 0) (getD s (k * callWords + 4) 0)
+    (getD s (k * callWords + 5) 0))
 
 unfoldable pub callsFrom : List ℕ → ℕ → List Call
 callsFrom s zero = []
@@ -33,17 +38,17 @@ callsFrom s (suc n) = callsFrom s n ++ (callAt s n ∷ [])
 
 -- ANSWERS. How many words one has
 abbrev pub answerWords : ℕ
-answerWords = 4
+answerWords = 7
 
--- of an answer that ends an operation its log entry; of another 0, which one it is, and its number
+-- of an answer that ends an operation its log entry, with four payload words; of another 0, which one it is, and its number
 abbrev pub entered : Answer → List ℕ
-entered a = entryWords (entryOf a)
+entered a = entryWords 4 (entryOf a)
 
 abbrev pub asWords : Answer → List ℕ
-asWords GoesOn = 0 ∷ 0 ∷ 0 ∷ 0 ∷ []
-asWords Accepted = 0 ∷ 1 ∷ 0 ∷ 0 ∷ []
-asWords (Numbered n) = 0 ∷ 2 ∷ n ∷ 0 ∷ []
-asWords (Refused r) = 0 ∷ 3 ∷ numberOf r ∷ 0 ∷ []
+asWords GoesOn = 0 ∷ 0 ∷ 0 ∷ 0 ∷ 0 ∷ 0 ∷ 0 ∷ []
+asWords Accepted = 0 ∷ 1 ∷ 0 ∷ 0 ∷ 0 ∷ 0 ∷ 0 ∷ []
+asWords (Numbered n) = 0 ∷ 2 ∷ n ∷ 0 ∷ 0 ∷ 0 ∷ 0 ∷ []
+asWords (Refused r) = 0 ∷ 3 ∷ numberOf r ∷ 0 ∷ 0 ∷ 0 ∷ 0 ∷ []
 asWords (Finished i t) = entered (Finished i t)
 asWords (HandedOut i t) = entered (HandedOut i t)
 asWords (Empty i) = entered (Empty i)

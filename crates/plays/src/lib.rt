@@ -12,13 +12,14 @@ ghost use Rattle.queues.specs.Left.{left};
 ghost use Rattle.plays.specs.Words.{callWords, callBy, callsFrom, answerWords, entered, asWords, allAsWords};
 use model::Answer;
 use model::Operation;
+use model::Payload;
 use queues::Bench;
 use queues::Reply;
 
-// The words of a call: operation, worker, payload; and of an answer.
-pub const CALL: usize = 3;
+// The words of a call: operation, worker, and a payload of four words; and of an answer, as wide as the widest entry.
+pub const CALL: usize = 6;
 
-pub const ANSWER: usize = 4;
+pub const ANSWER: usize = 7;
 
 // What a list left: the bench, and how many calls were made.
 pub struct Ended {
@@ -31,7 +32,7 @@ fn call(
     bench: Bench,
     operation: u32,
     worker: u32,
-    payload: u32,
+    payload: Payload,
     store: &mut [u32],
     log: &mut [u32],
 ) -> Reply
@@ -53,23 +54,33 @@ fn call(
     bench.step(worker, store, log)
 }
 
-// The log entry of an answer that ends an operation.
-fn entered(answer: Answer) -> [u32; 4]
+// The log entry of an answer that ends an operation, with four payload words.
+fn entered(answer: Answer) -> [u32; 7]
     ensures { λ r. ⌜ r ≡ entered answer ⌝ }
 {
     let entry = queues::entry_of(answer);
-    [entry.kind, entry.worker, entry.number, entry.payload]
+    let task = entry.task;
+    let payload = task.payload;
+    [
+        entry.kind,
+        entry.worker,
+        task.number,
+        payload.first,
+        payload.second,
+        payload.third,
+        payload.fourth,
+    ]
 }
 
 // An answer's words: its log entry; or 0, which of the others it is, and its number.
-pub fn words_of(answer: Answer) -> [u32; 4]
+pub fn words_of(answer: Answer) -> [u32; 7]
     ensures { λ r. ⌜ r ≡ asWords answer ⌝ }
 {
     match answer {
-        Answer::GoesOn => [0, 0, 0, 0],
-        Answer::Accepted => [0, 1, 0, 0],
-        Answer::Numbered { number } => [0, 2, number, 0],
-        Answer::Refused { why } => [0, 3, queues::number_of(why), 0],
+        Answer::GoesOn => [0, 0, 0, 0, 0, 0, 0],
+        Answer::Accepted => [0, 1, 0, 0, 0, 0, 0],
+        Answer::Numbered { number } => [0, 2, number, 0, 0, 0, 0],
+        Answer::Refused { why } => [0, 3, queues::number_of(why), 0, 0, 0, 0],
         Answer::Finished { worker: _, task: _ } => entered(answer),
         Answer::HandedOut { worker: _, task: _ } => entered(answer),
         Answer::Empty { worker: _ } => entered(answer),
@@ -78,7 +89,7 @@ pub fn words_of(answer: Answer) -> [u32; 4]
 }
 
 // Puts an answer's words into the answers from word `at` on.
-fn write(answers: &mut [u32], at: usize, words: [u32; 4])
+fn write(answers: &mut [u32], at: usize, words: [u32; 7])
     requires { ⌜ at + answerWords ≤ length (now answers) ⌝ }
     ensures { λ _. ⌜ now (answers .exit) ≡ paste (now (answers .entry)) at words answerWords ⌝ }
 {
@@ -124,9 +135,20 @@ pub fn play(
     let mut made = 0;
     while made < all {
         let at = made * CALL;
-        let reply = call(current, calls[at], calls[at + 1], calls[at + 2], store, log);
+        let to = made * ANSWER;
+        let first = calls[at + 2];
+        let second = calls[at + 3];
+        let third = calls[at + 4];
+        let fourth = calls[at + 5];
+        let payload = Payload {
+            first,
+            second,
+            third,
+            fourth,
+        };
+        let reply = call(current, calls[at], calls[at + 1], payload, store, log);
         let answer = reply.answer;
-        write(answers, made * ANSWER, words_of(answer));
+        write(answers, to, words_of(answer));
         current = reply.bench;
         made += 1;
     }

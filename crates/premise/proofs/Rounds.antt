@@ -2,13 +2,14 @@
 use mathlib.Core.Path.{_≡_, refl, _∙_, ap, subst}
 use mathlib.Core.Bool.{Bool, true, false, not}
 use mathlib.Core.List.{List, [], _∷_, _++_}
-use Prim.Native.Nat.{ℕ, suc, _+_, _%_, _^_}
+use Prim.Native.Nat.{ℕ, zero, suc, _+_, _*_, _%_, _^_}
 use native.Mathlib.Numerals.{add-one}
 use lib.Dec.{eqb, ltb}
-use lib.ListN.{length, replicate}
+use lib.ListN.{take, replicate}
 use Rattle.model.specs.declared.Kind.{Kind}
 use Rattle.model.specs.declared.Kind.the-variants.{Lifo, Deque}
 use Rattle.model.specs.declared.Anchor.{Anchor}
+use Rattle.model.specs.declared.Payload.{Payload}
 use Rattle.model.specs.declared.Task.{Task}
 use Rattle.model.specs.declared.Line.{Line}
 use Rattle.model.specs.declared.Line.the-variants.{Idle, PutFinish, TakeFinish, StealRead, StealCompare}
@@ -20,8 +21,9 @@ use Rattle.model.specs.Tests.{if_then_else_, _and_, _or_}
 use Rattle.model.specs.Lines.{Effect, eff, anchored, lineStep}
 use Rattle.model.specs.World.{World, Outcome, refuse, resting, lineAt}
 use Rattle.model.specs.Calls.{logFull, begun, beginIn, beginOf, oneMore, stepped, noRoom, stepIn, stepOf, Call, begin, step, callOf}
-use Rattle.model.specs.Answers.{entry, writeEntry, task}
-use Rattle.model.specs.Memory.{wordAt, setWord, nowhere, offsetAt, sizeAt}
+use Rattle.model.specs.Tasks.{payload, task, wordsIn, wordIn, withWord, gathered}
+use Rattle.model.specs.Answers.{Entry, entry, entryLength, entryWords}
+use Rattle.model.specs.Memory.{wordAt, setWord, setAll, nowhere, offsetAt, lengthAt, sizeAt}
 use Rattle.model.specs.Run.{Played, played, after}
 use Rattle.model.specs.Figures.{anchor}
 use Rattle.theorems.proofs.Valid.{Whole, valid}
@@ -73,7 +75,7 @@ unfolding played after
 answers-append [] ys U = refl
 answers-append (c ∷ xs) ys U = ap (λ (l : List Answer). callOf U c .answer ∷ l) (answers-append xs ys (callOf U c .world))
 
--- THE STATES of the two queues with a tag
+-- THE STATES of the two queues with a tag, and of 1 to 4 payload words
 pub data Tagged : Type 0 where
   lifo deque : Tagged
 
@@ -81,21 +83,41 @@ abbrev pub theKind : Tagged → Kind
 theKind lifo = Lifo
 theKind deque = Deque
 
+pub data Wide : Type 0 where
+  one two three four : Wide
+
+abbrev pub many : Wide → ℕ
+many one = 1
+many two = 2
+many three = 3
+many four = 4
+
 -- what a steal keeps for its compare, from the head 0: figure 3's h2, else 0
 abbrev pub h2 : Tagged → ℕ
 h2 lifo = 0
 h2 deque = 1
 
+-- a task whose first payload word is p; a store with this task in its one slot; an entry written
+abbrev pub short : ℕ → ℕ → Task
+short n p = task n (payload p 0 0 0)
+
+abbrev pub holding : Wide → ℕ → ℕ → List ℕ → List ℕ
+holding v n p rest = take (many v + 1) (wordsIn (short n p)) ++ rest
+
+abbrev pub writeEntry : Wide → List ℕ → ℕ → Entry → List ℕ
+writeEntry v l at e = setAll l at (entryWords (many v) e)
+
 -- the anchor is a; the owner is at the line o, the thief, worker 1, at θ
-abbrev pub here : Tagged → ℕ → Anchor → ℕ → ℕ → Line → Line → List ℕ → List ℕ → World
-here κ w a n wr o θ m lg =
+abbrev pub here : Tagged → Wide → ℕ → Anchor → ℕ → ℕ → Line → Line → List ℕ → List ℕ → World
+here κ v w a n wr o θ m lg =
     record {
       bench =
           record {
             kind = theKind κ;
             width = w;
+            words = many v;
             crew = 2;
-            queue = record { anchor = a; arrays = record { offset = 0; length = 2 } ∷ replicate 10 nowhere; published = 1; claimed = 1 };
+            queue = record { anchor = a; arrays = record { offset = 0; length = (many v + 1) * 1 } ∷ replicate 10 nowhere; published = 1; claimed = 1; initial = 1 };
             used = n;
             restarts = 0;
             written = wr;
@@ -105,144 +127,155 @@ here κ w a n wr o θ m lg =
       log = lg;
     }
 
-abbrev pub fiveSteps : ℕ → List Call
-fiveSteps i = step i ∷ step i ∷ step i ∷ step i ∷ step i ∷ []
+-- the lines of a put and of a take, each word of the task by its own
+abbrev pub ownSteps : Wide → List Call
+ownSteps v = replicate (many v + 4) (step 0)
 
-abbrev pub putting : List Call
-putting = begin 0 (Put 7) ∷ fiveSteps 0
+abbrev pub putting : Wide → List Call
+putting v = begin 0 (Put (payload 7 0 0 0)) ∷ ownSteps v
 
-abbrev pub taking : List Call
-taking = begin 0 Take ∷ fiveSteps 0
+abbrev pub taking : Wide → List Call
+taking v = begin 0 Take ∷ ownSteps v
 
--- figure 3's steal has one line more before its compare, which works out h2
-abbrev pub h2Steps : Tagged → List Call
-h2Steps lifo = []
-h2Steps deque = step 1 ∷ []
+-- those of a steal between its line 1 and its compare; figure 3's has one more, which works out h2
+abbrev pub waits : Tagged → Wide → ℕ
+waits κ v = many v + 3 + h2 κ
 
-abbrev pub stealing : Tagged → List Call
-stealing κ = begin 1 Steal ∷ (fiveSteps 1 ++ h2Steps κ)
+abbrev pub stealing : Tagged → Wide → List Call
+stealing κ v = begin 1 Steal ∷ step 1 ∷ replicate (waits κ v) (step 1)
 
-abbrev pub putAnswers : ℕ → List Answer
-putAnswers n = Numbered n ∷ GoesOn ∷ GoesOn ∷ GoesOn ∷ GoesOn ∷ Finished 0 (task n 7) ∷ []
+abbrev pub goesOn : ℕ → List Answer
+goesOn n = replicate n GoesOn
 
-abbrev pub takeAnswers : ℕ → List Answer
-takeAnswers n = Accepted ∷ GoesOn ∷ GoesOn ∷ GoesOn ∷ GoesOn ∷ HandedOut 0 (task n 7) ∷ []
+abbrev pub putAnswers : Wide → ℕ → List Answer
+putAnswers v n = Numbered n ∷ (goesOn (many v + 3) ++ (Finished 0 (short n 7) ∷ []))
 
-abbrev pub h2Answers : Tagged → List Answer
-h2Answers lifo = []
-h2Answers deque = GoesOn ∷ []
+abbrev pub takeAnswers : Wide → ℕ → List Answer
+takeAnswers v n = Accepted ∷ (goesOn (many v + 3) ++ (HandedOut 0 (short n 7) ∷ []))
 
-abbrev pub stealAnswers : Tagged → List Answer
-stealAnswers κ = Accepted ∷ GoesOn ∷ GoesOn ∷ GoesOn ∷ GoesOn ∷ GoesOn ∷ h2Answers κ
+abbrev pub stealAnswers : Tagged → Wide → List Answer
+stealAnswers κ v = Accepted ∷ GoesOn ∷ goesOn (waits κ v)
 
--- the thief isn't at its line 1
-abbrev pub Past : World → Type 0
-Past U = is-line-1 (lineAt (U .bench .workers) 1) ≡ false
+-- before each of its next n steps the thief isn't at its line 1
+abbrev pub past : ℕ → World → Bool
+past zero U = true
+past (suc n) U = not (is-line-1 (lineAt (U .bench .workers) 1)) and past n (rawOf U (step 1) .world)
 
 -- the last step of an operation, with room in the log or without
 abbrev ending : World → ℕ → Line → Bool → Outcome
-ending S i l b = if b then refuse S LogFull else stepped S i (lineStep (S .bench .kind) (S .bench .width) (S .bench .queue) (S .store) i l)
+ending S i l b = if b then refuse S LogFull else stepped S i (lineStep (S .bench .kind) (S .bench .width) (S .bench .words) (S .bench .queue) (S .store) i l)
 
-abbrev begun-or : World → ℕ → Bool → Outcome
+abbrev begun-or : World → Payload → Bool → Outcome
 begun-or U p b = if b then begun U 0 (Put p) else refuse U NumbersSpent
 
-module _ (w n g wr : ℕ) (θ : Line) (x y : ℕ) (rest lg : List ℕ) (roomy : logFull lg wr ≡ false) where
-  abbrev empty : Tagged → World
-  empty κ = here κ w (anchor 0 0 g) n wr Idle θ (x ∷ y ∷ rest) lg
+-- calls from the world U lead to the world U′ with these answers
+abbrev pub Runs : World → List Call → World → List Answer → Type 0
+Runs U cs U′ said = (rawAfter U cs ≡ U′) × (rawAnswers U cs ≡ said)
 
-  -- a put that takes number k
-  abbrev PutRun : Tagged → ℕ → Type 0
-  PutRun κ k = rawAfter (empty κ) putting ≡ here κ w (anchor 0 1 ((g + 1) % 2 ^ w)) k (wr + 4) Idle θ (k ∷ 7 ∷ rest) (writeEntry lg wr (entry 1 0 (task k 7)))
+module _ (w n g wr : ℕ) (θ : Line) (x : ℕ) (rest lg : List ℕ) where
+  abbrev Room : Wide → Type 0
+  Room v = logFull (many v) lg wr ≡ false
 
-  abbrev PutSays : Tagged → ℕ → Type 0
-  PutSays κ k = rawAnswers (empty κ) putting ≡ putAnswers k
+  -- a put that takes number k, where a task stood that is gone
+  abbrev PutRuns : Tagged → Wide → ℕ → ℕ → Type 0
+  PutRuns κ v y k =
+      Runs (here κ v w (anchor 0 0 g) n wr Idle θ (holding v x y rest) lg) (putting v)
+      (here κ v w (anchor 0 1 ((g + 1) % 2 ^ w)) k (wr + entryLength (many v)) Idle θ (holding v k 7 rest) (writeEntry v lg wr (entry 1 0 (short k 7))))
+      (putAnswers v k)
 
-  abbrev putEnd : Tagged → Bool → Outcome
-  putEnd κ =
-      ending (here κ w (anchor 0 0 g) (n + 1) wr (PutFinish (task (n + 1) 7) (anchor 0 0 g)) θ ((n + 1) ∷ 7 ∷ rest) lg) 0
-      (PutFinish (task (n + 1) 7) (anchor 0 0 g))
+  abbrev putEnd : Tagged → Wide → Bool → Outcome
+  putEnd κ v =
+      ending (here κ v w (anchor 0 0 g) (n + 1) wr (PutFinish (short (n + 1) 7) (anchor 0 0 g)) θ (holding v (n + 1) 7 rest) lg) 0
+      (PutFinish (short (n + 1) 7) (anchor 0 0 g))
 
-  put-run′ : (κ : Tagged) → ltb n 65535 ≡ true → PutRun κ (n + 1)
-  unfolding lineStep wordAt setWord offsetAt sizeAt if_then_else_ _and_ _or_
-  put-run′ lifo u = ap (λ (b : Bool). rawAfter (begun-or (empty lifo) 7 b .world) (fiveSteps 0)) u ∙ ap (λ (b : Bool). putEnd lifo b .world) roomy
-  put-run′ deque u = ap (λ (b : Bool). rawAfter (begun-or (empty deque) 7 b .world) (fiveSteps 0)) u ∙ ap (λ (b : Bool). putEnd deque b .world) roomy
+  abbrev putBegun : Tagged → Wide → ℕ → Bool → Outcome
+  putBegun κ v y = begun-or (here κ v w (anchor 0 0 g) n wr Idle θ (holding v x y rest) lg) (payload 7 0 0 0)
 
-  abbrev putBegun : Tagged → Bool → List Answer
-  putBegun κ b = begun-or (empty κ) 7 b .answer ∷ rawAnswers (begun-or (empty κ) 7 b .world) (fiveSteps 0)
+  abbrev putSays : Tagged → Wide → ℕ → Bool → List Answer
+  putSays κ v y b = putBegun κ v y b .answer ∷ rawAnswers (putBegun κ v y b .world) (ownSteps v)
 
-  abbrev putEnded : Tagged → Bool → List Answer
-  putEnded κ b = Numbered (n + 1) ∷ GoesOn ∷ GoesOn ∷ GoesOn ∷ GoesOn ∷ putEnd κ b .answer ∷ []
+  abbrev putEnds : Tagged → Wide → Bool → List Answer
+  putEnds κ v b = Numbered (n + 1) ∷ (goesOn (many v + 3) ++ (putEnd κ v b .answer ∷ []))
 
-  put-says′ : (κ : Tagged) → ltb n 65535 ≡ true → PutSays κ (n + 1)
-  unfolding lineStep wordAt setWord offsetAt sizeAt if_then_else_ _and_ _or_
-  put-says′ lifo u = ap (putBegun lifo) u ∙ ap (putEnded lifo) roomy
-  put-says′ deque u = ap (putBegun deque) u ∙ ap (putEnded deque) roomy
+  abbrev putLeads : Tagged → Wide → ℕ → Bool → World
+  putLeads κ v y b = rawAfter (putBegun κ v y b .world) (ownSteps v)
 
-  pub put-run : (κ : Tagged) → ltb n 65535 ≡ true → PutRun κ (suc n)
-  put-run κ u = subst (PutRun κ) (add-one n) (put-run′ κ u)
+  put-runs′ : (κ : Tagged) (v : Wide) (y : ℕ) → ltb n 65535 ≡ true → Room v → PutRuns κ v y (n + 1)
+  unfolding lineStep wordAt setWord offsetAt lengthAt sizeAt gathered wordIn withWord if_then_else_ _and_ _or_
+  put-runs′ lifo one y u r = (ap (putLeads lifo one y) u ∙ ap (λ (b : Bool). putEnd lifo one b .world) r, ap (putSays lifo one y) u ∙ ap (putEnds lifo one) r)
+  put-runs′ lifo two y u r = (ap (putLeads lifo two y) u ∙ ap (λ (b : Bool). putEnd lifo two b .world) r, ap (putSays lifo two y) u ∙ ap (putEnds lifo two) r)
+  put-runs′ lifo three y u r = (ap (putLeads lifo three y) u ∙ ap (λ (b : Bool). putEnd lifo three b .world) r, ap (putSays lifo three y) u ∙ ap (putEnds lifo three) r)
+  put-runs′ lifo four y u r = (ap (putLeads lifo four y) u ∙ ap (λ (b : Bool). putEnd lifo four b .world) r, ap (putSays lifo four y) u ∙ ap (putEnds lifo four) r)
+  put-runs′ deque one y u r = (ap (putLeads deque one y) u ∙ ap (λ (b : Bool). putEnd deque one b .world) r, ap (putSays deque one y) u ∙ ap (putEnds deque one) r)
+  put-runs′ deque two y u r = (ap (putLeads deque two y) u ∙ ap (λ (b : Bool). putEnd deque two b .world) r, ap (putSays deque two y) u ∙ ap (putEnds deque two) r)
+  put-runs′ deque three y u r = (ap (putLeads deque three y) u ∙ ap (λ (b : Bool). putEnd deque three b .world) r, ap (putSays deque three y) u ∙ ap (putEnds deque three) r)
+  put-runs′ deque four y u r = (ap (putLeads deque four y) u ∙ ap (λ (b : Bool). putEnd deque four b .world) r, ap (putSays deque four y) u ∙ ap (putEnds deque four) r)
 
-  pub put-says : (κ : Tagged) → ltb n 65535 ≡ true → PutSays κ (suc n)
-  put-says κ u = subst (PutSays κ) (add-one n) (put-says′ κ u)
+  pub put-runs : (κ : Tagged) (v : Wide) (y : ℕ) → ltb n 65535 ≡ true → Room v → PutRuns κ v y (suc n)
+  put-runs κ v y u r = subst (PutRuns κ v y) (add-one n) (put-runs′ κ v y u r)
 
-  abbrev takeEnd : Tagged → Bool → Outcome
-  takeEnd κ = ending (here κ w (anchor 0 1 g) n wr (TakeFinish (anchor 0 1 g) (task x y)) θ (x ∷ y ∷ rest) lg) 0 (TakeFinish (anchor 0 1 g) (task x y))
+  -- a take of task x
+  abbrev full : Tagged → Wide → Line → Line → World
+  full κ v o θ = here κ v w (anchor 0 1 g) n wr o θ (holding v x 7 rest) lg
 
-  pub take-run : (κ : Tagged) → rawAfter (here κ w (anchor 0 1 g) n wr Idle θ (x ∷ y ∷ rest) lg) taking ≡ here κ w (anchor 0 0 g) n (wr + 4) Idle θ (x ∷ y ∷ rest) (writeEntry lg wr (entry 2 0 (task x y)))
-  unfolding lineStep wordAt setWord offsetAt sizeAt if_then_else_ _and_ _or_
-  take-run lifo = ap (λ (b : Bool). takeEnd lifo b .world) roomy
-  take-run deque = ap (λ (b : Bool). takeEnd deque b .world) roomy
+  abbrev takeEnd : Tagged → Wide → Bool → Outcome
+  takeEnd κ v = ending (full κ v (TakeFinish (anchor 0 1 g) (short x 7)) θ) 0 (TakeFinish (anchor 0 1 g) (short x 7))
 
-  abbrev takeEnded : Tagged → Bool → List Answer
-  takeEnded κ b = Accepted ∷ GoesOn ∷ GoesOn ∷ GoesOn ∷ GoesOn ∷ takeEnd κ b .answer ∷ []
+  abbrev takeEnds : Tagged → Wide → Bool → List Answer
+  takeEnds κ v b = Accepted ∷ (goesOn (many v + 3) ++ (takeEnd κ v b .answer ∷ []))
 
-  pub take-says : (κ : Tagged) → rawAnswers (here κ w (anchor 0 1 g) n wr Idle θ (x ∷ y ∷ rest) lg) taking ≡ Accepted ∷ GoesOn ∷ GoesOn ∷ GoesOn ∷ GoesOn ∷ HandedOut 0 (task x y) ∷ []
-  unfolding lineStep wordAt setWord offsetAt sizeAt if_then_else_ _and_ _or_
-  take-says lifo = ap (takeEnded lifo) roomy
-  take-says deque = ap (takeEnded deque) roomy
+  pub take-runs : (κ : Tagged) (v : Wide) → Room v
+      → Runs (full κ v Idle θ) (taking v)
+      (here κ v w (anchor 0 0 g) n (wr + entryLength (many v)) Idle θ (holding v x 7 rest) (writeEntry v lg wr (entry 2 0 (short x 7))))
+      (takeAnswers v x)
+  unfolding lineStep wordAt setWord offsetAt lengthAt sizeAt gathered wordIn withWord if_then_else_ _and_ _or_
+  take-runs lifo one r = (ap (λ (b : Bool). takeEnd lifo one b .world) r, ap (takeEnds lifo one) r)
+  take-runs lifo two r = (ap (λ (b : Bool). takeEnd lifo two b .world) r, ap (takeEnds lifo two) r)
+  take-runs lifo three r = (ap (λ (b : Bool). takeEnd lifo three b .world) r, ap (takeEnds lifo three) r)
+  take-runs lifo four r = (ap (λ (b : Bool). takeEnd lifo four b .world) r, ap (takeEnds lifo four) r)
+  take-runs deque one r = (ap (λ (b : Bool). takeEnd deque one b .world) r, ap (takeEnds deque one) r)
+  take-runs deque two r = (ap (λ (b : Bool). takeEnd deque two b .world) r, ap (takeEnds deque two) r)
+  take-runs deque three r = (ap (λ (b : Bool). takeEnd deque three b .world) r, ap (takeEnds deque three) r)
+  take-runs deque four r = (ap (λ (b : Bool). takeEnd deque four b .world) r, ap (takeEnds deque four) r)
 
-  -- the thief's lines before its compare
-  abbrev one : Tagged → World
-  one κ = here κ w (anchor 0 1 g) n wr Idle Idle (x ∷ y ∷ rest) lg
+  -- the thief's lines before its compare; none of them but the first is a line 1
+  pub steal-runs : (κ : Tagged) (v : Wide) → Runs (full κ v Idle Idle) (stealing κ v) (full κ v Idle (StealCompare (anchor 0 1 g) (h2 κ) (short x 7))) (stealAnswers κ v)
+  unfolding lineStep wordAt setWord offsetAt lengthAt sizeAt gathered wordIn withWord if_then_else_ _and_ _or_
+  steal-runs lifo one = (refl, refl)
+  steal-runs lifo two = (refl, refl)
+  steal-runs lifo three = (refl, refl)
+  steal-runs lifo four = (refl, refl)
+  steal-runs deque one = (refl, refl)
+  steal-runs deque two = (refl, refl)
+  steal-runs deque three = (refl, refl)
+  steal-runs deque four = (refl, refl)
 
-  pub steal-run : (κ : Tagged) → rawAfter (one κ) (stealing κ) ≡ here κ w (anchor 0 1 g) n wr Idle (StealCompare (anchor 0 1 g) (h2 κ) (task x y)) (x ∷ y ∷ rest) lg
-  unfolding lineStep wordAt setWord offsetAt sizeAt if_then_else_ _and_ _or_
-  steal-run lifo = refl
-  steal-run deque = refl
-
-  pub steal-says : (κ : Tagged) → rawAnswers (one κ) (stealing κ) ≡ stealAnswers κ
-  unfolding lineStep wordAt setWord offsetAt sizeAt if_then_else_ _and_ _or_
-  steal-says lifo = refl
-  steal-says deque = refl
-
-  -- none of them but the first is a line 1
-  abbrev PastAfter : Tagged → List Call → Type 0
-  PastAfter κ ks = Past (rawAfter (one κ) (begin 1 Steal ∷ step 1 ∷ ks))
-
-  abbrev pub StealPast : Tagged → Type 0
-  StealPast κ =
-      PastAfter κ [] × PastAfter κ (step 1 ∷ []) × PastAfter κ (step 1 ∷ step 1 ∷ []) × PastAfter κ (step 1 ∷ step 1 ∷ step 1 ∷ [])
-      × PastAfter κ (step 1 ∷ step 1 ∷ step 1 ∷ step 1 ∷ [])
-
-  pub steal-past : (κ : Tagged) → StealPast κ
-  unfolding lineStep wordAt setWord offsetAt sizeAt if_then_else_ _and_ _or_
-  steal-past lifo = (refl, refl, refl, refl, refl)
-  steal-past deque = (refl, refl, refl, refl, refl)
+  pub steal-past : (κ : Tagged) (v : Wide) → past (waits κ v) (rawAfter (full κ v Idle Idle) (begin 1 Steal ∷ step 1 ∷ [])) ≡ true
+  unfolding lineStep wordAt setWord offsetAt lengthAt sizeAt gathered wordIn withWord if_then_else_ _and_ _or_
+  steal-past lifo one = refl
+  steal-past lifo two = refl
+  steal-past lifo three = refl
+  steal-past lifo four = refl
+  steal-past deque one = refl
+  steal-past deque two = refl
+  steal-past deque three = refl
+  steal-past deque four = refl
 
   -- the compare
-  abbrev comparing : Tagged → ℕ → Task → World
-  comparing κ g′ t = here κ w (anchor 0 1 g) n wr Idle (StealCompare (anchor 0 1 g′) (h2 κ) t) (x ∷ y ∷ rest) lg
+  abbrev comparing : Tagged → Wide → ℕ → Task → World
+  comparing κ v g′ t = full κ v Idle (StealCompare (anchor 0 1 g′) (h2 κ) t)
 
-  abbrev found : Tagged → ℕ → Task → Effect
-  found κ g′ t = eff (anchored (one κ .bench .queue) (anchor (h2 κ) 0 g′)) (x ∷ y ∷ rest) Idle (HandedOut 1 t)
+  abbrev found : Tagged → Wide → ℕ → Task → Effect
+  found κ v g′ t = eff (anchored (full κ v Idle Idle .bench .queue) (anchor (h2 κ) 0 g′)) (holding v x 7 rest) Idle (HandedOut 1 t)
 
-  abbrev compared : Tagged → ℕ → Task → Bool → Effect
-  compared κ g′ t b = if b then found κ g′ t else eff (one κ .bench .queue) (x ∷ y ∷ rest) StealRead GoesOn
+  abbrev compared : Tagged → Wide → ℕ → Task → Bool → Effect
+  compared κ v g′ t b = if b then found κ v g′ t else eff (full κ v Idle Idle .bench .queue) (holding v x 7 rest) StealRead GoesOn
 
   -- what the step leaves, b if it finds the anchor as read
-  abbrev won : Tagged → ℕ → Task → Bool → Outcome
-  won κ g′ t b =
-      let W = comparing κ g′ t in
-      let E = compared κ g′ t b in
+  abbrev won : Tagged → Wide → ℕ → Task → Bool → Outcome
+  won κ v g′ t b =
+      let W = comparing κ v g′ t in
+      let E = compared κ v g′ t b in
       let D = stepped W 1 E in
       if noRoom W E then refuse W LogFull
       else record {
@@ -252,6 +285,7 @@ module _ (w n g wr : ℕ) (θ : Line) (x y : ℕ) (rest lg : List ℕ) (roomy : 
                   record {
                     kind = D .world .bench .kind;
                     width = D .world .bench .width;
+                    words = D .world .bench .words;
                     crew = D .world .bench .crew;
                     queue = D .world .bench .queue;
                     used = D .world .bench .used;
@@ -265,14 +299,14 @@ module _ (w n g wr : ℕ) (θ : Line) (x y : ℕ) (rest lg : List ℕ) (roomy : 
         answer = D .answer;
       }
 
-  abbrev wonEnd : Tagged → ℕ → Task → Bool → Outcome
-  wonEnd κ g′ t b =
-      if b then refuse (comparing κ g′ t) LogFull
-      else record { world = here κ w (anchor (h2 κ) 0 g′) n (wr + 4) Idle Idle (x ∷ y ∷ rest) (writeEntry lg wr (entry 2 1 t)); answer = HandedOut 1 t }
+  abbrev wonEnd : Tagged → Wide → ℕ → Task → Bool → Outcome
+  wonEnd κ v g′ t b =
+      if b then refuse (comparing κ v g′ t) LogFull
+      else record { world = here κ v w (anchor (h2 κ) 0 g′) n (wr + entryLength (many v)) Idle Idle (holding v x 7 rest) (writeEntry v lg wr (entry 2 1 t)); answer = HandedOut 1 t }
 
-  pub win-run : (κ : Tagged) (g′ : ℕ) (t : Task) → eqb g g′ ≡ true
-      → rawOf (here κ w (anchor 0 1 g) n wr Idle (StealCompare (anchor 0 1 g′) (h2 κ) t) (x ∷ y ∷ rest) lg) (step 1)
-      ≡ record { world = here κ w (anchor (h2 κ) 0 g′) n (wr + 4) Idle Idle (x ∷ y ∷ rest) (writeEntry lg wr (entry 2 1 t)); answer = HandedOut 1 t }
-  unfolding lineStep wordAt setWord offsetAt sizeAt if_then_else_ _and_ _or_
-  win-run lifo g′ t e = ap (won lifo g′ t) e ∙ ap (wonEnd lifo g′ t) roomy
-  win-run deque g′ t e = ap (won deque g′ t) e ∙ ap (wonEnd deque g′ t) roomy
+  pub win-run : (κ : Tagged) (v : Wide) (g′ : ℕ) (t : Task) → eqb g g′ ≡ true → Room v
+      → rawOf (full κ v Idle (StealCompare (anchor 0 1 g′) (h2 κ) t)) (step 1)
+      ≡ record { world = here κ v w (anchor (h2 κ) 0 g′) n (wr + entryLength (many v)) Idle Idle (holding v x 7 rest) (writeEntry v lg wr (entry 2 1 t)); answer = HandedOut 1 t }
+  unfolding lineStep if_then_else_ _and_ _or_
+  win-run lifo v g′ t e r = ap (won lifo v g′ t) e ∙ ap (wonEnd lifo v g′ t) r
+  win-run deque v g′ t e r = ap (won deque v g′ t) e ∙ ap (wonEnd deque v g′ t) r

@@ -1,19 +1,25 @@
 -- The tightness list, its places and its answers.
-use mathlib.Core.Path.{_≡_, refl, _∙_, ap, subst}
+use mathlib.Core.Path.{_≡_, refl, sym, _∙_, ap, subst}
+use mathlib.Core.Bool.{true, false}
 use mathlib.Core.Logic.{inl, inr}
 use mathlib.Core.List.{List, [], _∷_, _++_}
-use Prim.Native.Nat.{ℕ, zero, suc, _+_, _*_, _^_, _<_}
+use Prim.Native.Nat.{ℕ, zero, suc, _+_, _^_, _<_}
 use native.Mathlib.Omega.{arith}
-use lib.ListN.{length, take, drop, length-append}
+use borrow.Author.Tests.{not-true}
+use lib.ListN.{length, take, drop, replicate, length-append, length-replicate}
 use Rattle.model.specs.declared.Answer.{Answer}
 use Rattle.model.specs.declared.Answer.the-variants.{Accepted, Numbered, GoesOn, Finished, HandedOut, Empty, Full, Refused}
 use Rattle.model.specs.declared.Task.{Task}
-use Rattle.model.specs.World.{World}
+use Rattle.model.specs.World.{World, Outcome, lineAt}
 use Rattle.model.specs.Calls.{Call, begin, step, callOf}
+use Rattle.model.proofs.Tests.{and-left, and-right}
 use Rattle.model.specs.Run.{Played, played, after}
 use Rattle.theorems.specs.Demand3.{At, HandsOut, Line1, finishes, puts}
+use Rattle.theorems.proofs.Valid.{Whole}
+use Rattle.theorems.proofs.WholeRun.{call-whole}
+use Rattle.theorems.proofs.Events.{is-line-1}
 use Rattle.theorems.proofs.Translate.{at-map}
-use Rattle.premise.proofs.Rounds.{answers, Tagged, lifo, deque, putting, taking, h2Steps, stealing, putAnswers, takeAnswers, h2Answers, stealAnswers, Past}
+use Rattle.premise.proofs.Rounds.{answers, raw-is, Tagged, Wide, many, short, putting, taking, stealing, goesOn, putAnswers, takeAnswers, stealAnswers, past}
 
 -- places in a list of calls, and of answers
 abbrev pub played1 : World → Call → Played
@@ -24,10 +30,13 @@ unfolding played after
 at-split [] c ys U P p = p
 at-split (x ∷ xs) c ys U P p = at-split xs c ys (callOf U x .world) P p
 
-pub at-unsplit : (xs : List Call) (c : Call) (ys : List Call) (U : World) (P : Played → Type 0) → At (played U (xs ++ c ∷ ys)) (length xs) P → P (played1 (after U xs) c)
+-- past the call at such a place
+pub at-past : (xs : List Call) (c : Call) (ys : List Call) (U : World) (P : Played → Type 0) (k i : ℕ) → i ≡ suc (length xs + k)
+    → At (played U (xs ++ c ∷ ys)) i P → At (played (callOf (after U xs) c .world) ys) k P
 unfolding played after
-at-unsplit [] c ys U P p = p
-at-unsplit (x ∷ xs) c ys U P p = at-unsplit xs c ys (callOf U x .world) P p
+at-past xs c ys U P k zero e p = absurd (omega arith)
+at-past [] c ys U P k (suc i) e p = subst (λ (j : ℕ). At (played (callOf U c .world) ys) j P) {x = i} {y = k} (omega arith) p
+at-past (x ∷ xs) c ys U P k (suc i) e p = at-past xs c ys (callOf U x .world) P k i (omega arith) p
 
 pub at-answer : (T : List Played) (ps bs : List Answer) (a : Answer) → answers T ≡ ps ++ a ∷ bs → At T (length ps) (λ s. s .answer ≡ a)
 at-answer [] [] bs a e = absurd (let z : _≡_ {A = ℕ} 0 1 = cc in omega arith)
@@ -56,6 +65,15 @@ no-thief (step zero ∷ xs) ys U zero o l a = let z : _≡_ {A = ℕ} 0 1 = cc i
 no-thief (step (suc i) ∷ xs) ys U k o l a = absurd o
 no-thief (begin i op ∷ xs) ys U (suc k) o l a = no-thief xs ys (callOf U (begin i op) .world) k o (omega arith) a
 no-thief (step zero ∷ xs) ys U (suc k) o l a = no-thief xs ys (callOf U (step 0) .world) k o (omega arith) a
+
+-- the thief's line 1 is a call of it
+past-not : (s : Played) → is-line-1 (lineAt (s .before .bench .workers) 1) ≡ false → Line1 1 s → ⊥
+past-not s p (inl (c, l, n)) = let z : _≡_ {A = ℕ} 0 1 = cc in omega arith
+past-not s p (inr (c, l, n)) = let z : _≡_ {A = ℕ} 0 1 = cc in omega arith
+
+line1-call : (s : Played) → Line1 1 s → s .call ≡ step 1
+line1-call s (inl (c, l, n)) = c
+line1-call s (inr (c, l, n)) = c
 
 -- how many puts the answers finish
 abbrev pub total : List Answer → ℕ
@@ -101,79 +119,106 @@ under-append N (x ∷ a) b (u, p) q = (u, under-append N a b p q)
 
 pub under-not : (t : Task) (T : List Played) (k : ℕ) → AllUnder (t .number) (answers T) → At T k (HandsOut t) → ⊥
 under-not t [] k u a = a
-under-not t (s ∷ T) zero (u, v) (i, x, e, b) = let z : Under (t .number) (HandedOut i x) = subst (Under (t .number)) e u in omega (arith, b .0)
+under-not t (s ∷ T) zero (u, v) (i, e) = let z : Under (t .number) (HandedOut i t) = subst (Under (t .number)) e u in omega arith
 under-not t (s ∷ T) (suc k) (u, v) a = under-not t T k v a
 
+-- answers that go on finish no put and hand out no task
+pub goes-total : (n : ℕ) → total (goesOn n) ≡ 0
+goes-total zero = refl
+goes-total (suc n) = omega (arith, goes-total n)
+
+pub goes-under : (N n : ℕ) → AllUnder N (goesOn n)
+goes-under N zero = tt
+goes-under N (suc n) = (tt, goes-under N n)
+
 -- the list
-abbrev pub rounds : ℕ → List Call
-rounds zero = []
-rounds (suc r) = rounds r ++ (taking ++ putting)
+module _ (v : Wide) where
+  abbrev pub rounds : ℕ → List Call
+  rounds zero = []
+  rounds (suc r) = rounds r ++ (taking v ++ putting v)
 
-abbrev pub first : Tagged → List Call
-first κ = putting ++ stealing κ
+  abbrev pub first : Tagged → List Call
+  first κ = putting v ++ stealing κ v
 
-abbrev pub tightList : Tagged → ℕ → List Call
-tightList κ w = (first κ ++ rounds (2 ^ w)) ++ (step 1 ∷ [])
+  abbrev pub tightList : Tagged → ℕ → List Call
+  tightList κ w = (first κ ++ rounds (2 ^ w)) ++ (step 1 ∷ [])
 
-abbrev pub script : ℕ → List Answer
-script zero = []
-script (suc r) = script r ++ (takeAnswers (suc r) ++ putAnswers (suc (suc r)))
+  abbrev pub script : ℕ → List Answer
+  script zero = []
+  script (suc r) = script r ++ (takeAnswers v (suc r) ++ putAnswers v (suc (suc r)))
 
-abbrev pub firstAnswers : Tagged → List Answer
-firstAnswers κ = putAnswers 1 ++ stealAnswers κ
+  abbrev pub firstAnswers : Tagged → List Answer
+  firstAnswers κ = putAnswers v 1 ++ stealAnswers κ v
 
--- the step for h2 finishes no put and hands out no task
-pub h2-length : (κ : Tagged) → length (h2Answers κ) ≡ length (h2Steps κ)
-h2-length lifo = refl
-h2-length deque = refl
+  steps-own : (n : ℕ) → OwnOnly (replicate n (step 0))
+  steps-own zero = tt
+  steps-own (suc n) = steps-own n
 
-pub h2-total : (κ : Tagged) → total (h2Answers κ) ≡ 0
-h2-total lifo = refl
-h2-total deque = refl
+  rounds-own : (r : ℕ) → OwnOnly (rounds r)
+  rounds-own zero = tt
+  rounds-own (suc r) =
+      own-append (rounds r) (taking v ++ putting v) (rounds-own r) (own-append (taking v) (putting v) (steps-own (many v + 4)) (steps-own (many v + 4)))
 
-pub h2-under : (κ : Tagged) (N : ℕ) → AllUnder N (h2Answers κ)
-h2-under lifo N = tt
-h2-under deque N = (tt, tt)
+  -- a put and a take have as many calls
+  pub put-length : length (putting v) ≡ many v + 5
+  put-length = omega (arith, length-replicate (many v + 4) (step 0))
 
-pub rounds-own : (r : ℕ) → OwnOnly (rounds r)
-rounds-own zero = tt
-rounds-own (suc r) = own-append (rounds r) (taking ++ putting) (rounds-own r) tt
+  pub put-many : (n : ℕ) → length (putAnswers v n) ≡ many v + 5
+  put-many n = omega (arith, length-append (goesOn (many v + 3)) (Finished 0 (short n 7) ∷ []), length-replicate (many v + 3) GoesOn)
 
-pub rounds-length : (r : ℕ) → length (rounds r) ≡ 12 * r
-rounds-length zero = refl
-rounds-length (suc r) = length-append (rounds r) (taking ++ putting) ∙ omega (arith, rounds-length r)
+  pub take-many : (n : ℕ) → length (takeAnswers v n) ≡ many v + 5
+  take-many n = omega (arith, length-append (goesOn (many v + 3)) (HandedOut 0 (short n 7) ∷ []), length-replicate (many v + 3) GoesOn)
 
-pub script-length : (r : ℕ) → length (script r) ≡ 12 * r
-script-length zero = refl
-script-length (suc r) = length-append (script r) (takeAnswers (suc r) ++ putAnswers (suc (suc r))) ∙ omega (arith, script-length r)
+  pub script-length : (r : ℕ) → length (script r) ≡ length (rounds r)
+  script-length zero = refl
+  script-length (suc r) =
+      length-append (script r) (takeAnswers v (suc r) ++ putAnswers v (suc (suc r)))
+      ∙ omega (
+        arith,
+        length-append (takeAnswers v (suc r)) (putAnswers v (suc (suc r))),
+        take-many (suc r),
+        put-many (suc (suc r)),
+        script-length r,
+        length-append (rounds r) (taking v ++ putting v),
+        length-append (taking v) (putting v),
+        put-length,
+      )
 
-pub script-total : (r : ℕ) → total (script r) ≡ r
-script-total zero = refl
-script-total (suc r) = total-append (script r) (takeAnswers (suc r) ++ putAnswers (suc (suc r))) ∙ omega (arith, script-total r)
+  pub script-total : (r : ℕ) → total (script r) ≡ r
+  script-total zero = refl
+  script-total (suc r) =
+      total-append (script r) (takeAnswers v (suc r) ++ putAnswers v (suc (suc r)))
+      ∙ omega (
+        arith,
+        script-total r,
+        total-append (takeAnswers v (suc r)) (putAnswers v (suc (suc r))),
+        total-append (goesOn (many v + 3)) (HandedOut 0 (short (suc r) 7) ∷ []),
+        total-append (goesOn (many v + 3)) (Finished 0 (short (suc (suc r)) 7) ∷ []),
+        goes-total (many v + 3),
+      )
 
-pub script-under : (r N : ℕ) → r < N → AllUnder N (script r)
-script-under zero N l = tt
-script-under (suc r) N l =
-    under-append N (script r) (takeAnswers (suc r) ++ putAnswers (suc (suc r))) (script-under r N (omega arith))
-    (tt, (tt, (tt, (tt, (tt, (l, (tt, (tt, (tt, (tt, (tt, (tt, tt))))))))))))
+  pub put-under : (N n : ℕ) → AllUnder N (putAnswers v n)
+  put-under N n = (tt, under-append N (goesOn (many v + 3)) (Finished 0 (short n 7) ∷ []) (goes-under N (many v + 3)) (tt, tt))
 
--- the thief does no other line 1 before its compare
-pub past-not : (s : Played) → Past (s .before) → Line1 1 s → ⊥
-past-not s p (inl (c, l, n)) = let z : _≡_ {A = ℕ} 0 1 = cc in omega arith
-past-not s p (inr (c, l, n)) = let z : _≡_ {A = ℕ} 0 1 = cc in omega arith
+  pub script-under : (r N : ℕ) → r < N → AllUnder N (script r)
+  script-under zero N l = tt
+  script-under (suc r) N l =
+      under-append N (script r) (takeAnswers v (suc r) ++ putAnswers v (suc (suc r))) (script-under r N (omega arith))
+      (under-append N (takeAnswers v (suc r)) (putAnswers v (suc (suc r)))
+      (tt, under-append N (goesOn (many v + 3)) (HandedOut 0 (short (suc r) 7) ∷ []) (goes-under N (many v + 3)) (l, tt))
+      (put-under N (suc (suc r))))
 
-line1-call : (s : Played) → Line1 1 s → s .call ≡ step 1
-line1-call s (inl (c, l, n)) = c
-line1-call s (inr (c, l, n)) = c
+  -- the thief does no other line 1 before its compare
+  rounds-not : (r : ℕ) (U : World) (k : ℕ) → k < length (rounds r) → At (played U (rounds r ++ (step 1 ∷ []))) k (Line1 1) → ⊥
+  rounds-not r U k h a =
+      no-thief (rounds r) (step 1 ∷ []) U k (rounds-own r) h
+      (at-map (played U (rounds r ++ (step 1 ∷ []))) k (Line1 1) (λ s. s .call ≡ step 1) line1-call a)
 
-rounds-not : (r : ℕ) (U : World) (k : ℕ) → k < 12 * r → At (played U (rounds r ++ (step 1 ∷ []))) k (Line1 1) → ⊥
-rounds-not r U k h a =
-    no-thief (rounds r) (step 1 ∷ []) U k (rounds-own r) (omega (arith, rounds-length r))
-    (at-map (played U (rounds r ++ (step 1 ∷ []))) k (Line1 1) (λ s. s .call ≡ step 1) line1-call a)
-
-pub waits-not : (κ : Tagged) (r : ℕ) (U : World) → Past U → (k : ℕ) → k < length (h2Steps κ) + 12 * r
-    → At (played U ((h2Steps κ ++ rounds r) ++ (step 1 ∷ []))) k (Line1 1) → ⊥
-unfolding played
-waits-not lifo r U p k h a = rounds-not r U k (omega arith) a
-waits-not deque r U p zero h a = past-not (played1 U (step 1)) p a
-waits-not deque r U p (suc k) h a = rounds-not r (callOf U (step 1) .world) k (omega arith) a
+  pub waits-not : (n r : ℕ) (U : World) → Whole U → past n U ≡ true → (k : ℕ) → k < n + length (rounds r)
+      → At (played U (replicate n (step 1) ++ (rounds r ++ (step 1 ∷ [])))) k (Line1 1) → ⊥
+  unfolding played
+  waits-not zero r U H p k h a = rounds-not r U k (omega arith) a
+  waits-not (suc n) r U H p zero h a = past-not (played1 U (step 1)) (not-true _ (and-left _ _ p)) a
+  waits-not (suc n) r U H p (suc k) h a =
+      waits-not n r (callOf U (step 1) .world) (call-whole H (step 1))
+      (subst (λ (D : Outcome). past n (D .world) ≡ true) (sym (raw-is U (step 1) H)) (and-right _ _ p)) k (omega arith) a

@@ -6,6 +6,7 @@ use Prim.Native.Nat.{ℕ, _+_, _*_, _^_, _≤_, _<_}
 use lib.ListN.{length}
 use Rattle.model.specs.declared.Task.{Task}
 use Rattle.model.specs.declared.Answer.the-variants.{Accepted}
+use Rattle.model.specs.Answers.{entryLength}
 use Rattle.model.specs.World.{World}
 use Rattle.model.specs.Calls.{freshOf, setup, Call}
 use Rattle.model.specs.Run.{played, after}
@@ -31,9 +32,10 @@ pub record Loses (W : World) (cs : List Call) (d : ℕ) : Type 0 where
   pub not-handed-out : (k : ℕ) → Out (played W cs) k task → ⊥
   pub not-standing : Stands (after W cs) task → ⊥
 
--- for LIFO and double-ended, kinds 1 and 3, and each width there is such a list with exactly 2^w puts in one attempt, of a
--- bench with one slot and one thief
+-- for LIFO and double-ended, kinds 1 and 3, each width and each count v of payload words there is such a list with exactly 2^w puts
+-- in one attempt, of a bench with one slot and one thief
 abbrev pub Tight : Type 0
 Tight =
-    (k w : ℕ) (store log : List ℕ) → (k ≡ 1) ⊎ (k ≡ 3) → 0 < w → w ≤ 15 → 2 ≤ length store → 8 * 2 ^ w + 8 ≤ length log
-    → (freshOf (setup k w 1 2) store log .answer ≡ Accepted) × ((cs : List Call) × Loses (freshOf (setup k w 1 2) store log .world) cs (2 ^ w))
+    (k w v : ℕ) (store log : List ℕ) → (k ≡ 1) ⊎ (k ≡ 3) → 0 < w → w ≤ 15 → 0 < v → v ≤ 4 → v + 1 ≤ length store
+    → 2 * entryLength v * (2 ^ w + 1) ≤ length log → (freshOf (setup k w 1 2 v) store log .answer ≡ Accepted)
+    × ((cs : List Call) × Loses (freshOf (setup k w 1 2 v) store log .world) cs (2 ^ w))

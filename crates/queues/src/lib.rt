@@ -10,7 +10,7 @@ ghost use Prim.Native.Nat.{ℕ};
 ghost use Rattle.model.specs.declared.Answer.the-variants.{Refused};
 ghost use Rattle.model.specs.Answers.{numberOf, entryOf};
 ghost use Rattle.model.specs.Calls.{lent, freshOf, beginOf, stepOf, frontOf};
-ghost use Rattle.answers.specs.Entries.{words};
+ghost use Rattle.answers.specs.Entries.{asDefined};
 ghost use Rattle.queues.specs.Left.{left};
 use answers::Entry;
 use machine::Made;
@@ -39,7 +39,7 @@ pub fn number_of(why: Refusal) -> u32
 
 // The log entry of an answer that ends an operation; of another answer kind 0.
 pub fn entry_of(answer: Answer) -> Entry
-    ensures { λ r. ⌜ words r ≡ entryOf answer ⌝ }
+    ensures { λ r. ⌜ asDefined r ≡ entryOf answer ⌝ }
 {
     answers::entry_of(answer)
 }
@@ -99,6 +99,7 @@ impl Bench {
         let moved = machine::step_in(
             kind,
             next.width,
+            next.words,
             next.crew,
             queue,
             next.written,

@@ -5,5 +5,5 @@ use Rattle.model.specs.declared.Queue.{Queue}
 use Rattle.model.specs.Memory.{sizeAt}
 
 -- each published array is twice the one before; f is the first one's size
-abbrev pub Doubles : Queue → ℕ → Type 0
-Doubles q f = (k : ℕ) → k < q .published → (sizeAt (q .arrays) k ≡ f * 2 ^ k) × (f * 2 ^ k ≤ 1024)
+abbrev pub Doubles : ℕ → Queue → ℕ → Type 0
+Doubles v q f = (k : ℕ) → k < q .published → (sizeAt v (q .arrays) k ≡ f * 2 ^ k) × (f * 2 ^ k ≤ 1024)

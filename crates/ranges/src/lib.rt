@@ -1,8 +1,8 @@
 // 'Values in these ranges': the limits on the anchor, and on what a worker at a line has read. A foreign state holds any 32-bit
 // values, so a sum of two of them is worked out in 64 bits.
-// Uses `model`. It is used by `limits`.
+// Uses `model` and `tasks`. It is used by `limits`.
 ghost use mathlib.Core.Path.{_≡_};
-ghost use Prim.Native.Nat.{_≤_, _<_};
+ghost use Prim.Native.Nat.{ℕ, _+_, _≤_, _<_};
 ghost use lib.Dec.{ltb, leb};
 ghost use Rattle.model.specs.declared.Queue.{Queue};
 ghost use Rattle.model.specs.Tests.{_and_};
@@ -20,6 +20,7 @@ ghost use Rattle.model.specs.Limits.{
   isDeque,
   nextOk,
   numberOk,
+  taskOk,
   lineOk,
 };
 ghost use Rattle.ranges.specs.Doubles.{Doubles};
@@ -40,6 +41,13 @@ fn both(first: bool, second: bool) -> bool
     ensures { λ r. ⌜ r ≡ (first and second) ⌝ }
 {
     first && second
+}
+
+// A task of which `known` words are known: the others are 0.
+fn task_ok(known: u32, task: Task) -> bool
+    ensures { λ r. ⌜ r ≡ taskOk known task ⌝ }
+{
+    both(number_ok(task.number), tasks::none_from(known, task))
 }
 
 // An anchor as a worker read it, in an array of `tasks`.
@@ -137,7 +145,7 @@ fn slot_ok(kind: Kind, tasks: u32, read: Anchor) -> bool
 // The noted array exists, and the slot in it. Each array is twice the one before, so its size is the first one's, doubled.
 fn place_ok(kind: Kind, published: u32, first: u32, read: Anchor, place: u32) -> bool
     requires { ⌜ published ≤ 11 ⌝ }
-    ensures { λ r. ⌜ ((q : Queue) → q .published ≡ published → Doubles q first → r ≡ placeOk kind q read place) ⌝ }
+    ensures { λ r. ⌜ ((v : ℕ) (q : Queue) → q .published ≡ published → Doubles v q first → r ≡ placeOk kind v q read place) ⌝ }
 {
     if published <= place {
         return false;
@@ -176,13 +184,13 @@ fn past_empty(kind: Kind, width: u32, tasks: u32, read: Anchor, other: bool) -> 
     )
 }
 
-// The anchor and the task of a put past its test.
-fn past_test(kind: Kind, width: u32, tasks: u32, task: Task, read: Anchor) -> bool
+// The anchor and the task of a put past its test; a task has `all` words.
+fn past_test(kind: Kind, width: u32, all: u32, tasks: u32, task: Task, read: Anchor) -> bool
     requires { ⌜ width ≤ 16 ⌝ }
-    ensures { λ r. ⌜ r ≡ (numberOk (task .number) and readOk kind width tasks read and roomOk kind tasks read) ⌝ }
+    ensures { λ r. ⌜ r ≡ (taskOk all task and readOk kind width tasks read and roomOk kind tasks read) ⌝ }
 {
     both(
-        number_ok(task.number),
+        task_ok(all, task),
         both(
             read_ok(kind, width, tasks, read),
             room_ok(kind, tasks, read),
@@ -190,12 +198,34 @@ fn past_test(kind: Kind, width: u32, tasks: u32, task: Task, read: Anchor) -> bo
     )
 }
 
-// What X3 holds.
-fn copy_ok(kind: Kind, tasks: u32, task: Task, head: u32, noted: u32, copied: u32) -> bool
-    ensures { λ r. ⌜ r ≡ (numberOk (task .number) and notedOk kind head noted and leb noted tasks and ltb copied noted) ⌝ }
+// And the word that it writes.
+fn writes_ok(
+    kind: Kind,
+    width: u32,
+    all: u32,
+    tasks: u32,
+    task: Task,
+    read: Anchor,
+    other: bool,
+) -> bool
+    requires { ⌜ width ≤ 16 ⌝ }
+    ensures { λ r. ⌜ r ≡ (taskOk all task and readOk kind width tasks read and roomOk kind tasks read and other) ⌝ }
 {
     both(
-        number_ok(task.number),
+        task_ok(all, task),
+        both(
+            read_ok(kind, width, tasks, read),
+            both(room_ok(kind, tasks, read), other),
+        ),
+    )
+}
+
+// What X3 holds.
+fn copy_ok(kind: Kind, all: u32, tasks: u32, task: Task, head: u32, noted: u32, copied: u32) -> bool
+    ensures { λ r. ⌜ r ≡ (taskOk all task and notedOk kind head noted and leb noted tasks and ltb copied noted) ⌝ }
+{
+    both(
+        task_ok(all, task),
         both(
             noted_ok(kind, head, noted),
             both(noted <= tasks, copied < noted),
@@ -203,78 +233,86 @@ fn copy_ok(kind: Kind, tasks: u32, task: Task, head: u32, noted: u32, copied: u3
     )
 }
 
-// What a worker at the line has read; the current array has `tasks` slots.
-pub fn line_ok(kind: Kind, width: u32, published: u32, first: u32, tasks: u32, line: Line) -> bool
-    requires { ⌜ width ≤ 16 ⌝ }
-    requires { ⌜ published ≤ 11 ⌝ }
-    ensures { λ r. ⌜ ((q : Queue) → q .published ≡ published → Doubles q first → tasks ≡ size q → r ≡ lineOk kind width q line) ⌝ }
+// The task of a take or a steal of which word `word` is to be read.
+fn reads_ok(words: u32, task: Task, word: u32) -> bool
+    ensures { λ r. ⌜ r ≡ (taskOk word task and leb word words) ⌝ }
 {
+    both(task_ok(word, task), word <= words)
+}
+
+// What a worker at the line has read; the current array has `tasks` slots, a task `words` payload words.
+pub fn line_ok(
+    kind: Kind,
+    width: u32,
+    words: u32,
+    published: u32,
+    first: u32,
+    tasks: u32,
+    line: Line,
+) -> bool
+    requires { ⌜ width ≤ 16 ⌝ }
+    requires { ⌜ words ≤ 4 ⌝ }
+    requires { ⌜ published ≤ 11 ⌝ }
+    ensures { λ r. ⌜ ((q : Queue) → q .published ≡ published → Doubles words q first → tasks ≡ size words q → r ≡ lineOk kind width words q line) ⌝ }
+{
+    let all = words + 1;
     match line {
         Line::Idle => true,
-        Line::PutRead { task } => number_ok(task.number),
-        Line::PutTail { task, head } => both(number_ok(task.number), head_ok(kind, head)),
-        Line::PutTest { task, read } => both(
-            number_ok(task.number),
-            read_ok(kind, width, tasks, read),
+        Line::PutRead { task } => task_ok(all, task),
+        Line::PutTail { task, head } => both(task_ok(all, task), head_ok(kind, head)),
+        Line::PutTest { task, read } => both(task_ok(all, task), read_ok(kind, width, tasks, read)),
+        Line::PutWord { task, read, word } => writes_ok(
+            kind,
+            width,
+            all,
+            tasks,
+            task,
+            read,
+            word <= words,
         ),
-        Line::PutNumber { task, read } => past_test(kind, width, tasks, task, read),
-        Line::PutPayload { task, read } => past_test(kind, width, tasks, task, read),
-        Line::PutFinish { task, read } => past_test(kind, width, tasks, task, read),
-        Line::Claim { task } => number_ok(task.number),
-        Line::Note { task } => number_ok(task.number),
+        Line::PutFinish { task, read } => past_test(kind, width, all, tasks, task, read),
+        Line::Claim { task } => task_ok(all, task),
+        Line::Note { task } => task_ok(all, task),
         Line::Copy {
             task,
             head,
             noted,
             copied,
-        } => copy_ok(kind, tasks, task, head, noted, copied),
-        Line::Publish { task } => number_ok(task.number),
+        } => copy_ok(kind, all, tasks, task, head, noted, copied),
+        Line::Publish { task } => task_ok(all, task),
         Line::TakeRead => true,
         Line::TakeTail { head } => head_ok(kind, head),
         Line::TakeTest { read } => read_ok(kind, width, tasks, read),
-        Line::TakeNumber { read } => both(read_ok(kind, width, tasks, read), some_ok(kind, read)),
-        Line::TakePayload { read, number } => past_empty(
+        Line::TakeWord { read, task, word } => past_empty(
             kind,
             width,
             tasks,
             read,
-            number_ok(number),
+            reads_ok(words, task, word),
         ),
-        Line::TakeFinish { read, task } => past_empty(
-            kind,
-            width,
-            tasks,
-            read,
-            number_ok(task.number),
-        ),
+        Line::TakeFinish { read, task } => past_empty(kind, width, tasks, read, task_ok(all, task)),
         Line::StealRead => true,
         Line::StealTail { head } => head_ok(kind, head),
         Line::StealTest { read } => read_ok(kind, width, tasks, read),
         Line::StealNote { read } => both(read_ok(kind, width, tasks, read), some_ok(kind, read)),
-        Line::StealNumber { read, place } => past_empty(
-            kind,
-            width,
-            tasks,
-            read,
-            place_ok(kind, published, first, read, place),
-        ),
-        Line::StealPayload {
+        Line::StealWord {
             read,
             place,
-            number,
+            task,
+            word,
         } => {
             let holds = both(
                 place_ok(kind, published, first, read, place),
-                number_ok(number),
+                reads_ok(words, task, word),
             );
             past_empty(kind, width, tasks, read, holds)
         }
         Line::StealNext { read, task } => {
-            let holds = both(is_deque(kind), number_ok(task.number));
+            let holds = both(is_deque(kind), task_ok(all, task));
             past_empty(kind, width, tasks, read, holds)
         }
         Line::StealCompare { read, next, task } => {
-            let holds = both(next_ok(kind, next), number_ok(task.number));
+            let holds = both(next_ok(kind, next), task_ok(all, task));
             past_empty(kind, width, tasks, read, holds)
         }
     }

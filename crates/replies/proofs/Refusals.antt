@@ -17,8 +17,8 @@ use Rattle.replies.proofs.Replies.{asks-steps}
 -- while the program waits, all but a `queue`
 pub waits-bad : (m l : List ℕ) (x : Command) → OneOf (1 ∷ 2 ∷ 3 ∷ 4 ∷ 5 ∷ 6 ∷ []) (tagOf the-type x) → respond (waiting m l) x ≡ bad (waiting m l)
 unfolding respond
-waits-bad m l (Open k w z n s) h = absurd (miss (1 ∷ 2 ∷ 3 ∷ 4 ∷ 5 ∷ 6 ∷ []) 0 tt h)
-waits-bad m l (BeginPut p) h = refl
+waits-bad m l (Open k w z n s v) h = absurd (miss (1 ∷ 2 ∷ 3 ∷ 4 ∷ 5 ∷ 6 ∷ []) 0 tt h)
+waits-bad m l (BeginPut v p) h = refl
 waits-bad m l BeginTake h = refl
 waits-bad m l (BeginSteal i) h = refl
 waits-bad m l (Steps i n) h = refl
@@ -28,8 +28,8 @@ waits-bad m l Bad h = refl
 -- while a bench is played, a `queue` and what is no line of the form; a `step` is asked elsewhere
 pub plays-bad : (W : World) (x : Command) → askedOf true x ≡ Other → OneOf (0 ∷ 4 ∷ 6 ∷ []) (tagOf the-type x) → respond (playing W) x ≡ bad (playing W)
 unfolding respond
-plays-bad W (Open k w z n s) q h = refl
-plays-bad W (BeginPut p) q h = absurd (miss (0 ∷ 4 ∷ 6 ∷ []) 1 tt h)
+plays-bad W (Open k w z n s v) q h = refl
+plays-bad W (BeginPut v p) q h = absurd (miss (0 ∷ 4 ∷ 6 ∷ []) 1 tt h)
 plays-bad W BeginTake q h = absurd (miss (0 ∷ 4 ∷ 6 ∷ []) 2 tt h)
 plays-bad W (BeginSteal i) q h = absurd (miss (0 ∷ 4 ∷ 6 ∷ []) 3 tt h)
 plays-bad W (Steps i n) q h = absurd (asks-steps _ _ _ refl q)

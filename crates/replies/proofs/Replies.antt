@@ -5,11 +5,14 @@ use mathlib.Core.Path.{_≡_, refl, ap, sym, subst, _∙_}
 use mathlib.Core.Bool.{Bool, true, false}
 use mathlib.Core.List.{List, [], _∷_, _++_}
 use lib.ListN.{length, take, drop}
+use borrow.Author.Tests.{eq-eqb, ne-eqb}
 use Rattle.model.specs.declared.Setup.{Setup}
 use Rattle.model.specs.declared.Bench.{Bench}
 use Rattle.model.specs.declared.Answer.{Answer}
 use Rattle.model.specs.declared.Answer.the-variants.{Accepted, Numbered, GoesOn, Finished, HandedOut, Empty, Full, Refused}
+use Rattle.model.specs.declared.Payload.{Payload}
 use Rattle.model.specs.declared.Operation.{Operation}
+use Rattle.model.specs.declared.Operation.the-variants.{Put}
 use Rattle.model.specs.declared.Command.{Command}
 use Rattle.model.specs.declared.Command.the-variants.{Steps}
 use Rattle.model.specs.declared.Counts.{Counts}
@@ -20,7 +23,8 @@ use Rattle.state.specs.declared.Stop.{Stop}
 use Rattle.state.specs.declared.Stop.the-variants.{No, Why}
 use Rattle.opening.specs.Begins.{BeginStops}
 use Rattle.model.specs.Counts.{countsOf}
-use Rattle.model.specs.Listing.{Program, Response, waiting, playing, ended, printed, isRefused, totals, response, opened, showing, respond}
+use Rattle.model.specs.Listing.{Program, Response, waiting, playing, ended, printed, isRefused, totals, response, opened, showing, bad, putting, respond}
+use Rattle.model.proofs.Tests.{if-true, if-false}
 use Rattle.text.specs.Numbers.{lineOf, Placed}
 use Rattle.replies.specs.declared.Progress.the-variants.{Made, Stopped}
 use Rattle.replies.specs.declared.Asked.the-variants.{Other, Step}
@@ -53,11 +57,11 @@ unfolding if_then_else_
 left-on b s m l e = ap (λ (x : Bool). leftBy x s m l) e
 
 -- a begin or a step: the bench and its memory as the outcome has them, and the answer's text
-pub shown-by : (d : Outcome) (b : Bench) (a : Answer) (w : ℕ) (m l : List ℕ) (e : ℕ) (before : List ℕ) (at : ℕ) (after : List ℕ) → record { world = lent b (take w m) l; answer = a } ≡ d → Placed before at (shownAll (printed a)) e after →
+pub shown-by : (d : Outcome) (b : Bench) (a : Answer) (w : ℕ) (m l : List ℕ) (e : ℕ) (before : List ℕ) (at : ℕ) (after : List ℕ) → record { world = lent b (take w m) l; answer = a } ≡ d → Placed before at (shownAll (printed (b .words) a)) e after →
     AnsweredBy (showing d) (played (live w b) e) m l before at after
 shown-by d b a w m l e before at after o t = record {
   program = left-on false (live w b) m l refl ∙ program-live (live w b) m l refl ∙ ap (λ (x : Outcome). playing (x .world)) o;
-  text = subst (λ (x : Outcome). Placed before at (shownAll (printed (x .answer))) e after) o t;
+  text = subst (λ (x : Outcome). Placed before at (shownAll (printed (x .world .bench .words) (x .answer))) e after) o t;
 }
 
 -- a begin on the words that were lent
@@ -69,6 +73,13 @@ begun-by s b a i op w n m l e o = subst (λ (x : List ℕ). record { world = len
 pub begin-at-once : (v : Bool) (W : World) (i : ℕ) (op : Operation) (c : Command) (r : Stop) → v ≡ true → BeginStops W i op r → respond (playing W) c ≡ showing (beginOf W i op) → RefusedAtOnce v W c r
 begin-at-once v W i op c No h b e = tt
 begin-at-once v W i op c (Why x) h b e = (h, e ∙ ap showing b)
+
+-- a `put` with as many words as the bench's payloads have, and with another count
+pub put-right : (W : World) (v : ℕ) (p : Payload) → v ≡ W .bench .words → putting W v p ≡ showing (beginOf W 0 (Put p))
+put-right W v p e = if-true _ (eq-eqb v (W .bench .words) e)
+
+pub put-wrong : (W : World) (v : ℕ) (p : Payload) → (v ≡ W .bench .words → ⊥) → putting W v p ≡ bad (playing W)
+put-wrong W v p e = if-false _ (ne-eqb v (W .bench .words) e)
 
 -- a `step` while a bench is played asks for steps
 pub asks-steps : (c : Command) (i n : ℕ) → c ≡ Steps i n → askedOf true c ≡ Other → ⊥
@@ -83,7 +94,7 @@ fresh-leaves : (s : Setup) (m l : List ℕ) → Leaves m (freshOf s m l)
 unfolding freshOf
 fresh-leaves s m l =
     either (Leaves m) _ _ _ (either (Leaves m) _ _ _ (either (Leaves m) _ _ _ (either (Leaves m) _ _ _ (either (Leaves m) _ _ _
-    (λ e. never (sym e)) (λ e. refl)) (λ e. refl)) (λ e. refl)) (λ e. refl)) (λ e. refl)
+    (either (Leaves m) _ _ _ (λ e. never (sym e)) (λ e. refl)) (λ e. refl)) (λ e. refl)) (λ e. refl)) (λ e. refl)) (λ e. refl)
 
 -- `progress` tells a refusal
 pub progress-made : (a : Answer) → progressOf a ≡ Made → isRefused a ≡ false
@@ -113,12 +124,12 @@ played-as {p = p} {m} {l} {before} {at} {after} e by = subst (λ (X : Response).
 -- `queue`, on the words that were lent, p as fresh leaves them
 module _ (u : Setup) (w n : ℕ) (m l p : List ℕ) (b : Bench) (a : Answer) (e : ℕ) (before : List ℕ) (at : ℕ) (after : List ℕ)
     (lends : n ≡ min w (length m)) (kept : length p ≡ length (take n m))
-    (made : record { world = lent b p l; answer = a } ≡ freshOf u (take n m) l) (t : Placed before at (shownAll (printed a)) e after) where
+    (made : record { world = lent b p l; answer = a } ≡ freshOf u (take n m) l) (t : Placed before at (shownAll (printed (b .words) a)) e after) where
   made-on : record { world = lent b p l; answer = a } ≡ freshOf u (take w m) l
   made-on = made ∙ ap (λ (x : List ℕ). freshOf u x l) (lent-front w n m lends)
 
-  shows : Placed before at (shownAll (printed (freshOf u (take w m) l .answer))) e after
-  shows = subst (λ (x : Outcome). Placed before at (shownAll (printed (x .answer))) e after) made-on t
+  shows : Placed before at (shownAll (printed (freshOf u (take w m) l .world .bench .words) (freshOf u (take w m) l .answer))) e after
+  shows = subst (λ (x : Outcome). Placed before at (shownAll (printed (x .world .bench .words) (x .answer))) e after) made-on t
 
   verdict : (x : Bool) → isRefused a ≡ x → isRefused (freshOf u (take w m) l .answer) ≡ x
   verdict x h = ap (λ (d : Outcome). isRefused (d .answer)) (sym made-on) ∙ h

@@ -3,10 +3,11 @@ use Prim.Native.Nat.{ℕ, _+_, _*_, _≤_}
 use native.Mathlib.Omega.{arith}
 use mathlib.Core.Path.{_≡_, refl, ap, sym, _∙_}
 use mathlib.Core.List.{List, [], _∷_, _++_, append-assoc, append-nil}
-use lib.ListN.{length}
+use lib.ListN.{length, take, drop, length-take}
 use Rattle.model.specs.declared.Answer.{Answer}
 use Rattle.model.specs.declared.Answer.the-variants.{Accepted, Numbered, GoesOn, Finished, HandedOut, Empty, Full, Refused}
 use Rattle.model.specs.declared.Counts.{Counts}
+use Rattle.model.specs.Tasks.{wordsIn}
 use Rattle.model.specs.Answers.{numberOf}
 use Rattle.model.specs.Listing.{Print, D, H, E, F, R, printed, totals}
 use Rattle.text.specs.Numbers.{lineOf, Placed}
@@ -29,32 +30,34 @@ show-append (p ∷ ps) qs = ap (λ (l : List ℕ). shown p ++ l) (show-append ps
 most : (x k : ℕ) (p : Print) (ns : List ℕ) → shown p ≡ lineOf x ns → 2 + 11 * length ns ≤ k → length (shownAll (p ∷ [])) ≤ k
 most x k p ns e h = rw (show-one p, e) (omega (arith, line-most x ns))
 
--- an answer prints at most one line, of at most three numbers
-pub answer-lines : (a : Answer) → length (printed a) ≤ 1
-answer-lines Accepted = omega arith
-answer-lines (Numbered n) = omega arith
-answer-lines GoesOn = omega arith
-answer-lines (Finished i t) = omega arith
-answer-lines (HandedOut i t) = omega arith
-answer-lines (Empty i) = omega arith
-answer-lines (Full i t) = omega arith
-answer-lines (Refused r) = omega arith
+-- an answer prints at most one line, of at most six numbers
+pub answer-lines : (v : ℕ) (a : Answer) → length (printed v a) ≤ 1
+answer-lines v Accepted = omega arith
+answer-lines v (Numbered n) = omega arith
+answer-lines v GoesOn = omega arith
+answer-lines v (Finished i t) = omega arith
+answer-lines v (HandedOut i t) = omega arith
+answer-lines v (Empty i) = omega arith
+answer-lines v (Full i t) = omega arith
+answer-lines v (Refused r) = omega arith
 
-pub answer-most : (a : Answer) → length (shownAll (printed a)) ≤ 35
+pub answer-most : (v : ℕ) (a : Answer) → length (shownAll (printed v a)) ≤ 68
 unfolding shown
-answer-most Accepted = rw show-none (omega arith)
-answer-most (Numbered n) = rw show-none (omega arith)
-answer-most GoesOn = rw show-none (omega arith)
-answer-most (Finished i t) = most _ 35 (D (t .number)) (t .number ∷ []) refl (omega arith)
-answer-most (HandedOut i t) = most _ 35 (H i (t .number) (t .payload)) (i ∷ t .number ∷ t .payload ∷ []) refl (omega arith)
-answer-most (Empty i) = most _ 35 (E i) (i ∷ []) refl (omega arith)
-answer-most (Full i t) = most _ 35 (F (t .number)) (t .number ∷ []) refl (omega arith)
-answer-most (Refused r) = most _ 35 (R (numberOf r)) (numberOf r ∷ []) refl (omega arith)
+answer-most v Accepted = rw show-none (omega arith)
+answer-most v (Numbered n) = rw show-none (omega arith)
+answer-most v GoesOn = rw show-none (omega arith)
+answer-most v (Finished i t) = most _ 68 (D (t .number)) (t .number ∷ []) refl (omega arith)
+answer-most v (HandedOut i t) =
+    let words = take v (drop 1 (wordsIn t)) in
+    most _ 68 (H i (t .number) words) (i ∷ t .number ∷ words) refl (omega (arith, length-take v (drop 1 (wordsIn t))))
+answer-most v (Empty i) = most _ 68 (E i) (i ∷ []) refl (omega arith)
+answer-most v (Full i t) = most _ 68 (F (t .number)) (t .number ∷ []) refl (omega arith)
+answer-most v (Refused r) = most _ 68 (R (numberOf r)) (numberOf r ∷ []) refl (omega arith)
 
-pub totals-most : (c : Counts) → length (shownAll (totals c ∷ [])) ≤ 72
+pub totals-most : (c : Counts) → length (shownAll (totals c ∷ [])) ≤ 68
 unfolding shown
 totals-most c =
-    most _ 72 (totals c) (c .finished ∷ c .handouts ∷ c .different ∷ c .restarts ∷ c .window ∷ c .lost ∷ []) refl (omega arith)
+    most _ 68 (totals c) (c .finished ∷ c .handouts ∷ c .different ∷ c .restarts ∷ c .window ∷ c .lost ∷ []) refl (omega arith)
 
 -- what an answer prints, as the code puts it into the output: nothing, or one line
 pub shows-none : (b : List ℕ) (at : ℕ) → Placed b at (shownAll []) at b

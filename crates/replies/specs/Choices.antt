@@ -28,8 +28,8 @@ progressOf (Refused r) = Stopped
 
 -- a line asks a bench that is played for steps, or for something else
 abbrev pub askedOf : Bool → Command → Asked
-askedOf v (Open k w c n s) = Other
-askedOf v (BeginPut p) = Other
+askedOf v (Open k w c n s p) = Other
+askedOf v (BeginPut n p) = Other
 askedOf v BeginTake = Other
 askedOf v (BeginSteal i) = Other
 askedOf v (Steps i n) = if v then Step i n else Other
@@ -39,4 +39,4 @@ askedOf v Bad = Other
 -- the line is refused and changes nothing, while the bench W is played; or nothing is said of it
 abbrev pub RefusedAtOnce : Bool → World → Command → Stop → Type 0
 RefusedAtOnce v W c No = Unit {0}
-RefusedAtOnce v W c (Why r) = (v ≡ true) × (respond (playing W) c ≡ response (playing W) (printed (Refused r)))
+RefusedAtOnce v W c (Why r) = (v ≡ true) × (respond (playing W) c ≡ response (playing W) (printed (W .bench .words) (Refused r)))

@@ -8,7 +8,7 @@ use Rattle.text.specs.Numbers.{lineOf}
 -- a line of output
 unfoldable pub shown : Print → List ℕ
 shown (D n) = lineOf (code "D") (n ∷ [])
-shown (H i n p) = lineOf (code "H") (i ∷ n ∷ p ∷ [])
+shown (H i n ps) = lineOf (code "H") (i ∷ n ∷ ps)
 shown (E i) = lineOf (code "E") (i ∷ [])
 shown (F n) = lineOf (code "F") (n ∷ [])
 shown (R r) = lineOf (code "R") (r ∷ [])

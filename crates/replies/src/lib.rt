@@ -19,6 +19,7 @@ ghost use Rattle.model.specs.Listing.{
   opened,
   showing,
   bad,
+  putting,
   respond,
 };
 ghost use Rattle.text.specs.Numbers.{Placed};
@@ -30,13 +31,14 @@ use model::Answer;
 use model::Bench;
 use model::Command;
 use model::Operation;
+use model::Payload;
 use model::Refusal;
 use model::Setup;
 use state::Stop;
 
-// Room enough for the text of any line, in bytes: the longest, `T` and six counts, has 68. A line is played only where the output
-// has room for it.
-pub const LONGEST: usize = 72;
+// Room enough for the text of any line, in bytes: `T` and six counts have 68, and so have `H` and six numbers, after which a `step`
+// can print one answer more. A line is played only where the output has room for it.
+pub const LONGEST: usize = 136;
 
 // The program between two lines: whether a `queue` was accepted, and then its bench, on the first `words` words of the store.
 pub struct Session {
@@ -74,6 +76,7 @@ pub fn start() -> Session
         width: 0,
         size: 0,
         crew: 0,
+        words: 0,
     };
     let made = opening::fresh(nothing, &mut none);
     let bench = made.bench;
@@ -95,10 +98,10 @@ pub fn span(words: u32, store: &[u32]) -> usize
     store.len()
 }
 
-// Puts what an answer prints into the output from `at` on, and answers where it ends.
-pub fn show(answer: Answer, out: &mut [u8], at: usize) -> usize
-    requires { ⌜ at + length (shownAll (printed answer)) ≤ length (now out) ⌝ }
-    ensures { λ r. ⌜ Placed (now (out .entry)) at (shownAll (printed answer)) r (now (out .exit)) ⌝ }
+// Puts what an answer prints into the output from `at` on, of a payload so many words, and answers where it ends.
+pub fn show(words: u32, answer: Answer, out: &mut [u8], at: usize) -> usize
+    requires { ⌜ at + length (shownAll (printed words answer)) ≤ length (now out) ⌝ }
+    ensures { λ r. ⌜ Placed (now (out .entry)) at (shownAll (printed words answer)) r (now (out .exit)) ⌝ }
 {
     match answer {
         Answer::Accepted => at,
@@ -108,10 +111,7 @@ pub fn show(answer: Answer, out: &mut [u8], at: usize) -> usize
             let v = [task.number];
             text::print(out, at, b'D', &v)
         }
-        Answer::HandedOut { worker, task } => {
-            let v = [worker, task.number, task.payload];
-            text::print(out, at, b'H', &v)
-        }
+        Answer::HandedOut { worker, task } => text::print_out(out, at, words, worker, task),
         Answer::Empty { worker } => {
             let v = [worker];
             text::print(out, at, b'E', &v)
@@ -144,12 +144,13 @@ fn progress_of(answer: Answer) -> Progress
 
 // A line of no form, or out of place: 13.
 fn refuse(session: Session, out: &mut [u8], at: usize) -> Answered
-    requires { ⌜ at + 72 ≤ length (now out) ⌝ }
+    requires { ⌜ at + 136 ≤ length (now out) ⌝ }
     ensures { λ r. ⌜ ((m l : List ℕ) → AnsweredBy (bad (programOf session m l)) r m l (now (out .entry)) at (now (out .exit))) ⌝ }
 {
     let why = Refusal::BadLine;
     let answer = Answer::Refused { why };
-    let end = show(answer, out, at);
+    let bench = session.bench;
+    let end = show(bench.words, answer, out, at);
     Answered {
         session,
         end,
@@ -166,7 +167,7 @@ fn open_queue(
     out: &mut [u8],
     at: usize,
 ) -> Answered
-    requires { ⌜ (at + 72 ≤ length (now out)) × (session .live ≡ false) ⌝ }
+    requires { ⌜ (at + 136 ≤ length (now out)) × (session .live ≡ false) ⌝ }
     ensures { λ r.
         ⌜
         ((l : List ℕ) →
@@ -177,7 +178,8 @@ fn open_queue(
     let n = span(words, store);
     let made = opening::fresh(setup, &mut store[..n]);
     let answer = made.answer;
-    let end = show(answer, out, at);
+    let bench = made.bench;
+    let end = show(bench.words, answer, out, at);
     let Progress::Made = progress_of(answer) else {
         return Answered {
             session,
@@ -186,7 +188,6 @@ fn open_queue(
         };
     };
     let live = true;
-    let bench = made.bench;
     let next = Session { live, words, bench };
     Answered {
         session: next,
@@ -205,7 +206,7 @@ fn begin(
     out: &mut [u8],
     at: usize,
 ) -> Answered
-    requires { ⌜ at + 72 ≤ length (now out) ⌝ }
+    requires { ⌜ at + 136 ≤ length (now out) ⌝ }
     ensures { λ r.
         ⌜
         AnsweredBy (showing (beginOf (worldOf session (now (store .entry)) (now (log .entry))) worker operation))
@@ -217,8 +218,8 @@ fn begin(
     let bench = session.bench;
     let begun = opening::begin(bench, worker, operation, &store[..n], log);
     let answer = begun.answer;
-    let end = show(answer, out, at);
     let next = begun.bench;
+    let end = show(next.words, answer, out, at);
     let after = Session {
         live: true,
         words,
@@ -231,9 +232,34 @@ fn begin(
     }
 }
 
+// `put` has as many words as a payload of the bench; with another count it is no line of the form.
+fn put(
+    session: Session,
+    words: u32,
+    payload: Payload,
+    store: &[u32],
+    log: &[u32],
+    out: &mut [u8],
+    at: usize,
+) -> Answered
+    requires { ⌜ (at + 136 ≤ length (now out)) × (session .live ≡ true) ⌝ }
+    ensures { λ r.
+        ⌜
+        AnsweredBy (putting (worldOf session (now (store .entry)) (now (log .entry))) words payload)
+        r (now (store .entry)) (now (log .entry)) (now (out .entry)) at (now (out .exit))
+        ⌝ }
+{
+    let bench = session.bench;
+    if words == bench.words {
+        let operation = Operation::Put { payload };
+        return begin(session, 0, operation, store, log, out, at);
+    }
+    refuse(session, out, at)
+}
+
 // `end`: the six counts.
 fn total(session: Session, store: &[u32], log: &[u32], out: &mut [u8], at: usize) -> Answered
-    requires { ⌜ at + 72 ≤ length (now out) ⌝ }
+    requires { ⌜ at + 136 ≤ length (now out) ⌝ }
     ensures { λ r.
         ⌜
         AnsweredBy (response ended (totals (countsOf (worldOf session (now (store .entry)) (now (log .entry)))) ∷ []))
@@ -267,7 +293,7 @@ fn play_waiting(
     out: &mut [u8],
     at: usize,
 ) -> Answered
-    requires { ⌜ (at + 72 ≤ length (now out)) × (session .live ≡ false) ⌝ }
+    requires { ⌜ (at + 136 ≤ length (now out)) × (session .live ≡ false) ⌝ }
     ensures { λ r.
         ⌜
         ((l : List ℕ) →
@@ -279,6 +305,7 @@ fn play_waiting(
         width,
         size,
         workers,
+        store: long,
         words,
     } = command
     else {
@@ -290,8 +317,9 @@ fn play_waiting(
         width,
         size,
         crew,
+        words,
     };
-    open_queue(session, setup, words, store, out, at)
+    open_queue(session, setup, long, store, out, at)
 }
 
 // A line while a bench is played, but for `step`.
@@ -303,7 +331,7 @@ fn play_live(
     out: &mut [u8],
     at: usize,
 ) -> Answered
-    requires { ⌜ (at + 72 ≤ length (now out)) × (session .live ≡ true) ⌝ }
+    requires { ⌜ (at + 136 ≤ length (now out)) × (session .live ≡ true) ⌝ }
     requires { ⌜ askedOf true command ≡ Other ⌝ }
     ensures { λ r.
         ⌜
@@ -312,10 +340,7 @@ fn play_live(
         ⌝ }
 {
     match command {
-        Command::BeginPut { payload } => {
-            let operation = Operation::Put { payload };
-            begin(session, 0, operation, store, log, out, at)
-        }
+        Command::BeginPut { words, payload } => put(session, words, payload, store, log, out, at),
         Command::BeginTake => {
             let operation = Operation::Take;
             begin(session, 0, operation, store, log, out, at)
@@ -339,7 +364,7 @@ pub fn play(
     out: &mut [u8],
     at: usize,
 ) -> Answered
-    requires { ⌜ at + 72 ≤ length (now out) ⌝ }
+    requires { ⌜ at + 136 ≤ length (now out) ⌝ }
     requires { ⌜ askedOf (session .live) command ≡ Other ⌝ }
     ensures { λ r.
         ⌜
@@ -362,9 +387,13 @@ pub fn ask(live: bool, command: Command) -> Asked
             width: _,
             size: _,
             workers: _,
+            store: _,
             words: _,
         } => Asked::Other,
-        Command::BeginPut { payload: _ } => Asked::Other,
+        Command::BeginPut {
+            words: _,
+            payload: _,
+        } => Asked::Other,
         Command::BeginTake => Asked::Other,
         Command::BeginSteal { worker: _ } => Asked::Other,
         Command::Steps { worker, times } => {
@@ -392,11 +421,17 @@ pub fn refused_at_once(live: bool, bench: Bench, command: Command) -> Stop
             width: _,
             size: _,
             workers: _,
+            store: _,
             words: _,
         } => Stop::Why {
             why: Refusal::BadLine,
         },
-        Command::BeginPut { payload } => {
+        Command::BeginPut { words, payload } => {
+            if words != bench.words {
+                return Stop::Why {
+                    why: Refusal::BadLine,
+                };
+            }
             let operation = Operation::Put { payload };
             opening::begin_stop(bench, 0, operation)
         }

@@ -1,18 +1,20 @@
 // Where an index lies in the store: which index a put, a take and a steal name, which slot of an array it has, which words of
 // the store that slot is, and whether they leave room for a larger array. `read` is the anchor as a worker read it at line 1.
-// Uses `model`. It is used by `lines`.
+// Uses `model` and `tasks`. It is used by `lines`, and by contracts of `machine`.
 ghost use mathlib.Core.Path.{_≡_};
 ghost use mathlib.Core.Bool.{true};
-ghost use Prim.Native.Nat.{_+_, _-_, _*_, _≤_, _<_};
+ghost use Prim.Native.Nat.{ℕ, _+_, _-_, _*_, _^_, _≤_, _<_};
 ghost use lib.ListN.{length};
-ghost use Rattle.model.specs.Memory.{offsetAt, sizeAt};
+ghost use Rattle.model.specs.Tasks.{gathered};
+ghost use Rattle.model.specs.Memory.{offsetAt, lengthAt, sizeAt};
 ghost use Rattle.model.specs.Figures.{slot, putIndex, takeIndex, stealIndex};
 ghost use Rattle.model.specs.Lines.{wordOf, fits};
 ghost use Rattle.model.specs.Limits.{someOk};
-ghost use Rattle.slots.specs.Bounds.{Power, Slotted, Inside, Small};
+ghost use Rattle.slots.specs.Bounds.{Power, Wide, Sized, Slotted, Inside, Small};
 use model::Anchor;
 use model::Kind;
 use model::Queue;
+use model::Task;
 
 // LIFO names slots; in figures 2 and 3 index i lies in slot i modulo the array's size. A size is a power of two, so the
 // remainder is the index's lowest bits, and no step divides.
@@ -65,116 +67,169 @@ fn steal_index(kind: Kind, read: Anchor) -> u32
     }
 }
 
-// The array at place `at` of the directory: its size in tasks, half of its words.
+// The array at place `at` of the directory: its size in tasks. Each is twice the one before, so that no length is divided.
 pub fn size_at(queue: Queue, at: usize) -> u32
     requires { ⌜ at < 11 ⌝ }
-    ensures { λ r. ⌜ r ≡ sizeAt (queue .arrays) at ⌝ }
+    requires { ⌜ queue .initial * 2 ^ at ≤ 1024 ⌝ }
+    ensures { λ r. ⌜ r ≡ queue .initial * 2 ^ at ⌝ }
 {
-    let region = queue.arrays[at];
-    region.length >> 1
+    queue.initial << at
 }
 
 // The first word behind it.
 pub fn end_of(queue: Queue, at: usize) -> u32
     requires { ⌜ at < 11 ⌝ }
     requires { ⌜ Small queue at ⌝ }
-    ensures { λ r. ⌜ r ≡ offsetAt (queue .arrays) at + 2 * sizeAt (queue .arrays) at ⌝ }
+    ensures { λ r. ⌜ r ≡ offsetAt (queue .arrays) at + lengthAt (queue .arrays) at ⌝ }
 {
     let region = queue.arrays[at];
-    let size = size_at(queue, at);
-    region.offset + 2 * size
+    region.offset + region.length
 }
 
-// Where word `word` of index `index` lies in that array: word 0 is the put number, word 1 the payload.
-pub fn place(kind: Kind, queue: Queue, at: usize, index: u32, word: usize) -> usize
+// The length of the array that X1 claims behind it.
+pub fn twice_as_long(queue: Queue, at: usize) -> u32
     requires { ⌜ at < 11 ⌝ }
-    requires { ⌜ Slotted kind queue at index ⌝ }
-    requires { ⌜ word ≤ 1 ⌝ }
-    ensures { λ r. ⌜ r ≡ offsetAt (queue .arrays) at + 2 * slot kind (sizeAt (queue .arrays) at) index + word ⌝ }
+    requires { ⌜ Small queue at ⌝ }
+    ensures { λ r. ⌜ r ≡ 2 * lengthAt (queue .arrays) at ⌝ }
+{
+    let region = queue.arrays[at];
+    2 * region.length
+}
+
+// Where word `word` of index `index` lies in that array: word 0 is the put number, those behind it the payload.
+pub fn place(kind: Kind, words: u32, queue: Queue, at: usize, index: u32, word: u32) -> usize
+    requires { ⌜ Wide words ⌝ }
+    requires { ⌜ at < 11 ⌝ }
+    requires { ⌜ Slotted kind words queue at index ⌝ }
+    requires { ⌜ word ≤ words ⌝ }
+    ensures { λ r. ⌜ r ≡ offsetAt (queue .arrays) at + (words + 1) * slot kind (sizeAt words (queue .arrays) at) index + word ⌝ }
 {
     let region = queue.arrays[at];
     let s = slot_of(kind, size_at(queue, at), index);
     let first = region.offset as usize;
+    let each = words as usize + 1;
     let task = s as usize;
-    first + 2 * task + word
+    let before = each * task;
+    first + before + word as usize
 }
 
 // That word, read.
-pub fn read_word(kind: Kind, queue: Queue, at: usize, index: u32, word: usize, store: &[u32]) -> u32
+fn read_word(
+    kind: Kind,
+    words: u32,
+    queue: Queue,
+    at: usize,
+    index: u32,
+    word: u32,
+    store: &[u32],
+) -> u32
+    requires { ⌜ Wide words ⌝ }
     requires { ⌜ at < 11 ⌝ }
-    requires { ⌜ Slotted kind queue at index ⌝ }
-    requires { ⌜ Inside queue (length (now store)) at ⌝ }
-    requires { ⌜ word ≤ 1 ⌝ }
-    ensures { λ r. ⌜ r ≡ wordOf kind queue (now (store .entry)) at index word ⌝ }
+    requires { ⌜ Slotted kind words queue at index ⌝ }
+    requires { ⌜ Inside words queue (length (now store)) at ⌝ }
+    requires { ⌜ word ≤ words ⌝ }
+    ensures { λ r. ⌜ r ≡ wordOf kind words queue (now (store .entry)) at index word ⌝ }
 {
-    let p = place(kind, queue, at, index, word);
+    let p = place(kind, words, queue, at, index, word);
     store[p]
 }
 
-// Put 3a, 3b (FIFO 4a, 4b): where the task's word is written.
-pub fn put_place(kind: Kind, queue: Queue, at: usize, read: Anchor, word: usize) -> usize
+// X3: the whole task, of `words` payload words.
+pub fn read_task(kind: Kind, words: u32, queue: Queue, at: usize, index: u32, store: &[u32]) -> Task
+    requires { ⌜ Wide words ⌝ }
+    requires { ⌜ at < 11 ⌝ }
+    requires { ⌜ Slotted kind words queue at index ⌝ }
+    requires { ⌜ Inside words queue (length (now store)) at ⌝ }
+    ensures { λ r. ⌜ r ≡ gathered (words + 1) (wordOf kind words queue (now (store .entry)) at index) ⌝ }
+{
+    let number = read_word(kind, words, queue, at, index, 0, store);
+    let first = read_word(kind, words, queue, at, index, 1, store);
+    if words == 1 {
+        return tasks::task_of(number, first, 0, 0, 0);
+    }
+    let second = read_word(kind, words, queue, at, index, 2, store);
+    if words == 2 {
+        return tasks::task_of(number, first, second, 0, 0);
+    }
+    let third = read_word(kind, words, queue, at, index, 3, store);
+    if words == 3 {
+        return tasks::task_of(number, first, second, third, 0);
+    }
+    let fourth = read_word(kind, words, queue, at, index, 4, store);
+    tasks::task_of(number, first, second, third, fourth)
+}
+
+// Put 3a, 3b .. (FIFO 4a, 4b ..): where the task's word is written.
+pub fn put_place(kind: Kind, words: u32, queue: Queue, at: usize, read: Anchor, word: u32) -> usize
+    requires { ⌜ Wide words ⌝ }
     requires { ⌜ at < 11 ⌝ }
     requires { ⌜ (read .head ≤ 65535) × (read .count ≤ 65535) ⌝ }
-    requires { ⌜ Slotted kind queue at (putIndex kind read) ⌝ }
-    requires { ⌜ word ≤ 1 ⌝ }
-    ensures { λ r. ⌜ r ≡ offsetAt (queue .arrays) at + 2 * slot kind (sizeAt (queue .arrays) at) (putIndex kind read) + word ⌝ }
+    requires { ⌜ Slotted kind words queue at (putIndex kind read) ⌝ }
+    requires { ⌜ word ≤ words ⌝ }
+    ensures { λ r. ⌜ r ≡ offsetAt (queue .arrays) at + (words + 1) * slot kind (sizeAt words (queue .arrays) at) (putIndex kind read) + word ⌝ }
 {
     let index = put_index(kind, read);
-    place(kind, queue, at, index, word)
+    place(kind, words, queue, at, index, word)
 }
 
-// Take 3a, 3b (FIFO 4a, 4b): the task's word, in the array at place `at`.
+// Take 3a, 3b .. (FIFO 4a, 4b ..): the task's word, in the array at place `at`.
 pub fn taken_word(
     kind: Kind,
+    words: u32,
     queue: Queue,
     at: usize,
     read: Anchor,
-    word: usize,
+    word: u32,
     store: &[u32],
 ) -> u32
+    requires { ⌜ Wide words ⌝ }
     requires { ⌜ at < 11 ⌝ }
     requires { ⌜ (read .head ≤ 65535) × (read .count ≤ 65535) ⌝ }
     requires { ⌜ someOk kind read ≡ true ⌝ }
-    requires { ⌜ Slotted kind queue at (takeIndex kind read) ⌝ }
-    requires { ⌜ Inside queue (length (now store)) at ⌝ }
-    requires { ⌜ word ≤ 1 ⌝ }
-    ensures { λ r. ⌜ r ≡ wordOf kind queue (now (store .entry)) at (takeIndex kind read) word ⌝ }
+    requires { ⌜ Slotted kind words queue at (takeIndex kind read) ⌝ }
+    requires { ⌜ Inside words queue (length (now store)) at ⌝ }
+    requires { ⌜ word ≤ words ⌝ }
+    ensures { λ r. ⌜ r ≡ wordOf kind words queue (now (store .entry)) at (takeIndex kind read) word ⌝ }
 {
     let index = take_index(kind, read);
-    read_word(kind, queue, at, index, word, store)
+    read_word(kind, words, queue, at, index, word, store)
 }
 
-// Steal 4a, 4b (FIFO 5a, 5b): the task's word, in the noted array, at place `at`.
+// Steal 4a, 4b .. (FIFO 5a, 5b ..): the task's word, in the noted array, at place `at`.
 pub fn stolen_word(
     kind: Kind,
+    words: u32,
     queue: Queue,
     at: usize,
     read: Anchor,
-    word: usize,
+    word: u32,
     store: &[u32],
 ) -> u32
+    requires { ⌜ Wide words ⌝ }
     requires { ⌜ at < 11 ⌝ }
     requires { ⌜ someOk kind read ≡ true ⌝ }
-    requires { ⌜ Slotted kind queue at (stealIndex kind read) ⌝ }
-    requires { ⌜ Inside queue (length (now store)) at ⌝ }
-    requires { ⌜ word ≤ 1 ⌝ }
-    ensures { λ r. ⌜ r ≡ wordOf kind queue (now (store .entry)) at (stealIndex kind read) word ⌝ }
+    requires { ⌜ Slotted kind words queue at (stealIndex kind read) ⌝ }
+    requires { ⌜ Inside words queue (length (now store)) at ⌝ }
+    requires { ⌜ word ≤ words ⌝ }
+    ensures { λ r. ⌜ r ≡ wordOf kind words queue (now (store .entry)) at (stealIndex kind read) word ⌝ }
 {
     let index = steal_index(kind, read);
-    read_word(kind, queue, at, index, word, store)
+    read_word(kind, words, queue, at, index, word, store)
 }
 
 // X1's condition: twice the size is at most 1,024, and the store's words left are enough.
 pub fn has_room(queue: Queue, store: &[u32]) -> bool
     requires { ⌜ (0 < queue .published) × (queue .published ≤ 11) ⌝ }
+    requires { ⌜ queue .initial * 2 ^ (queue .published - 1) ≤ 1024 ⌝ }
     requires { ⌜ Small queue (queue .published - 1) ⌝ }
-    ensures { λ r. ⌜ r ≡ fits queue (now (store .entry)) ⌝ }
+    ensures { λ r. ⌜ ((v : ℕ) → Sized v queue (queue .published - 1) → r ≡ fits v queue (now (store .entry))) ⌝ }
 {
     let here = queue.published - 1;
     let at = here as usize;
     let size = size_at(queue, at);
     let from = end_of(queue, at);
-    let end = (from + 2 * (2 * size)) as usize;
+    let more = twice_as_long(queue, at);
+    let end = (from + more) as usize;
     let n = store.len();
     2 * size <= 1024 && end <= n
 }

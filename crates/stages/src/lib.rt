@@ -1,5 +1,5 @@
 // Where a worker stands in its operation, and the counter of restarts.
-// Uses `model`. It is used by `limits`, `opening` and `machine`.
+// Uses `model`. It is used by `limits`, `opening`, `machine` and `listing`.
 ghost use mathlib.Core.Path.{_≡_};
 ghost use Rattle.model.specs.World.{stage, isIdle};
 ghost use Rattle.model.specs.Calls.{oneMore};
@@ -14,8 +14,11 @@ pub fn stage(line: Line) -> u32
         Line::PutRead { task: _ } => 1,
         Line::PutTail { task: _, head: _ } => 3,
         Line::PutTest { task: _, read: _ } => 3,
-        Line::PutNumber { task: _, read: _ } => 3,
-        Line::PutPayload { task: _, read: _ } => 3,
+        Line::PutWord {
+            task: _,
+            read: _,
+            word: _,
+        } => 3,
         Line::PutFinish { task: _, read: _ } => 3,
         Line::Claim { task: _ } => 3,
         Line::Note { task: _ } => 2,
@@ -29,18 +32,21 @@ pub fn stage(line: Line) -> u32
         Line::TakeRead => 1,
         Line::TakeTail { head: _ } => 3,
         Line::TakeTest { read: _ } => 3,
-        Line::TakeNumber { read: _ } => 3,
-        Line::TakePayload { read: _, number: _ } => 3,
+        Line::TakeWord {
+            read: _,
+            task: _,
+            word: _,
+        } => 3,
         Line::TakeFinish { read: _, task: _ } => 3,
         Line::StealRead => 4,
         Line::StealTail { head: _ } => 5,
         Line::StealTest { read: _ } => 5,
         Line::StealNote { read: _ } => 5,
-        Line::StealNumber { read: _, place: _ } => 5,
-        Line::StealPayload {
+        Line::StealWord {
             read: _,
             place: _,
-            number: _,
+            task: _,
+            word: _,
         } => 5,
         Line::StealNext { read: _, task: _ } => 5,
         Line::StealCompare {

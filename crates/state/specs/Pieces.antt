@@ -10,6 +10,7 @@ opened b i u l =
     record {
       kind = b .kind;
       width = b .width;
+      words = b .words;
       crew = b .crew;
       queue = b .queue;
       used = u;

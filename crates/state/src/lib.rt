@@ -40,22 +40,25 @@ pub fn refused(bench: Bench, why: Refusal) -> Returned
     }
 }
 
-// A state with no operation open, over one array of `size` tasks.
-pub fn made(kind: Kind, width: u32, size: u32, crew: u32) -> Bench
+// A state with no operation open, over one array of `size` tasks of `words` payload words.
+pub fn made(kind: Kind, width: u32, size: u32, crew: u32, words: u32) -> Bench
     requires { ⌜ size ≤ 1024 ⌝ }
-    ensures { λ r. ⌜ r ≡ blank kind width size crew ⌝ }
+    requires { ⌜ words ≤ 4 ⌝ }
+    ensures { λ r. ⌜ r ≡ blank kind width size crew words ⌝ }
 {
+    let long = (words + 1) * size;
     let mut arrays = [Region {
         offset: 0,
         length: 0,
     }; 11];
     arrays[0] = Region {
         offset: 0,
-        length: 2 * size,
+        length: long,
     };
     Bench {
         kind: kind,
         width: width,
+        words: words,
         crew: crew,
         queue: Queue {
             anchor: Anchor {
@@ -66,6 +69,7 @@ pub fn made(kind: Kind, width: u32, size: u32, crew: u32) -> Bench
             arrays: arrays,
             published: 1,
             claimed: 1,
+            initial: size,
         },
         used: 0,
         restarts: 0,
@@ -78,7 +82,7 @@ pub fn made(kind: Kind, width: u32, size: u32, crew: u32) -> Bench
 pub fn none() -> Bench
     ensures { λ r. ⌜ r ≡ noBench ⌝ }
 {
-    made(Kind::Lifo, 0, 0, 0)
+    made(Kind::Lifo, 0, 0, 0, 0)
 }
 
 // A worker gets its first line.

@@ -1,13 +1,13 @@
 -- The values of a line, one after the other.
-use Prim.Native.Nat.{ℕ, _+_, _-_, _≤_, _<_}
+use Prim.Native.Nat.{ℕ, zero, suc, _+_, _-_, _≤_, _<_}
 use native.Mathlib.Omega.{arith}
-use mathlib.Core.Path.{_≡_, refl}
+use mathlib.Core.Path.{_≡_, refl, sym, _∙_}
 use mathlib.Core.Bool.{true, false}
 use mathlib.Core.List.{List, [], _∷_, _++_, append-assoc, append-nil}
 use lib.ListN.{length, getD, take, drop, length-append}
-use lib.Seq.{length-take-le, drop-drop, getD-drop}
-use lib.Dec.{eqb}
-use borrow.Author.Tests.{eq-eqb, ne-eqb}
+use lib.Seq.{length-take-le, getD-take, drop-drop, getD-drop}
+use lib.Dec.{eqb, leb}
+use borrow.Author.Tests.{eq-eqb, ne-eqb, le-leb, lt-leb}
 use Rattle.model.specs.Tests.{_and_, if_then_else_}
 use Rattle.text.specs.Numbers.{valueOf}
 use Rattle.text.specs.Words.{words, head, tail}
@@ -17,7 +17,6 @@ use Rattle.text.specs.declared.Value.the-variants.{No, Of}
 use Rattle.text.specs.declared.Key as key
 use Rattle.text.specs.declared.Key.{Key}
 use Rattle.model.specs.declared.Command.the-variants.{Bad}
-use Rattle.model.specs.declared.Command.{Command}
 use Rattle.text.proofs.Lists.{next, done}
 use Rattle.text.proofs.Split.{split, rest-space, rest-none, rest-at, space-at, first-fits}
 
@@ -26,6 +25,33 @@ count-is v n m h e = rw (length-take-le n v h) (eq-eqb n m e)
 
 pub count-not : (v : List ℕ) (n m : ℕ) → n ≤ length v → (n ≡ m → ⊥) → eqb (length (take n v)) m ≡ false
 count-not v n m h e = rw (length-take-le n v h) (ne-eqb n m e)
+
+pub count-from : (v : List ℕ) (n m : ℕ) → n ≤ length v → m ≤ n → leb m (length (take n v)) ≡ true
+count-from v n m h e = rw (length-take-le n v h) (le-leb m n e)
+
+pub count-under : (v : List ℕ) (n m : ℕ) → n ≤ length v → n < m → leb m (length (take n v)) ≡ false
+count-under v n m h e = rw (length-take-le n v h) (lt-leb m n e)
+
+pub count-to : (v : List ℕ) (n m : ℕ) → n ≤ length v → n ≤ m → leb (length (take n v)) m ≡ true
+count-to v n m h e = rw (length-take-le n v h) (le-leb n m e)
+
+pub count-over : (v : List ℕ) (n m : ℕ) → n ≤ length v → m < n → leb (length (take n v)) m ≡ false
+count-over v n m h e = rw (length-take-le n v h) (lt-leb n m e)
+
+-- one of the first n values, or what is said where there are fewer
+any-default : (v : List ℕ) (k d e : ℕ) → k < length v → getD v k d ≡ getD v k e
+any-default [] k d e h = absurd (omega (arith, h))
+any-default (x ∷ v) zero d e h = refl
+any-default (x ∷ v) (suc k) d e h = any-default v k d e (omega (arith, h))
+
+pub among : (v : List ℕ) (n k d : ℕ) → k < n → k < length v → getD v k 0 ≡ getD (take n v) k d
+among v n k d h g = any-default v k 0 d g ∙ sym (getD-take n v k d h)
+
+pub past : (v : List ℕ) (n k d : ℕ) → n ≤ k → d ≡ getD (take n v) k d
+past v zero k d h = refl
+past [] (suc n) k d h = refl
+past (x ∷ v) (suc n) zero d h = absurd (omega (arith, h))
+past (x ∷ v) (suc n) (suc k) d h = past v n k d (omega (arith, h))
 
 unfoldable pub prefixed : List ℕ → Values → Values
 prefixed l wrong = wrong
@@ -41,18 +67,18 @@ unfolding prefixed
 prefixed-nil wrong = refl
 prefixed-nil (these v) = refl
 
--- five values are the most that any keyword takes
-pub long : (k : Key) (v : List ℕ) → 5 < length v → formed k v ≡ Bad
+-- six values are the most that any keyword takes
+pub long : (k : Key) (v : List ℕ) → 6 < length v → formed k v ≡ Bad
 unfolding formed _and_ if_then_else_
 long key.the-variants.Other v h = refl
-long key.the-variants.Queue v h = rw (ne-eqb (length v) 5 (λ e. omega arith))
-long key.the-variants.Put v h = rw (ne-eqb (length v) 1 (λ e. omega arith))
+long key.the-variants.Queue v h = rw (le-leb 5 (length v) (omega arith), lt-leb (length v) 6 h)
+long key.the-variants.Put v h = rw (le-leb 1 (length v) (omega arith), lt-leb (length v) 4 (omega arith))
 long key.the-variants.Take v h = rw (ne-eqb (length v) 0 (λ e. omega arith))
 long key.the-variants.Steal v h = rw (ne-eqb (length v) 1 (λ e. omega arith))
 long key.the-variants.Step v h = rw (ne-eqb (length v) 2 (λ e. omega arith))
 long key.the-variants.End v h = rw (ne-eqb (length v) 0 (λ e. omega arith))
 
-too-many : (k : Key) (l : List ℕ) (x : Value) (vs : Values) → length l ≡ 5 → formedOf k (prefixed l (joined x vs)) ≡ Bad
+too-many : (k : Key) (l : List ℕ) (x : Value) (vs : Values) → length l ≡ 6 → formedOf k (prefixed l (joined x vs)) ≡ Bad
 unfolding formedOf prefixed joined
 too-many k l No vs e = refl
 too-many k l (Of x) wrong e = refl
@@ -81,7 +107,7 @@ read-on line at l x h r e = (
 pub read-fits : (line : List ℕ) (at : ℕ) → at < length line → end-of line at ≤ length line
 read-fits line at h = let k = first-fits (drop (at + 1) line) in omega (arith, rw lib.ListN.length-drop at k)
 
-pub read-many : (line : List ℕ) (at : ℕ) (l : List ℕ) → at < length line → Read line at l → length l ≡ 5 → commandOf line ≡ Bad
+pub read-many : (line : List ℕ) (at : ℕ) (l : List ℕ) → at < length line → Read line at l → length l ≡ 6 → commandOf line ≡ Bad
 unfolding commandOf
 read-many line at l h r e = rw (← open-word line at l h r) (too-many _ l _ _ e)
 

@@ -1,4 +1,4 @@
--- A line of more than 60 bytes is no command: a keyword has at most five bytes, and each of at most five numbers a space and at most ten digits.
+-- A line of more than 71 bytes is no command: a keyword has at most five bytes, and each of at most six numbers a space and at most ten digits.
 use Prim.Native.Nat.{ℕ, suc, _+_, _-_, _*_, _^_, _≤_, _<_}
 use native.Mathlib.Omega.{arith}
 use native.Mathlib.Nat.{pow-suc, pow-le-pow-right, mul-le-mul-right, le-trans, mul-assoc, mul-comm, le-of-eq}
@@ -18,7 +18,6 @@ use Rattle.text.specs.declared.Value.the-variants.{No, Of}
 use Rattle.text.specs.declared.Key as key
 use Rattle.text.specs.declared.Key.{Key}
 use Rattle.model.specs.declared.Command.the-variants.{Bad}
-use Rattle.model.specs.declared.Command.{Command}
 use Rattle.text.proofs.Lists.{if-true, if-false, and-left, and-right}
 use Rattle.text.proofs.Fields.{long}
 
@@ -124,16 +123,16 @@ key-long w h =
       differ w (101 ∷ 110 ∷ 100 ∷ []) (λ e. omega arith),
     )
 
-pub line-long : (line : List ℕ) → 60 < length line → commandOf line ≡ Bad
+pub line-long : (line : List ℕ) → 71 < length line → commandOf line ≡ Bad
 unfolding commandOf
 line-long line h = go (values (tail (words line))) refl
   where
-    wide : (v : List ℕ) → values (tail (words line)) ≡ these v → (t : Bool) → ltb 5 (length v) ≡ t → formed (keyOf (head (words line))) v ≡ Bad
-    wide v e true l = long _ v (ltb-true 5 (length v) l)
+    wide : (v : List ℕ) → values (tail (words line)) ≡ these v → (t : Bool) → ltb 6 (length v) ≡ t → formed (keyOf (head (words line))) v ≡ Bad
+    wide v e true l = long _ v (ltb-true 6 (length v) l)
     wide v e false l =
-        let q : length v ≤ 5 = ltb-false 5 (length v) l in
+        let q : length v ≤ 6 = ltb-false 6 (length v) l in
         rw (key-long (head (words line)) (omega (arith, size-words line, values-size (tail (words line)) v e))) (unfold formed in refl)
 
     go : (vs : Values) → values (tail (words line)) ≡ vs → formedOf (keyOf (head (words line))) vs ≡ Bad
     go wrong e = unfold formedOf in refl
-    go (these v) e = unfold formedOf in wide v e (ltb 5 (length v)) refl
+    go (these v) e = unfold formedOf in wide v e (ltb 6 (length v)) refl

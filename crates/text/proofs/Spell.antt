@@ -11,7 +11,6 @@ use lib.Dec.{ltb, leb}
 use borrow.Author.Tests.{lt-ltb, le-ltb, le-leb, ltb-true, ltb-false, ne-eqb}
 use Rattle.model.specs.Tests.{_and_, if_then_else_}
 use Rattle.text.specs.Numbers.{allDigits, plain, onward, valueOf, spelled, decimalOf, Placed, spacedOf, lineOf}
-use Rattle.text.specs.declared.Value.{Value}
 use Rattle.text.specs.declared.Value.the-variants.{Of}
 use Rattle.text.proofs.Lists.{if-true, if-false, sets-append, next}
 use Rattle.text.proofs.Digits.{plain-more}

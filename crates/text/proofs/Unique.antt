@@ -1,9 +1,10 @@
--- A line is read as a command only if it is the line that says it.
+-- A line is read as a command only if it is a line that says it.
 use Prim.Native.Nat.{ℕ, suc, _+_, _-_, _*_, _^_, _≤_, _<_}
 use native.Mathlib.Omega.{arith}
 use native.Mathlib.Nat.{pow-suc, pow-le-pow-right, mul-le-mul-right, le-trans, mul-assoc, mul-comm, le-of-eq, lt-of-lt-of-le}
 use mathlib.Core.Path.{_≡_, refl, ap, sym, subst, _∙_}
 use mathlib.Core.Bool.{Bool, true, false}
+use mathlib.Core.Logic.{_⊎_, inl, inr}
 use mathlib.Core.List.{List, [], _∷_, _++_}
 use lib.ListN.{length, getD}
 use lib.Dec.{T, leb, ltb, eqb}
@@ -12,15 +13,15 @@ use Rattle.model.specs.Tests.{_and_, if_then_else_}
 use Rattle.text.specs.Same.{same}
 use Rattle.text.specs.Numbers.{allDigits, plain, onward, valueOf, decimalOf, spacedOf}
 use Rattle.text.specs.Words.{onto, words, head, tail}
-use Rattle.text.specs.Commands.{Values, wrong, these, joined, values, formed, formedOf, keyOf, commandOf, textOf, Says}
+use Rattle.text.specs.Commands.{Values, wrong, these, joined, values, formed, formedOf, keyOf, commandOf, payloadOf, firstOf, Small, textOf, shortText, InRange, Says}
 use Rattle.text.specs.declared.Value.{Value}
 use Rattle.text.specs.declared.Value.the-variants.{No, Of}
 use Rattle.text.specs.declared.Key as key
 use Rattle.text.specs.declared.Key.{Key}
+use Rattle.model.specs.declared.Command.the-variants.{Open}
 use Rattle.text.proofs.Lists.{if-true, if-false, and-left, and-right, next, done}
 use Rattle.text.proofs.Split.{split}
 use Rattle.text.proofs.Long.{onward-pow}
-use Rattle.text.proofs.Round.{Small}
 use Rattle.text.proofs.Spell.{decimal-digits, decimal-plain, decimal-value}
 
 digit-low : (b : ℕ) (s : List ℕ) → allDigits (b ∷ s) ≡ true → 48 ≤ b
@@ -182,22 +183,65 @@ two : (v : List ℕ) → eqb (length v) 2 ≡ true → v ≡ getD v 0 0 ∷ getD
 two v e = let q : length v ≡ 2 = eqb-true _ _ e in
     next v 0 (omega arith) ∙ ap (λ (l : List ℕ). getD v 0 0 ∷ l) (next v 1 (omega arith) ∙ ap (λ (l : List ℕ). getD v 1 0 ∷ l) (done v 2 (omega arith)))
 
-five : (v : List ℕ) → eqb (length v) 5 ≡ true → v ≡ getD v 0 0 ∷ getD v 1 0 ∷ getD v 2 0 ∷ getD v 3 0 ∷ getD v 4 0 ∷ []
-five v e = let q : length v ≡ 5 = eqb-true _ _ e in
+short-queue : (v : List ℕ) → length v ≡ 5 → v ≡ getD v 0 0 ∷ getD v 1 0 ∷ getD v 2 0 ∷ getD v 3 0 ∷ getD v 4 0 ∷ []
+short-queue v q =
     next v 0 (omega arith) ∙ ap (λ (l : List ℕ). getD v 0 0 ∷ l) (next v 1 (omega arith) ∙ ap (λ (l : List ℕ). getD v 1 0 ∷ l)
     (next v 2 (omega arith) ∙ ap (λ (l : List ℕ). getD v 2 0 ∷ l) (next v 3 (omega arith) ∙ ap (λ (l : List ℕ). getD v 3 0 ∷ l)
     (next v 4 (omega arith) ∙ ap (λ (l : List ℕ). getD v 4 0 ∷ l) (done v 5 (omega arith))))))
+
+whole-queue : (v : List ℕ) → length v ≡ 6 → v ≡ getD v 0 0 ∷ getD v 1 0 ∷ getD v 2 0 ∷ getD v 3 0 ∷ getD v 4 0 ∷ getD v 5 1 ∷ []
+whole-queue (a ∷ b ∷ c ∷ d ∷ e ∷ f ∷ []) q = refl
+whole-queue [] q = absurd (let z : ⊥ = omega arith in z)
+whole-queue (a ∷ []) q = absurd (let z : ⊥ = omega arith in z)
+whole-queue (a ∷ b ∷ []) q = absurd (let z : ⊥ = omega arith in z)
+whole-queue (a ∷ b ∷ c ∷ []) q = absurd (let z : ⊥ = omega arith in z)
+whole-queue (a ∷ b ∷ c ∷ d ∷ []) q = absurd (let z : ⊥ = omega arith in z)
+whole-queue (a ∷ b ∷ c ∷ d ∷ e ∷ []) q = absurd (let z : ⊥ = omega arith in z)
+whole-queue (a ∷ b ∷ c ∷ d ∷ e ∷ f ∷ g ∷ v) q = absurd (let z : ⊥ = omega arith in z)
+
+-- the words of a `put` are the payload's
+put-words : (v : List ℕ) → length v ≤ 4 → firstOf (length v) (payloadOf v) ≡ v
+put-words [] h = refl
+put-words (a ∷ []) h = refl
+put-words (a ∷ b ∷ []) h = refl
+put-words (a ∷ b ∷ c ∷ []) h = refl
+put-words (a ∷ b ∷ c ∷ d ∷ []) h = refl
+put-words (a ∷ b ∷ c ∷ d ∷ e ∷ v) h = absurd (let z : ⊥ = omega arith in z)
+
+queue-range : (v : List ℕ) → 5 ≤ length v → length v ≤ 6 → Small v → getD v 4 0 ≤ 10235
+    → InRange (Open (getD v 0 0) (getD v 1 0) (getD v 2 0) (getD v 3 0) (getD v 4 0) (getD v 5 1))
+queue-range (a ∷ b ∷ c ∷ d ∷ e ∷ []) h g s r = (s .0, s .1 .0, s .1 .1 .0, s .1 .1 .1 .0, r, omega arith)
+queue-range (a ∷ b ∷ c ∷ d ∷ e ∷ f ∷ []) h g s r = (s .0, s .1 .0, s .1 .1 .0, s .1 .1 .1 .0, r, s .1 .1 .1 .1 .1 .0)
+queue-range [] h g s r = absurd (let z : ⊥ = omega arith in z)
+queue-range (a ∷ []) h g s r = absurd (let z : ⊥ = omega arith in z)
+queue-range (a ∷ b ∷ []) h g s r = absurd (let z : ⊥ = omega arith in z)
+queue-range (a ∷ b ∷ c ∷ []) h g s r = absurd (let z : ⊥ = omega arith in z)
+queue-range (a ∷ b ∷ c ∷ d ∷ []) h g s r = absurd (let z : ⊥ = omega arith in z)
+queue-range (a ∷ b ∷ c ∷ d ∷ e ∷ f ∷ g′ ∷ v) h g s r = absurd (let z : ⊥ = omega arith in z)
+
+queue-text : (v : List ℕ) → 5 ≤ length v → length v ≤ 6 → (y : Bool) → eqb (length v) 5 ≡ y
+    → (113 ∷ 117 ∷ 101 ∷ 117 ∷ 101 ∷ spacedOf v ≡ textOf (Open (getD v 0 0) (getD v 1 0) (getD v 2 0) (getD v 3 0) (getD v 4 0) (getD v 5 1)))
+    ⊎ ((getD v 5 1 ≡ 1) × (113 ∷ 117 ∷ 101 ∷ 117 ∷ 101 ∷ spacedOf v ≡ shortText (getD v 0 0) (getD v 1 0) (getD v 2 0) (getD v 3 0) (getD v 4 0)))
+unfolding textOf shortText
+queue-text v h g true e =
+    let f = short-queue v (eqb-true _ _ e) in
+    inr (ap (λ (l : List ℕ). getD l 5 1) f, ap (λ (l : List ℕ). 113 ∷ 117 ∷ 101 ∷ 117 ∷ 101 ∷ spacedOf l) f)
+queue-text v h g false e =
+    let d : length v ≡ 5 → ⊥ = eqb-false _ _ e in
+    inl (ap (λ (l : List ℕ). 113 ∷ 117 ∷ 101 ∷ 117 ∷ 101 ∷ spacedOf l) (whole-queue v (omega (arith, h, g, d))))
 
 says : (h v : List ℕ) (k : Key) → Named h k → Small v → Says (h ++ spacedOf v) (formed k v)
 unfolding formed textOf
 says h v key.the-variants.Other n s = tt
 says h v key.the-variants.Queue n s = pick (Says (h ++ spacedOf v)) _ _ _ (λ e.
-    let f = five v (and-left _ _ e) in
-    let t : Small (getD v 0 0 ∷ getD v 1 0 ∷ getD v 2 0 ∷ getD v 3 0 ∷ getD v 4 0 ∷ []) = subst Small f s in
-    (ap (λ (l : List ℕ). l ++ spacedOf v) n ∙ ap (λ (l : List ℕ). 113 ∷ 117 ∷ 101 ∷ 117 ∷ 101 ∷ spacedOf l) f, (t .0, t .1 .0, t .1 .1 .0, t .1 .1 .1 .0, leb-true _ _ (and-right (eqb (length v) 5) _ e)))) tt
+    let low = leb-true 5 (length v) (and-left _ _ e) in
+    let high = leb-true (length v) 6 (and-left _ _ (and-right (leb 5 (length v)) _ e)) in
+    let store = leb-true (getD v 4 0) 10235 (and-right (leb (length v) 6) _ (and-right (leb 5 (length v)) _ e)) in
+    (subst (λ (l : List ℕ). (l ++ spacedOf v ≡ textOf (Open (getD v 0 0) (getD v 1 0) (getD v 2 0) (getD v 3 0) (getD v 4 0) (getD v 5 1))) ⊎ ((getD v 5 1 ≡ 1) × (l ++ spacedOf v ≡ shortText (getD v 0 0) (getD v 1 0) (getD v 2 0) (getD v 3 0) (getD v 4 0)))) (sym n) (queue-text v low high (eqb (length v) 5) refl), queue-range v low high s store)) tt
 says h v key.the-variants.Put n s = pick (Says (h ++ spacedOf v)) _ _ _ (λ e.
-    let f = one v e in let t : Small (getD v 0 0 ∷ []) = subst Small f s in
-    (ap (λ (l : List ℕ). l ++ spacedOf v) n ∙ ap (λ (l : List ℕ). 112 ∷ 117 ∷ 116 ∷ spacedOf l) f, t .0)) tt
+    let high = leb-true (length v) 4 (and-right (leb 1 (length v)) _ e) in
+    let f = sym (put-words v high) in
+    (ap (λ (l : List ℕ). l ++ spacedOf v) n ∙ ap (λ (l : List ℕ). 112 ∷ 117 ∷ 116 ∷ spacedOf l) f, (leb-true 1 (length v) (and-left _ _ e), high, ap payloadOf f, subst Small f s))) tt
 says h v key.the-variants.Take n s = pick (Says (h ++ spacedOf v)) _ _ _ (λ e.
     (ap (λ (l : List ℕ). l ++ spacedOf v) n ∙ ap (λ (l : List ℕ). 116 ∷ 97 ∷ 107 ∷ 101 ∷ spacedOf l) (none v e) ∙ unfold spacedOf in refl, tt)) tt
 says h v key.the-variants.Steal n s = pick (Says (h ++ spacedOf v)) _ _ _ (λ e.
@@ -209,7 +253,8 @@ says h v key.the-variants.Step n s = pick (Says (h ++ spacedOf v)) _ _ _ (λ e.
 says h v key.the-variants.End n s = pick (Says (h ++ spacedOf v)) _ _ _ (λ e.
     (ap (λ (l : List ℕ). l ++ spacedOf v) n ∙ ap (λ (l : List ℕ). 101 ∷ 110 ∷ 100 ∷ spacedOf l) (none v e) ∙ unfold spacedOf in refl, tt)) tt
 
--- What a line is read as, if it is not bad, is a command that the line says. With `read-text`: a line is read as a command just if it says it.
+-- What a line is read as, if it is not bad, is a command that the line says. With `read-text` and `read-short`: a line is read as
+-- a command just if it says it.
 pub read-is : (line : List ℕ) → Says line (commandOf line)
 unfolding commandOf formedOf
 read-is line = go (values (tail (words line))) refl

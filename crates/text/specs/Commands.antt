@@ -1,11 +1,14 @@
 -- What a line of input says.
 use mathlib.Core.Path.{_≡_}
+use mathlib.Core.Logic.{_⊎_}
 use Prim.Native.Nat.{ℕ, _≤_}
 use mathlib.Core.List.{List, [], _∷_, _++_}
-use lib.ListN.{length, getD}
+use lib.ListN.{length, getD, take}
 use Rattle.text.specs.Quoted.{bytes}
 use lib.Dec.{leb, eqb}
+use Rattle.model.specs.declared.Payload.{Payload}
 use Rattle.model.specs.Tests.{_and_, if_then_else_}
+use Rattle.model.specs.Tasks.{payload}
 use Rattle.text.specs.Same.{same}
 use Rattle.text.specs.Numbers.{valueOf, spacedOf}
 use Rattle.text.specs.Words.{words, head, tail}
@@ -40,14 +43,24 @@ unfoldable pub values : List (List ℕ) → Values
 values [] = these []
 values (w ∷ ws) = joined (valueOf w) (values ws)
 
--- the keyword with as many numbers as it takes, those with a range within it
+-- the payload of these words, and the first n words of a payload
+abbrev pub payloadOf : List ℕ → Payload
+payloadOf v = payload (getD v 0 0) (getD v 1 0) (getD v 2 0) (getD v 3 0)
+
+abbrev pub firstOf : ℕ → Payload → List ℕ
+firstOf n p = take n (p .first ∷ p .second ∷ p .third ∷ p .fourth ∷ [])
+
+-- the keyword with as many numbers as it takes, those with a range within it; the sixth of `queue` is 1 if it is not there
 unfoldable pub formed : Key → List ℕ → Command
 formed key.the-variants.Other v = Bad
 formed key.the-variants.Queue v =
-    if eqb (length v) 5 and leb (getD v 4 0) 4094
-    then Open (getD v 0 0) (getD v 1 0) (getD v 2 0) (getD v 3 0) (getD v 4 0)
+    if leb 5 (length v) and leb (length v) 6 and leb (getD v 4 0) 10235
+    then Open (getD v 0 0) (getD v 1 0) (getD v 2 0) (getD v 3 0) (getD v 4 0) (getD v 5 1)
     else Bad
-formed key.the-variants.Put v = if eqb (length v) 1 then BeginPut (getD v 0 0) else Bad
+formed key.the-variants.Put v =
+    if leb 1 (length v) and leb (length v) 4
+    then BeginPut (length v) (payloadOf v)
+    else Bad
 formed key.the-variants.Take v = if eqb (length v) 0 then BeginTake else Bad
 formed key.the-variants.Steal v = if eqb (length v) 1 then BeginSteal (getD v 0 0) else Bad
 formed key.the-variants.Step v =
@@ -63,21 +76,31 @@ formedOf k (these v) = formed k v
 unfoldable pub commandOf : List ℕ → Command
 commandOf line = formedOf (keyOf (head (words line))) (values (tail (words line)))
 
+-- each fits 32 bits
+abbrev pub Small : List ℕ → Type 0
+Small [] = Unit {0}
+Small (n ∷ ns) = (n ≤ 4294967295) × Small ns
+
 -- the line that says it
 unfoldable pub textOf : Command → List ℕ
 textOf Bad = []
-textOf (Open k w c n s) = bytes "queue" ++ spacedOf (k ∷ w ∷ c ∷ n ∷ s ∷ [])
-textOf (BeginPut p) = bytes "put" ++ spacedOf (p ∷ [])
+textOf (Open k w c n s v) = bytes "queue" ++ spacedOf (k ∷ w ∷ c ∷ n ∷ s ∷ v ∷ [])
+textOf (BeginPut v p) = bytes "put" ++ spacedOf (firstOf v p)
 textOf BeginTake = bytes "take"
 textOf (BeginSteal i) = bytes "steal" ++ spacedOf (i ∷ [])
 textOf (Steps i m) = bytes "step" ++ spacedOf (i ∷ m ∷ [])
 textOf End = bytes "end"
 
--- its values are within their ranges
+-- `queue` with one payload word, which need not be said
+unfoldable pub shortText : ℕ → ℕ → ℕ → ℕ → ℕ → List ℕ
+shortText k w c n s = bytes "queue" ++ spacedOf (k ∷ w ∷ c ∷ n ∷ s ∷ [])
+
+-- its values are within their ranges, and the words that a payload has not are 0
 abbrev pub InRange : Command → Type 0
 InRange Bad = Unit {0}
-InRange (Open k w c n s) = (k ≤ 4294967295) × (w ≤ 4294967295) × (c ≤ 4294967295) × (n ≤ 4294967295) × (s ≤ 4094)
-InRange (BeginPut p) = p ≤ 4294967295
+InRange (Open k w c n s v) =
+    (k ≤ 4294967295) × (w ≤ 4294967295) × (c ≤ 4294967295) × (n ≤ 4294967295) × (s ≤ 10235) × (v ≤ 4294967295)
+InRange (BeginPut v p) = (1 ≤ v) × (v ≤ 4) × (p ≡ payloadOf (firstOf v p)) × Small (firstOf v p)
 InRange BeginTake = Unit {0}
 InRange (BeginSteal i) = i ≤ 4294967295
 InRange (Steps i m) = (i ≤ 4294967295) × (m ≤ 65535)
@@ -86,8 +109,9 @@ InRange End = Unit {0}
 -- the line l says the command; nothing is said of a bad line
 abbrev pub Says : List ℕ → Command → Type 0
 Says l Bad = Unit {0}
-Says l (Open k w c n s) = (l ≡ textOf (Open k w c n s)) × InRange (Open k w c n s)
-Says l (BeginPut p) = (l ≡ textOf (BeginPut p)) × InRange (BeginPut p)
+Says l (Open k w c n s v) =
+    ((l ≡ textOf (Open k w c n s v)) ⊎ ((v ≡ 1) × (l ≡ shortText k w c n s))) × InRange (Open k w c n s v)
+Says l (BeginPut v p) = (l ≡ textOf (BeginPut v p)) × InRange (BeginPut v p)
 Says l BeginTake = (l ≡ textOf BeginTake) × InRange BeginTake
 Says l (BeginSteal i) = (l ≡ textOf (BeginSteal i)) × InRange (BeginSteal i)
 Says l (Steps i m) = (l ≡ textOf (Steps i m)) × InRange (Steps i m)

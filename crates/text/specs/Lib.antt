@@ -3,3 +3,4 @@ pub mod Same
 pub mod Numbers
 pub mod Words
 pub mod Commands
+pub mod Outs

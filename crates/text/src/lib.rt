@@ -2,13 +2,16 @@
 // Uses `model`. It is used by `replies`, `listing` and `call_text`.
 ghost use mathlib.Core.Path.{_≡_};
 ghost use Prim.Native.Nat.{_+_, _≤_, _<_};
-ghost use lib.ListN.{length, take, drop};
+ghost use lib.ListN.{length, getD, take, drop};
 ghost use Rattle.text.specs.Numbers.{Placed};
 ghost use Rattle.text.specs.Same.{same as sameOf};
 ghost use Rattle.text.specs.Numbers.{plain as plainOf, valueOf, decimalOf, lineOf};
+ghost use Rattle.text.specs.Outs.{outValues};
 ghost use Rattle.text.specs.Words.{words, head};
 ghost use Rattle.text.specs.Commands.{keyOf, formed, commandOf};
 use model::Command;
+use model::Payload;
+use model::Task;
 
 // The number that a word is, if it is one.
 pub enum Value {
@@ -125,34 +128,59 @@ pub fn keyword(word: &[u8]) -> Key
     Key::Other
 }
 
+// The k-th of the first n of the values v; `other` where there is none.
+fn value_at(v: [u32; 6], n: usize, k: usize, other: u32) -> u32
+    requires { ⌜ (k < 6) × (n ≤ 6) ⌝ }
+    ensures { λ r. ⌜ r ≡ getD (take n v) k other ⌝ }
+{
+    if k < n {
+        return v[k];
+    }
+    other
+}
+
 // The keyword with the first n of the values v.
-fn form(key: Key, n: usize, v: [u32; 5]) -> Command
-    requires { ⌜ n ≤ 5 ⌝ }
+fn form(key: Key, n: usize, v: [u32; 6]) -> Command
+    requires { ⌜ n ≤ 6 ⌝ }
     ensures { λ r. ⌜ r ≡ formed key (take n v) ⌝ }
 {
     match key {
         Key::Other => Command::Bad,
         Key::Queue => {
-            if n != 5 {
+            if n < 5 {
                 return Command::Bad;
             }
-            let words = v[4];
-            if 4094 < words {
+            let store = v[4];
+            if 10235 < store {
                 return Command::Bad;
             }
+            let words = value_at(v, n, 5, 1);
             Command::Open {
                 kind: v[0],
                 width: v[1],
                 size: v[2],
                 workers: v[3],
+                store,
                 words,
             }
         }
         Key::Put => {
-            if n != 1 {
+            if n < 1 {
                 return Command::Bad;
             }
-            Command::BeginPut { payload: v[0] }
+            if 4 < n {
+                return Command::Bad;
+            }
+            let payload = Payload {
+                first: value_at(v, n, 0, 0),
+                second: value_at(v, n, 1, 0),
+                third: value_at(v, n, 2, 0),
+                fourth: value_at(v, n, 3, 0),
+            };
+            Command::BeginPut {
+                words: n as u32,
+                payload,
+            }
         }
         Key::Take => {
             if n != 0 {
@@ -194,10 +222,10 @@ pub fn parse(line: &[u8]) -> Command
 {
     let mut at = word_end(line, 0);
     let key = keyword(&line[..at]);
-    let mut v = [0u32; 5];
+    let mut v = [0u32; 6];
     let mut n = 0;
     while at < line.len() {
-        if n == 5 {
+        if n == 6 {
             return Command::Bad;
         }
         let from = at + 1;
@@ -249,4 +277,18 @@ pub fn print(out: &mut [u8], at: usize, letter: u8, values: &[u32]) -> usize
     }
     out[end] = 10;
     end + 1
+}
+
+// Puts the line of a hand-out: the worker, the put number, and the payload's words, of which there are `words`.
+pub fn print_out(out: &mut [u8], at: usize, words: u32, worker: u32, task: Task) -> usize
+    requires { ⌜ at + length (lineOf 72 (outValues words worker task)) ≤ length (now out) ⌝ }
+    ensures { λ r. ⌜ Placed (now (out .entry)) at (lineOf 72 (outValues words worker task)) r (now (out .exit)) ⌝ }
+{
+    let p = task.payload;
+    let v = [worker, task.number, p.first, p.second, p.third, p.fourth];
+    if words < 4 {
+        let n = 2 + words as usize;
+        return print(out, at, b'H', &v[..n]);
+    }
+    print(out, at, b'H', &v)
 }

@@ -12,96 +12,109 @@ use lib.Seq.{getD-set-other, getD-set-same, getD-append-add, length-take-le, set
 use borrow.Author.Tests.{eq-eqb, le-leb}
 use Rattle.model.specs.declared.Region.{Region}
 use Rattle.model.specs.declared.Queue.{Queue}
+use Rattle.model.specs.declared.Anchor.{Anchor}
 use Rattle.model.specs.Tests.{_and_, _or_}
 use Rattle.model.proofs.Tests.{and-both}
-use Rattle.model.specs.Memory.{wordAt, setWord, zeros, nowhere, offsetAt, sizeAt}
-use Rattle.model.specs.Lines.{off, size, claiming, publishing}
-use Rattle.model.specs.Limits.{isSize, lengthAt, tidy, taken}
-use Rattle.model.proofs.Directory.{Size, Next, tidy-last, tidy-front, tidy-next, tidy-start, tidy-size}
+use Rattle.model.specs.Memory.{wordAt, setWord, zeros, nowhere, offsetAt, lengthAt, sizeAt}
+use Rattle.model.specs.Lines.{off, len, size, anchored, claiming, publishing}
+use Rattle.model.specs.Limits.{isSize, tidy, taken}
+use Rattle.model.proofs.Directory.{Size, tidy-last, tidy-front, tidy-start, tidy-long, tidy-twice, tidy-size}
 use Rattle.theorems.proofs.Remainders.{le-or-lt}
-use Rattle.theorems.proofs.Words.{zeros-low, zeros-length, set-place, set-here}
+use Rattle.theorems.proofs.Words.{earlier-slot, first-apart, zeros-low, zeros-length, set-place, set-here}
 
 pub both : (a b : Bool) → a and b ≡ true → (a ≡ true) × (b ≡ true)
 unfolding _and_
 both true b q = (refl, q)
 both false b q = absurd (let z : _≡_ {A = ℕ} 0 1 = cc in omega arith)
 
--- an array's offset is even, and its size a power of two
-abbrev pub Proper : List Region → ℕ → Type 0
-Proper l k = Size (sizeAt l k) × ((e : ℕ) × (offsetAt l k ≡ 2 * e))
+-- an array's offset is that of a whole task, and its size a power of two
+abbrev pub Proper : ℕ → List Region → ℕ → Type 0
+Proper ω l k = Size (sizeAt ω l k) × ((e : ℕ) × (offsetAt l k ≡ (ω + 1) * e))
 
-even-at : (l : List Region) (k : ℕ) → tidy l (suc k) ≡ true → (e : ℕ) × (offsetAt l k ≡ 2 * e)
-even-at l zero t = (0, tidy-start l t .0)
-even-at l (suc k) t = let (e, q) = even-at l k (tidy-front l (suc (suc k)) k t (omega arith)) in (e + sizeAt l k, omega (arith, tidy-last l k t .place, q))
+whole-at : (ω : ℕ) (l : List Region) (k : ℕ) → tidy ω l (suc k) ≡ true → (e : ℕ) × (offsetAt l k ≡ (ω + 1) * e)
+whole-at ω l zero t = (0, omega (arith, tidy-start ω l t .0))
+whole-at ω l (suc k) t =
+    let u = tidy-front ω l (suc (suc k)) k t (omega arith) in
+    let (e, q) = whole-at ω l k u in
+    (e + sizeAt ω l k, omega (arith, tidy-last ω l k t .place, tidy-long ω l k u, q))
 
-pub tidy-proper : (l : List Region) (n k : ℕ) → tidy l n ≡ true → k < n → Proper l k
-tidy-proper l n k t h = let u = tidy-front l n k t h in (tidy-size l k u, even-at l k u)
+pub tidy-proper : (ω : ℕ) (l : List Region) (n k : ℕ) → tidy ω l n ≡ true → k < n → Proper ω l k
+tidy-proper ω l n k t h = let u = tidy-front ω l n k t h in (tidy-size ω l k u, whole-at ω l k u)
 
 -- an earlier array ends no later, and is no larger
-abbrev pub Below : List Region → ℕ → ℕ → Type 0
-Below l j k = (offsetAt l k + 2 * sizeAt l k ≤ offsetAt l j + 2 * sizeAt l j) × (sizeAt l k ≤ sizeAt l j)
+abbrev pub Below : ℕ → List Region → ℕ → ℕ → Type 0
+Below ω l j k = (offsetAt l k + lengthAt l k ≤ offsetAt l j + lengthAt l j) × (sizeAt ω l k ≤ sizeAt ω l j)
 
-pub tidy-below : (l : List Region) (n k j : ℕ) → tidy l n ≡ true → k ≤ j → j < n → Below l j k
-tidy-below l n k zero q h g = subst (Below l 0) {x = 0} {y = k} (omega arith) (omega arith)
-tidy-below l n k (suc j) q h g = go (le-or-lt (suc j) k) (λ a. tidy-below l n k j q (omega arith) (omega arith))
+pub tidy-below : (ω : ℕ) (l : List Region) (n k j : ℕ) → tidy ω l n ≡ true → k ≤ j → j < n → Below ω l j k
+tidy-below ω l n k zero q h g = subst (Below ω l 0) {x = 0} {y = k} (omega arith) (omega arith)
+tidy-below ω l n k (suc j) q h g = go (le-or-lt (suc j) k) (λ a. tidy-below ω l n k j q (omega arith) (omega arith))
   where
-    N : Next l j
-    N = tidy-next l n j q g
+    t : tidy ω l (suc (suc j)) ≡ true
+    t = tidy-front ω l n (suc j) q g
 
-    go : (suc j ≤ k) ⊎ (k < suc j) → (k < suc j → Below l j k) → Below l (suc j) k
-    go (inl a) f = subst (Below l (suc j)) {x = suc j} {y = k} (omega arith) (omega arith)
-    go (inr a) f = let r = f a in (omega (arith, N .place, r .0), omega (arith, N .twice, r .1))
+    go : (suc j ≤ k) ⊎ (k < suc j) → (k < suc j → Below ω l j k) → Below ω l (suc j) k
+    go (inl a) f = subst (Below ω l (suc j)) {x = suc j} {y = k} (omega arith) (omega arith)
+    go (inr a) f = let r = f a in (omega (arith, tidy-last ω l j t .place, r .0), omega (arith, tidy-twice ω l j t, r .1))
 
-abbrev last : Region → Region → Bool
-last r s = eqb (s .offset) (r .offset + 2 * (r .length / 2)) and (eqb (s .length) (2 * (2 * (r .length / 2))) and leb (2 * (r .length / 2)) 1024)
+abbrev last : ℕ → Region → Region → Bool
+last ω r s = eqb (s .offset) (r .offset + r .length) and (eqb (s .length) (2 * r .length) and leb (2 * (r .length / (ω + 1))) 1024)
 
 -- the test looks at the first n entries alone
-tidy-ext : (l l′ : List Region) (n : ℕ) → ((k : ℕ) → k < n → getD l′ k nowhere ≡ getD l k nowhere) → tidy l′ n ≡ tidy l n
-unfolding offsetAt sizeAt
-tidy-ext l l′ zero f = refl
-tidy-ext l l′ (suc zero) f =
-    ap (λ (r : Region). eqb (r .offset) 0 and (eqb (r .length) (2 * (r .length / 2)) and isSize 10 (r .length / 2))) (f 0 (omega arith))
-tidy-ext l l′ (suc (suc m)) f =
-    ap (λ (x : Bool). x and last (getD l′ m nowhere) (getD l′ (suc m) nowhere)) (tidy-ext l l′ (suc m) (λ k h. f k (omega arith)))
-    ∙ ap (λ (r : Region). tidy l (suc m) and last r (getD l′ (suc m) nowhere)) (f m (omega arith))
-    ∙ ap (λ (r : Region). tidy l (suc m) and last (getD l m nowhere) r) (f (suc m) (omega arith))
+tidy-ext : (ω : ℕ) (l l′ : List Region) (n : ℕ) → ((k : ℕ) → k < n → getD l′ k nowhere ≡ getD l k nowhere) → tidy ω l′ n ≡ tidy ω l n
+unfolding offsetAt lengthAt sizeAt
+tidy-ext ω l l′ zero f = refl
+tidy-ext ω l l′ (suc zero) f =
+    ap (λ (r : Region). eqb (r .offset) 0 and (eqb (r .length) ((ω + 1) * (r .length / (ω + 1))) and isSize 10 (r .length / (ω + 1)))) (f 0 (omega arith))
+tidy-ext ω l l′ (suc (suc m)) f =
+    ap (λ (x : Bool). x and last ω (getD l′ m nowhere) (getD l′ (suc m) nowhere)) (tidy-ext ω l l′ (suc m) (λ k h. f k (omega arith)))
+    ∙ ap (λ (r : Region). tidy ω l (suc m) and last ω r (getD l′ (suc m) nowhere)) (f m (omega arith))
+    ∙ ap (λ (r : Region). tidy ω l (suc m) and last ω (getD l m nowhere) r) (f (suc m) (omega arith))
 
 -- the number words of the first t words of the store
-abbrev pub Numbers : List ℕ → ℕ → Type 0
-Numbers m t = (a : ℕ) → 2 * a < t → getD m (2 * a) 0 ≤ 65535
+abbrev pub Numbers : ℕ → List ℕ → ℕ → Type 0
+Numbers ω m t = (a : ℕ) → (ω + 1) * a < t → getD m ((ω + 1) * a) 0 ≤ 65535
 
-pub record Arrays (q : Queue) (m : List ℕ) : Type 0 where
+pub record Arrays (ω : ℕ) (q : Queue) (m : List ℕ) : Type 0 where
   pub some : 0 < q .published
   pub below : q .published ≤ q .claimed
   pub few : q .claimed ≤ 11
   pub slots : length (q .arrays) ≡ 11
-  pub tidied : tidy (q .arrays) (q .claimed) ≡ true
-  pub power : 2 ^ (q .published - 1) ≤ size q
+  pub tidied : tidy ω (q .arrays) (q .claimed) ≡ true
+  pub kept : q .initial ≡ sizeAt ω (q .arrays) 0
+  pub power : 2 ^ (q .published - 1) ≤ size ω q
   pub room : taken q ≤ length m
-  pub numbers : Numbers m (taken q)
+  pub numbers : Numbers ω m (taken q)
 
-module _ {q : Queue} {m : List ℕ} (A : Arrays q m) where
-  pub now : Proper (q .arrays) (q .published - 1)
-  now = tidy-proper (q .arrays) (q .claimed) (q .published - 1) (A .tidied) (omega (arith, A .some, A .below))
+module _ {ω : ℕ} {q : Queue} {m : List ℕ} (A : Arrays ω q m) where
+  tidied-to : (k : ℕ) → k < q .published → tidy ω (q .arrays) (suc k) ≡ true
+  tidied-to k h = tidy-front ω (q .arrays) (q .claimed) k (A .tidied) (omega (arith, A .below))
+
+  pub now : Proper ω (q .arrays) (q .published - 1)
+  now = tidy-proper ω (q .arrays) (q .claimed) (q .published - 1) (A .tidied) (omega (arith, A .some, A .below))
+
+  pub long : len q ≡ (ω + 1) * size ω q
+  long = tidy-long ω (q .arrays) (q .published - 1) (tidied-to (q .published - 1) (omega (arith, A .some)))
 
   -- a published array's end
-  pub end : (k : ℕ) → k < q .published → offsetAt (q .arrays) k + 2 * sizeAt (q .arrays) k ≤ taken q
-  end k h = tidy-below (q .arrays) (q .claimed) k (q .claimed - 1) (A .tidied) (omega (arith, A .below)) (omega (arith, A .below)) .0
+  pub end : (k : ℕ) → k < q .published → offsetAt (q .arrays) k + lengthAt (q .arrays) k ≤ taken q
+  end k h = tidy-below ω (q .arrays) (q .claimed) k (q .claimed - 1) (A .tidied) (omega (arith, A .below)) (omega (arith, A .below)) .0
 
-  pub larger : (k : ℕ) → k < q .published → sizeAt (q .arrays) k ≤ size q
-  larger k h = tidy-below (q .arrays) (q .claimed) k (q .published - 1) (A .tidied) (omega arith) (omega (arith, A .below, A .some)) .1
+  pub larger : (k : ℕ) → k < q .published → sizeAt ω (q .arrays) k ≤ size ω q
+  larger k h = tidy-below ω (q .arrays) (q .claimed) k (q .published - 1) (A .tidied) (omega arith) (omega (arith, A .below, A .some)) .1
 
   -- a number that is read
-  pub number : (k t : ℕ) → k < q .published → t < sizeAt (q .arrays) k → wordAt m (offsetAt (q .arrays) k) t 0 ≤ 65535
+  pub number : (k t : ℕ) → k < q .published → t < sizeAt ω (q .arrays) k → wordAt m ω (offsetAt (q .arrays) k) t 0 ≤ 65535
   unfolding wordAt
   number k t h l =
-      let P = tidy-proper (q .arrays) (q .claimed) k (A .tidied) (omega (arith, A .below)) in
-      subst (λ (x : ℕ). getD m x 0 ≤ 65535) {x = 2 * (P .1 .0 + t)} {y = offsetAt (q .arrays) k + 2 * t + 0} (omega (arith, P .1 .1)) (A .numbers (P .1 .0 + t) (omega (arith, P .1 .1, end k h)))
+      let P = tidy-proper ω (q .arrays) (q .claimed) k (A .tidied) (omega (arith, A .below)) in
+      subst (λ (x : ℕ). getD m x 0 ≤ 65535) {x = (ω + 1) * (P .1 .0 + t)} {y = offsetAt (q .arrays) k + (ω + 1) * t + 0} (omega (arith, P .1 .1))
+      (A .numbers (P .1 .0 + t)
+      (omega (arith, P .1 .1, end k h, tidy-long ω (q .arrays) k (tidied-to k h), earlier-slot (ω + 1) t (sizeAt ω (q .arrays) k) 0 l (omega arith))))
 
-  pub number-now : (t : ℕ) → t < size q → wordAt m (off q) t 0 ≤ 65535
+  pub number-now : (t : ℕ) → t < size ω q → wordAt m ω (off q) t 0 ≤ 65535
   number-now t l = number (q .published - 1) t (omega (arith, A .some)) l
 
-  pub roomy : 2 * size q ≤ 1024 → q .published < 11
+  pub roomy : 2 * size ω q ≤ 1024 → q .published < 11
   roomy h = go (le-or-lt 10 (q .published - 1))
     where
       go : (10 ≤ q .published - 1) ⊎ (q .published - 1 < 10) → q .published < 11
@@ -124,13 +137,12 @@ set-word m a i x hx ha = go (le-or-lt a i) (le-or-lt i a) (le-or-lt (length m) i
         is : a ≡ i
         is = omega arith
 
-pub numbers-number : (m : List ℕ) (t b s x : ℕ) → x ≤ 65535 → Numbers m t → Numbers (setWord m b s 0 x) t
+-- word j of a task, at an array's offset
+pub numbers-word : (ω : ℕ) (m : List ℕ) (t b s j x e : ℕ) → b ≡ (ω + 1) * e → j < ω + 1 → (j ≡ 0 → x ≤ 65535) → Numbers ω m t → Numbers ω (setWord m ω b s j x) t
 unfolding setWord
-numbers-number m t b s x hx N a h = set-word m (2 * a) (b + 2 * s + 0) x hx (N a h)
-
-pub numbers-payload : (m : List ℕ) (t b s x e : ℕ) → b ≡ 2 * e → Numbers m t → Numbers (setWord m b s 1 x) t
-unfolding setWord
-numbers-payload m t b s x e q N a h = rw (getD-set-other m (b + 2 * s + 1) (2 * a) x 0 (omega arith)) (N a h)
+numbers-word ω m t b s zero x e q hj hx N a h = set-word m ((ω + 1) * a) _ x (hx refl) (N a h)
+numbers-word ω m t b s (suc j) x e q hj hx N a h =
+    rw (getD-set-other m (b + (ω + 1) * s + suc j) ((ω + 1) * a) x 0 (omega (arith, q, first-apart (ω + 1) a (e + s) (suc j) (omega arith) hj))) (N a h)
 
 zeros-new : (m : List ℕ) (a n i : ℕ) → a ≤ i → i < a + n → a ≤ length m → getD (zeros m a n) i 0 ≡ 0
 unfolding zeros
@@ -142,107 +154,116 @@ zeros-new m a n i l h g =
     here : length (take a m) + (i - a) ≡ i
     here = omega (arith, length-take-le a m g)
 
-pub numbers-zeros : (m : List ℕ) (t n : ℕ) → t ≤ length m → Numbers m t → Numbers (zeros m t n) (t + n)
-numbers-zeros m t n g N a h = go (le-or-lt t (2 * a))
+pub numbers-zeros : (ω : ℕ) (m : List ℕ) (t n : ℕ) → t ≤ length m → Numbers ω m t → Numbers ω (zeros m t n) (t + n)
+numbers-zeros ω m t n g N a h = go (le-or-lt t ((ω + 1) * a))
   where
-    go : (t ≤ 2 * a) ⊎ (2 * a < t) → getD (zeros m t n) (2 * a) 0 ≤ 65535
-    go (inl l) = rw (zeros-new m t n (2 * a) l h g) (omega arith)
-    go (inr l) = rw (zeros-low m t n (2 * a) l g) (N a l)
+    go : (t ≤ (ω + 1) * a) ⊎ ((ω + 1) * a < t) → getD (zeros m t n) ((ω + 1) * a) 0 ≤ 65535
+    go (inl l) = rw (zeros-new m t n ((ω + 1) * a) l h g) (omega arith)
+    go (inr l) = rw (zeros-low m t n ((ω + 1) * a) l g) (N a l)
 
--- another store of the same length
-pub arrays-store : {q : Queue} {m : List ℕ} (m′ : List ℕ) → Arrays q m → length m′ ≡ length m → Numbers m′ (taken q) → Arrays q m′
-arrays-store {q} {m} m′ A e N =
+-- another anchor
+pub arrays-anchor : {ω : ℕ} {q : Queue} {m : List ℕ} (a : Anchor) → Arrays ω q m → Arrays ω (anchored q a) m
+arrays-anchor a A =
     record {
       some = A .some;
       below = A .below;
       few = A .few;
       slots = A .slots;
       tidied = A .tidied;
+      kept = A .kept;
+      power = A .power;
+      room = A .room;
+      numbers = A .numbers;
+    }
+
+-- another store of the same length
+pub arrays-store : {ω : ℕ} {q : Queue} {m : List ℕ} (m′ : List ℕ) → Arrays ω q m → length m′ ≡ length m → Numbers ω m′ (taken q) → Arrays ω q m′
+arrays-store {ω} {q} {m} m′ A e N =
+    record {
+      some = A .some;
+      below = A .below;
+      few = A .few;
+      slots = A .slots;
+      tidied = A .tidied;
+      kept = A .kept;
       power = A .power;
       room = omega (arith, A .room);
       numbers = N;
     }
 
-suc-pred : (n : ℕ) → 0 < n → suc (n - 1) ≡ n
-suc-pred n h = omega arith
-
 -- X1
-pub arrays-claim : {q : Queue} {m : List ℕ} → Arrays q m → q .claimed ≡ q .published → 2 * size q ≤ 1024 → off q + 2 * size q + 2 * (2 * size q) ≤ length m
-    → Arrays (claiming q) (zeros m (off q + 2 * size q) (2 * (2 * size q)))
-arrays-claim {q} {m} A e small room =
+pub arrays-claim : {ω : ℕ} {q : Queue} {m : List ℕ} → Arrays ω q m → q .claimed ≡ q .published → 2 * size ω q ≤ 1024 → off q + len q + 2 * len q ≤ length m
+    → Arrays ω (claiming q) (zeros m (off q + len q) (2 * len q))
+arrays-claim {ω} {q} {m} A e small room =
     record {
       some = A .some;
       below = omega arith;
       few = omega (arith, n11);
       slots = length-set (q .arrays) (q .published) _ ∙ A .slots;
       tidied = tidied′;
-      power = rw (last .1) (A .power);
-      room = subst (λ (x : ℕ). x ≤ length (zeros m (off q + 2 * size q) (2 * (2 * size q)))) (sym top) (omega (arith, zeros-length m (off q + 2 * size q) (2 * (2 * size q)) room));
-      numbers = subst (Numbers (zeros m (off q + 2 * size q) (2 * (2 * size q)))) (sym top) (numbers-zeros m (off q + 2 * size q) (2 * (2 * size q)) (omega (arith, room)) (subst (Numbers m) (ap (λ (x : ℕ). offsetAt (q .arrays) (x - 1) + 2 * sizeAt (q .arrays) (x - 1)) e) (A .numbers)));
+      kept = A .kept ∙ sym (set-place ω (q .arrays) (q .published) 0 (off q + len q) (2 * len q) (omega (arith, A .some)) .2);
+      power = rw (last .2) (A .power);
+      room = subst (λ (x : ℕ). x ≤ length (zeros m (off q + len q) (2 * len q))) (sym top) (omega (arith, zeros-length m (off q + len q) (2 * len q) room));
+      numbers = subst (Numbers ω (zeros m (off q + len q) (2 * len q))) (sym top) (numbers-zeros ω m (off q + len q) (2 * len q) (omega (arith, room)) (subst (Numbers ω m) (ap (λ (x : ℕ). offsetAt (q .arrays) (x - 1) + lengthAt (q .arrays) (x - 1)) e) (A .numbers)));
     }
   where
     n11 : q .published < 11
     n11 = roomy A small
 
-    r : Region
-    r = record { offset = off q + 2 * size q; length = 2 * (2 * size q) }
-
     l′ : List Region
-    l′ = set (q .arrays) (q .published) (record { offset = off q + 2 * size q; length = 2 * (2 * size q) })
+    l′ = set (q .arrays) (q .published) (record { offset = off q + len q; length = 2 * len q })
 
-    new : (offsetAt l′ (q .published) ≡ off q + 2 * size q) × (sizeAt l′ (q .published) ≡ 2 * size q)
-    new = set-here (q .arrays) (q .published) (off q + 2 * size q) (2 * size q) (omega (arith, n11, A .slots))
+    new : (offsetAt l′ (q .published) ≡ off q + len q) × (lengthAt l′ (q .published) ≡ 2 * len q) × (sizeAt ω l′ (q .published) ≡ 2 * size ω q)
+    new = set-here ω (q .arrays) (q .published) (off q + len q) (2 * size ω q) (2 * len q) (omega (arith, n11, A .slots)) (omega (arith, long A))
 
-    last : (offsetAt l′ (q .published - 1) ≡ off q) × (sizeAt l′ (q .published - 1) ≡ size q)
-    last = set-place (q .arrays) (q .published) (q .published - 1) (off q + 2 * size q) (2 * size q) (omega (arith, A .some))
+    last : (offsetAt l′ (q .published - 1) ≡ off q) × (lengthAt l′ (q .published - 1) ≡ len q) × (sizeAt ω l′ (q .published - 1) ≡ size ω q)
+    last = set-place ω (q .arrays) (q .published) (q .published - 1) (off q + len q) (2 * len q) (omega (arith, A .some))
 
     pred : q .published + 1 - 1 ≡ q .published
     pred = omega arith
 
-    top : taken (claiming q) ≡ off q + 2 * size q + 2 * (2 * size q)
-    top = ap (λ (x : ℕ). offsetAt l′ x + 2 * sizeAt l′ x) pred ∙ omega (arith, new .0, new .1)
+    top : taken (claiming q) ≡ off q + len q + 2 * len q
+    top = ap (λ (x : ℕ). offsetAt l′ x + lengthAt l′ x) pred ∙ omega (arith, new .0, new .1)
 
-    long : lengthAt l′ (q .published) ≡ 2 * (2 * size q)
-    long = ap (λ (x : Region). x .length) (getD-set-same (q .arrays) (q .published) _ nowhere (omega (arith, n11, A .slots)))
-
-    old : tidy l′ (q .published) ≡ true
+    old : tidy ω l′ (q .published) ≡ true
     old =
-        tidy-ext (q .arrays) l′ (q .published) (λ k h. getD-set-other (q .arrays) (q .published) k _ nowhere (omega arith))
-        ∙ subst (λ (x : ℕ). tidy (q .arrays) x ≡ true) e (A .tidied)
+        tidy-ext ω (q .arrays) l′ (q .published) (λ k h. getD-set-other (q .arrays) (q .published) k _ nowhere (omega arith))
+        ∙ subst (λ (x : ℕ). tidy ω (q .arrays) x ≡ true) e (A .tidied)
 
-    more : (k : ℕ) → suc k ≡ q .published → tidy l′ (suc (suc k)) ≡ true
+    more : (k : ℕ) → suc k ≡ q .published → tidy ω l′ (suc (suc k)) ≡ true
     more k h =
-        and-both (tidy l′ (suc k)) _ (subst (λ (x : ℕ). tidy l′ x ≡ true) (sym h) old)
-        (and-both (eqb (offsetAt l′ (suc k)) (offsetAt l′ k + 2 * sizeAt l′ k)) _ (eq-eqb _ _ place)
-        (and-both (eqb (lengthAt l′ (suc k)) (2 * (2 * sizeAt l′ k))) _ (eq-eqb _ _ long′) (le-leb _ _ small′)))
+        and-both (tidy ω l′ (suc k)) _ (subst (λ (x : ℕ). tidy ω l′ x ≡ true) (sym h) old)
+        (and-both (eqb (offsetAt l′ (suc k)) (offsetAt l′ k + lengthAt l′ k)) _ (eq-eqb _ _ place)
+        (and-both (eqb (lengthAt l′ (suc k)) (2 * lengthAt l′ k)) _ (eq-eqb _ _ longer) (le-leb _ _ small′)))
       where
         k-is : k ≡ q .published - 1
         k-is = omega arith
 
-        zk : sizeAt l′ k ≡ size q
-        zk = ap (sizeAt l′) k-is ∙ last .1
+        ck : lengthAt l′ k ≡ len q
+        ck = ap (lengthAt l′) k-is ∙ last .1
 
-        place : offsetAt l′ (suc k) ≡ offsetAt l′ k + 2 * sizeAt l′ k
-        place = ap (offsetAt l′) h ∙ new .0 ∙ omega (arith, zk, ap (offsetAt l′) k-is, last .0)
+        place : offsetAt l′ (suc k) ≡ offsetAt l′ k + lengthAt l′ k
+        place = ap (offsetAt l′) h ∙ new .0 ∙ omega (arith, ck, ap (offsetAt l′) k-is, last .0)
 
-        long′ : lengthAt l′ (suc k) ≡ 2 * (2 * sizeAt l′ k)
-        long′ = ap (λ (x : ℕ). lengthAt l′ x) h ∙ long ∙ omega (arith, zk)
+        longer : lengthAt l′ (suc k) ≡ 2 * lengthAt l′ k
+        longer = ap (lengthAt l′) h ∙ new .1 ∙ omega (arith, ck)
 
-        small′ : 2 * sizeAt l′ k ≤ 1024
-        small′ = omega (arith, zk, small)
+        small′ : 2 * sizeAt ω l′ k ≤ 1024
+        small′ = omega (arith, ap (sizeAt ω l′) k-is, last .2, small)
 
-    tidied′ : tidy l′ (q .published + 1) ≡ true
-    tidied′ = subst (λ (x : ℕ). tidy l′ x ≡ true) {x = suc (suc (q .published - 1))} {y = q .published + 1} (omega (arith, A .some)) (more (q .published - 1) (omega (arith, A .some)))
+    tidied′ : tidy ω l′ (q .published + 1) ≡ true
+    tidied′ = subst (λ (x : ℕ). tidy ω l′ x ≡ true) {x = suc (suc (q .published - 1))} {y = q .published + 1} (omega (arith, A .some)) (more (q .published - 1) (omega (arith, A .some)))
 
 -- X4
-pub arrays-publish : {q : Queue} {m : List ℕ} → Arrays q m → q .claimed ≡ q .published + 1 → Arrays (publishing q) m × (size (publishing q) ≡ 2 * size q)
-arrays-publish {q} {m} A e = (
+pub arrays-publish : {ω : ℕ} {q : Queue} {m : List ℕ} → Arrays ω q m → q .claimed ≡ q .published + 1 → Arrays ω (publishing q) m × (size ω (publishing q) ≡ 2 * size ω q)
+arrays-publish {ω} {q} {m} A e = (
   record {
     some = omega arith;
     below = omega (arith, e);
     few = A .few;
     slots = A .slots;
     tidied = A .tidied;
+    kept = A .kept;
     power = omega (arith, A .power, twice, pow);
     room = A .room;
     numbers = A .numbers;
@@ -250,14 +271,11 @@ arrays-publish {q} {m} A e = (
   twice,
 )
   where
-    N : Next (q .arrays) (q .published - 1)
-    N = tidy-next (q .arrays) (q .claimed) (q .published - 1) (A .tidied) (omega (arith, e, A .some))
-
     up : q .published + 1 - 1 ≡ suc (q .published - 1)
     up = omega (arith, A .some)
 
-    twice : size (publishing q) ≡ 2 * size q
-    twice = ap (sizeAt (q .arrays)) up ∙ N .twice
+    twice : size ω (publishing q) ≡ 2 * size ω q
+    twice = ap (sizeAt ω (q .arrays)) up ∙ tidy-twice ω (q .arrays) (q .published - 1) (tidy-front ω (q .arrays) (q .claimed) (suc (q .published - 1)) (A .tidied) (omega (arith, e, A .some)))
 
     pow : 2 ^ (q .published + 1 - 1) ≡ 2 * 2 ^ (q .published - 1)
     pow = ap (λ (x : ℕ). 2 ^ x) up ∙ omega arith

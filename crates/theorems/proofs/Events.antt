@@ -1,17 +1,17 @@
 -- What a call did, and what a list of calls did, newest first.
 use mathlib.Core.Bool.{Bool, true, false, cond}
 use mathlib.Core.List.{List, [], _∷_, List·Memᴰ}
-use Prim.Native.Nat.{ℕ, zero, suc}
+use Prim.Native.Nat.{ℕ, zero, suc, _+_}
 use lib.Dec.{eqb}
 use Rattle.model.specs.declared.Kind.{Kind}
 use Rattle.model.specs.declared.Line.{Line}
-use Rattle.model.specs.declared.Line.the-variants.{Idle, PutRead, PutTail, PutTest, PutNumber, PutPayload, PutFinish, Claim, Note, Copy, Publish, TakeRead, TakeTail, TakeTest, TakeNumber, TakePayload, TakeFinish, StealRead, StealTail, StealTest, StealNote, StealNumber, StealPayload, StealNext, StealCompare}
+use Rattle.model.specs.declared.Line.the-variants.{Idle, PutRead, PutTail, PutTest, PutWord, PutFinish, Claim, Note, Copy, Publish, TakeRead, TakeTail, TakeTest, TakeWord, TakeFinish, StealRead, StealTail, StealTest, StealNote, StealWord, StealNext, StealCompare}
 use Rattle.model.specs.declared.Operation.the-variants.{Put, Take, Steal}
 use Rattle.model.specs.declared.Answer.{Answer}
 use Rattle.model.specs.declared.Answer.the-variants.{Accepted, Numbered, GoesOn, Finished, HandedOut, Empty, Full, Refused}
 use Rattle.model.specs.declared.Task.{Task}
 use Rattle.model.specs.Calls.{Call, begin, step}
-use Rattle.model.specs.Answers.{task}
+use Rattle.model.specs.Tasks.{task, firstWords}
 use Rattle.theorems.specs.Demand3.{Few}
 
 pub data Event : Type 0 where
@@ -29,8 +29,7 @@ is-line-1 Idle = false
 is-line-1 (PutRead t) = false
 is-line-1 (PutTail t h) = false
 is-line-1 (PutTest t r) = false
-is-line-1 (PutNumber t r) = false
-is-line-1 (PutPayload t r) = false
+is-line-1 (PutWord t r j) = false
 is-line-1 (PutFinish t r) = false
 is-line-1 (Claim t) = false
 is-line-1 (Note t) = false
@@ -39,15 +38,13 @@ is-line-1 (Publish t) = false
 is-line-1 TakeRead = true
 is-line-1 (TakeTail h) = false
 is-line-1 (TakeTest r) = false
-is-line-1 (TakeNumber r) = false
-is-line-1 (TakePayload r x) = false
+is-line-1 (TakeWord r t j) = false
 is-line-1 (TakeFinish r t) = false
 is-line-1 StealRead = true
 is-line-1 (StealTail h) = false
 is-line-1 (StealTest r) = false
 is-line-1 (StealNote r) = false
-is-line-1 (StealNumber r k) = false
-is-line-1 (StealPayload r k x) = false
+is-line-1 (StealWord r k t j) = false
 is-line-1 (StealNext r t) = false
 is-line-1 (StealCompare r e t) = false
 
@@ -56,8 +53,7 @@ is-compare Idle = false
 is-compare (PutRead t) = false
 is-compare (PutTail t h) = false
 is-compare (PutTest t r) = false
-is-compare (PutNumber t r) = false
-is-compare (PutPayload t r) = false
+is-compare (PutWord t r j) = false
 is-compare (PutFinish t r) = false
 is-compare (Claim t) = false
 is-compare (Note t) = false
@@ -66,25 +62,23 @@ is-compare (Publish t) = false
 is-compare TakeRead = false
 is-compare (TakeTail h) = false
 is-compare (TakeTest r) = false
-is-compare (TakeNumber r) = false
-is-compare (TakePayload r x) = false
+is-compare (TakeWord r t j) = false
 is-compare (TakeFinish r t) = false
 is-compare StealRead = false
 is-compare (StealTail h) = false
 is-compare (StealTest r) = false
 is-compare (StealNote r) = false
-is-compare (StealNumber r k) = false
-is-compare (StealPayload r k x) = false
+is-compare (StealWord r k t j) = false
 is-compare (StealNext r t) = false
 is-compare (StealCompare r e t) = true
 
--- the call c, of a worker at the line l, answers a
-abbrev pub event-of-begin : Call → ℕ → Event
-event-of-begin (begin zero (Put p)) n = began-put (task n p)
-event-of-begin (begin (suc k) (Put p)) n = quiet
-event-of-begin (begin i Take) n = quiet
-event-of-begin (begin i Steal) n = quiet
-event-of-begin (step i) n = quiet
+-- with ω payload words, the call c, of a worker at the line l, answers a
+abbrev pub event-of-begin : ℕ → Call → ℕ → Event
+event-of-begin ω (begin zero (Put p)) n = began-put (firstWords (ω + 1) (task n p))
+event-of-begin ω (begin (suc k) (Put p)) n = quiet
+event-of-begin ω (begin i Take) n = quiet
+event-of-begin ω (begin i Steal) n = quiet
+event-of-begin ω (step i) n = quiet
 
 abbrev pub event-of-going-on : Call → Line → Event
 event-of-going-on (begin i o) l = quiet
@@ -95,15 +89,15 @@ abbrev pub event-of-hand-out : Call → Line → Task → Event
 event-of-hand-out (begin i o) l t = handed-out 0 t
 event-of-hand-out (step i) l t = cond (is-compare l) (handed-out i t) (handed-out 0 t)
 
-abbrev pub event-of : Call → Line → Answer → Event
-event-of c l Accepted = quiet
-event-of c l (Numbered n) = event-of-begin c n
-event-of c l GoesOn = event-of-going-on c l
-event-of c l (Finished i t) = finished-put t
-event-of c l (HandedOut i t) = event-of-hand-out c l t
-event-of c l (Empty i) = found-empty i
-event-of c l (Full i t) = found-full t
-event-of c l (Refused r) = quiet
+abbrev pub event-of : ℕ → Call → Line → Answer → Event
+event-of ω c l Accepted = quiet
+event-of ω c l (Numbered n) = event-of-begin ω c n
+event-of ω c l GoesOn = event-of-going-on c l
+event-of ω c l (Finished i t) = finished-put t
+event-of ω c l (HandedOut i t) = event-of-hand-out c l t
+event-of ω c l (Empty i) = found-empty i
+event-of ω c l (Full i t) = found-full t
+event-of ω c l (Refused r) = quiet
 
 abbrev pub History : Type 0
 History = List Event

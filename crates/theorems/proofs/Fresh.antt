@@ -2,7 +2,7 @@
 use mathlib.Core.Path.{_≡_, refl, sym, _∙_, ap, subst}
 use mathlib.Core.Bool.{Bool, true, false}
 use mathlib.Core.List.{List, [], List·Memᴰ·not-nil}
-use Prim.Native.Nat.{ℕ, zero, suc, _*_, _≤_, _<_}
+use Prim.Native.Nat.{ℕ, zero, suc, _+_, _*_, _≤_, _<_}
 use native.Mathlib.Omega.{arith}
 use native.Mathlib.Nat.{mul-div-cancel-left}
 use lib.Dec.{ltb, leb}
@@ -14,14 +14,14 @@ use Rattle.model.specs.declared.Kind.{Kind}
 use Rattle.model.specs.declared.Kind.the-variants.{Lifo, Fifo, Deque}
 use Rattle.model.specs.declared.Line.the-variants.{Idle}
 use Rattle.model.specs.declared.Refusal.{Refusal}
-use Rattle.model.specs.declared.Refusal.the-variants.{UnknownQueue, TagWidth, ArraySize, Crew, ShortStore}
+use Rattle.model.specs.declared.Refusal.the-variants.{UnknownQueue, TagWidth, ArraySize, Crew, ShortStore, PayloadWords}
 use Rattle.model.specs.declared.Answer.the-variants.{Accepted}
 use Rattle.model.specs.Tests.{if_then_else_, _and_}
 use Rattle.model.proofs.Tests.{and-both}
 use Rattle.model.specs.World.{World, Outcome, refuse, resting, lineAt}
 use Rattle.model.specs.Answers.{logged}
-use Rattle.model.specs.Memory.{zeros, offsetAt, sizeAt}
-use Rattle.model.specs.Limits.{isSize, widthOk, crewOk}
+use Rattle.model.specs.Memory.{zeros, offsetAt, lengthAt, sizeAt}
+use Rattle.model.specs.Limits.{isSize, widthOk, crewOk, wordsOk}
 use Rattle.model.specs.Calls.{blank, noBench, lent, kindOf, freshOf}
 use Rattle.model.specs.Figures.{anchor}
 use Rattle.model.proofs.Directory.{Size, size-pos, size-yes}
@@ -35,15 +35,16 @@ use Rattle.theorems.proofs.Valid.{Whole}
 use Rattle.theorems.proofs.SoundRun.{InvOf}
 
 -- what an accepted fresh was given
-pub record Given (w c n : ℕ) (m : List ℕ) : Type 0 where
+pub record Given (w c n ω : ℕ) (m : List ℕ) : Type 0 where
   pub width : (0 < w) × (w ≤ 16)
   pub test : isSize 10 c ≡ true
   pub crew : (0 < n) × (n ≤ 8)
-  pub room : 2 * c ≤ length m
+  pub words : (0 < ω) × (ω ≤ 4)
+  pub room : (ω + 1) * c ≤ length m
 
 -- the bench that it hands back, with the memory lent to it
-abbrev pub start : Kind → ℕ → ℕ → ℕ → List ℕ → List ℕ → World
-start κ w c n m l = lent (blank κ w c n) (zeros m 0 (2 * c)) l
+abbrev pub start : Kind → ℕ → ℕ → ℕ → ℕ → List ℕ → List ℕ → World
+start κ w c n ω m l = lent (blank κ w c n ω) (zeros m 0 ((ω + 1) * c)) l
 
 -- a test that an accepted call passed
 passed : (x : Bool) (D : Outcome) (U : World) (r : Refusal) → (if x then D else refuse U r) .answer ≡ Accepted
@@ -53,7 +54,7 @@ passed true D U r e = (refl, refl, e)
 passed false D U r e = absurd (let z : _≡_ {A = ℕ} 0 1 = cc in omega arith)
 
 pub fresh-is : (s : Setup) (m l : List ℕ) → freshOf s m l .answer ≡ Accepted
-    → (freshOf s m l .world ≡ start (kindOf (s .kind)) (s .width) (s .size) (s .crew) m l) × Given (s .width) (s .size) (s .crew) m
+    → (freshOf s m l .world ≡ start (kindOf (s .kind)) (s .width) (s .size) (s .crew) (s .words) m l) × Given (s .width) (s .size) (s .crew) (s .words) m
 unfolding freshOf
 fresh-is s m l e =
     let U = lent noBench m l in
@@ -61,15 +62,18 @@ fresh-is s m l e =
     let b = passed (widthOk (s .width)) _ U TagWidth (a .2) in
     let d = passed (isSize 10 (s .size)) _ U ArraySize (b .2) in
     let f = passed (crewOk (s .crew)) _ U Crew (d .2) in
-    let g = passed (leb (2 * s .size) (length m)) _ U ShortStore (f .2) in
+    let h = passed (wordsOk (s .words)) _ U PayloadWords (f .2) in
+    let g = passed (leb ((s .words + 1) * s .size) (length m)) _ U ShortStore (h .2) in
     let u = both (ltb 0 (s .width)) (leb (s .width) 16) (b .0) in
-    let v = both (ltb 0 (s .crew)) (leb (s .crew) 8) (f .0) in (
-      ap (λ (D : Outcome). D .world) (a .1 ∙ b .1 ∙ d .1 ∙ f .1 ∙ g .1),
+    let v = both (ltb 0 (s .crew)) (leb (s .crew) 8) (f .0) in
+    let x = both (ltb 0 (s .words)) (leb (s .words) 4) (h .0) in (
+      ap (λ (D : Outcome). D .world) (a .1 ∙ b .1 ∙ d .1 ∙ f .1 ∙ h .1 ∙ g .1),
       record {
         width = (ltb-true 0 (s .width) (u .0), leb-true (s .width) 16 (u .1));
         test = d .0;
         crew = (ltb-true 0 (s .crew) (v .0), leb-true (s .crew) 8 (v .1));
-        room = leb-true (2 * s .size) (length m) (g .0);
+        words = (ltb-true 0 (s .words) (x .0), leb-true (s .words) 4 (x .1));
+        room = leb-true ((s .words + 1) * s .size) (length m) (g .0);
       },
     )
 
@@ -78,20 +82,24 @@ rests zero k = refl
 rests (suc q) zero = refl
 rests (suc q) (suc k) = rests q k
 
-module _ (κ : Kind) (w c n : ℕ) (m l : List ℕ) (A : Given w c n m) where
-  first-size : sizeAt (blank κ w c n .queue .arrays) 0 ≡ c
-  unfolding sizeAt
+module _ (κ : Kind) (w c n ω : ℕ) (m l : List ℕ) (A : Given w c n ω m) where
+  first-size : sizeAt ω (blank κ w c n ω .queue .arrays) 0 ≡ c
+  unfolding lengthAt sizeAt
   first-size = mul-div-cancel-left c (omega arith)
 
-  first-off : offsetAt (blank κ w c n .queue .arrays) 0 ≡ 0
+  first-long : lengthAt (blank κ w c n ω .queue .arrays) 0 ≡ (ω + 1) * c
+  unfolding lengthAt
+  first-long = refl
+
+  first-off : offsetAt (blank κ w c n ω .queue .arrays) 0 ≡ 0
   unfolding offsetAt
   first-off = refl
 
   sized : Size c
   sized = size-yes 10 c (omega arith) (A .test)
 
-  zero-length : length (zeros m 0 (2 * c)) ≡ length m
-  zero-length = zeros-length m 0 (2 * c) (omega (arith, A .room))
+  zero-length : length (zeros m 0 ((ω + 1) * c)) ≡ length m
+  zero-length = zeros-length m 0 ((ω + 1) * c) (omega (arith, A .room))
 
   zero-anchor : (κ : Kind) (z : ℕ) → Bounded κ w z 0 (anchor 0 0 0)
   zero-anchor Lifo z = (refl, omega arith, pow-pos w)
@@ -103,7 +111,7 @@ module _ (κ : Kind) (w c n : ℕ) (m l : List ℕ) (A : Given w c n m) where
   zero-spent Fifo = omega arith
   zero-spent Deque = tt
 
-  arrays-ok : Arrays (blank κ w c n .queue) (zeros m 0 (2 * c))
+  arrays-ok : Arrays ω (blank κ w c n ω .queue) (zeros m 0 ((ω + 1) * c))
   arrays-ok =
       record {
         some = omega arith;
@@ -111,19 +119,21 @@ module _ (κ : Kind) (w c n : ℕ) (m l : List ℕ) (A : Given w c n m) where
         few = omega arith;
         slots = refl;
         tidied = and-both _ _ (eq-eqb _ _ first-off) (and-both _ _ (eq-eqb _ _ long) (rw first-size (A .test)));
+        kept = sym first-size;
         power = omega (arith, first-size, size-pos sized);
-        room = omega (arith, first-off, first-size, zero-length, A .room);
-        numbers = λ a h. numbers-zeros m 0 (2 * c) (omega arith) (λ a h. absurd (omega arith)) a (omega (arith, first-off, first-size));
+        room = omega (arith, first-off, first-long, zero-length, A .room);
+        numbers = λ a h. numbers-zeros ω m 0 ((ω + 1) * c) (omega arith) (λ a h. absurd (omega arith)) a (omega (arith, first-off, first-long));
       }
     where
-      long : 2 * c ≡ 2 * sizeAt (blank κ w c n .queue .arrays) 0
-      long = omega (arith, first-size)
+      long : lengthAt (blank κ w c n ω .queue .arrays) 0 ≡ (ω + 1) * sizeAt ω (blank κ w c n ω .queue .arrays) 0
+      long = first-long ∙ sym (ap (λ (x : ℕ). (ω + 1) * x) first-size)
 
-  pub fresh-whole : Whole (start κ w c n m l)
+  pub fresh-whole : Whole (start κ w c n ω m l)
   unfolding if_then_else_
   fresh-whole =
       record {
         width = A .width;
+        words = A .words;
         crew = A .crew;
         workers = refl;
         rest = λ k h. rw (rests 8 k);
@@ -146,7 +156,7 @@ module _ (κ : Kind) (w c n : ℕ) (m l : List ℕ) (A : Given w c n m) where
   rep-zero Fifo = (refl, refl)
   rep-zero Deque = (refl, refl)
 
-  pub fresh-inv : InvOf (start κ w c n m l) []
+  pub fresh-inv : InvOf (start κ w c n ω m l) []
   fresh-inv =
       record {
         lo = 0;
@@ -168,7 +178,7 @@ module _ (κ : Kind) (w c n : ℕ) (m l : List ℕ) (A : Given w c n m) where
             };
         order = order-fresh κ _ refl refl;
         sized = rw first-size sized;
-        room = omega (arith, first-off, first-size, zero-length, A .room);
+        room = rw (first-off, first-size) (omega (arith, zero-length, A .room));
         tag = pow-pos w;
         own = tt;
         th = λ k. rw (rests 8 (suc k)) tt;
@@ -185,4 +195,4 @@ pub fresh-started : (s : Setup) (m l : List ℕ) → freshOf s m l .answer ≡ A
 fresh-started s m l e =
     let F = fresh-is s m l e in
     subst (λ (W : World). Started W (s .width)) (sym (F .0))
-    (record { whole = fresh-whole (kindOf (s .kind)) (s .width) (s .size) (s .crew) m l (F .1); inv = fresh-inv (kindOf (s .kind)) (s .width) (s .size) (s .crew) m l (F .1); idle = refl; width = refl })
+    (record { whole = fresh-whole (kindOf (s .kind)) (s .width) (s .size) (s .crew) (s .words) m l (F .1); inv = fresh-inv (kindOf (s .kind)) (s .width) (s .size) (s .crew) (s .words) m l (F .1); idle = refl; width = refl })

@@ -9,10 +9,11 @@ use borrow.Author.Tests.{ne-eqb, eq-eqb}
 use Rattle.model.specs.declared.Kind.{Kind}
 use Rattle.model.specs.declared.Kind.the-variants.{Lifo, Fifo, Deque}
 use Rattle.model.specs.declared.Line.{Line}
-use Rattle.model.specs.declared.Line.the-variants.{Idle, PutRead, PutTail, PutTest, PutNumber, PutPayload, PutFinish, Claim, Note, Copy, Publish, TakeRead, TakeTail, TakeTest, TakeNumber, TakePayload, TakeFinish, StealRead, StealTail, StealTest, StealNote, StealNumber, StealPayload, StealNext, StealCompare}
+use Rattle.model.specs.declared.Line.the-variants.{Idle, PutRead, PutTail, PutTest, PutWord, PutFinish, Claim, Note, Copy, Publish, TakeRead, TakeTail, TakeTest, TakeWord, TakeFinish, StealRead, StealTail, StealTest, StealNote, StealWord, StealNext, StealCompare}
 use Rattle.model.specs.declared.Queue.{Queue}
 use Rattle.model.specs.declared.Task.{Task}
 use Rattle.model.specs.declared.Anchor.{Anchor}
+use Rattle.model.specs.Tasks.{wordIn, gathered}
 use Rattle.model.specs.Memory.{offsetAt, sizeAt}
 use Rattle.model.specs.Lines.{off, size}
 use Rattle.model.specs.Figures.{anchor}
@@ -25,8 +26,8 @@ use Rattle.theorems.proofs.Order.{Tops, Order}
 use Rattle.theorems.proofs.Seen.{Dir, Got, Noted, Frame, Still, dir-keep, got-keep, noted-keep}
 use Rattle.theorems.proofs.Indices.{StandsFor, Start, Small, stolen-ix, taken-ix}
 
-abbrev pub view : Queue → List ℕ → ℕ → ℕ → View
-view Q μ own-lo own-hi = record { store = μ; directory = Q .arrays; published = Q .published; base = off Q; slots = size Q; own-lo = own-lo; own-hi = own-hi }
+abbrev pub view : ℕ → Queue → List ℕ → ℕ → ℕ → View
+view ω Q μ own-lo own-hi = record { words = ω; store = μ; directory = Q .arrays; published = Q .published; base = off Q; slots = size ω Q; own-lo = own-lo; own-hi = own-hi }
 
 abbrev pub IsFifo : Kind → Type 0
 IsFifo Lifo = ⊥
@@ -40,12 +41,12 @@ Emptied i h = (t : Task) → List·Memᴰ (finished-put t) (history-at i h) → 
 -- the claimed array
 abbrev pub Claimed : View → Type 0
 Claimed v =
-    (v .base + 2 * v .slots + 4 * v .slots ≤ length (v .store)) × (2 * v .slots ≤ 1024) × (offsetAt (v .directory) (v .published) ≡ v .base + 2 * v .slots)
-    × (sizeAt (v .directory) (v .published) ≡ 2 * v .slots) × (0 < v .published)
+    (v .base + 3 * ((v .words + 1) * v .slots) ≤ length (v .store)) × (2 * v .slots ≤ 1024)
+    × (offsetAt (v .directory) (v .published) ≡ v .base + (v .words + 1) * v .slots) × (sizeAt (v .words) (v .directory) (v .published) ≡ 2 * v .slots) × (0 < v .published)
 
 -- the indices from lo up to hi are in the claimed array
 abbrev pub Copied : View → ℕ → ℕ → Type 0
-Copied v lo hi = (i j : ℕ) → lo ≤ i → i < hi → j < 2 → cell (v .store) (v .base + 2 * v .slots) (2 * v .slots) i j ≡ word v i j
+Copied v lo hi = (i j : ℕ) → lo ≤ i → i < hi → j < v .words + 1 → cell (v .words) (v .store) (v .base + (v .words + 1) * v .slots) (2 * v .slots) i j ≡ word v i j
 
 pub record Copying (κ : Kind) (v : View) (a q k : ℕ) : Type 0 where
   pub from : ℕ
@@ -56,32 +57,36 @@ pub record Copying (κ : Kind) (v : View) (a q k : ℕ) : Type 0 where
   pub more : k < q
   pub copied : Copied v from (from + k)
 
+-- the first j words of t stand at the top of the owner's window
+abbrev pub Written : View → ℕ → Task → Type 0
+Written v j t = (k : ℕ) → k < j → word v (v .own-hi) k ≡ wordIn t k
+
 abbrev pub OwnerOk : Kind → View → ℕ → History → Line → Type 0
 OwnerOk κ v g h Idle = Unit {0}
-OwnerOk κ v g h (PutRead t) = Begun t h
-OwnerOk κ v g h (PutTail t a) = Begun t h × (IsFifo κ × (v .own-lo ≡ a))
-OwnerOk κ v g h (PutTest t r) = Begun t h × (StandsFor κ r (v .own-lo) (v .own-hi) × (r .tag ≡ g))
-OwnerOk κ v g h (PutNumber t r) = Begun t h × (StandsFor κ r (v .own-lo) (v .own-hi) × (r .tag ≡ g) × (v .own-hi < v .own-lo + v .slots))
-OwnerOk κ v g h (PutPayload t r) = Begun t h × (StandsFor κ r (v .own-lo) (v .own-hi) × (r .tag ≡ g) × (v .own-hi < v .own-lo + v .slots) × (word v (v .own-hi) 0 ≡ t .number))
+OwnerOk κ v g h (PutRead t) = Begun (v .words) t h
+OwnerOk κ v g h (PutTail t a) = Begun (v .words) t h × (IsFifo κ × (v .own-lo ≡ a))
+OwnerOk κ v g h (PutTest t r) = Begun (v .words) t h × (StandsFor κ r (v .own-lo) (v .own-hi) × (r .tag ≡ g))
+OwnerOk κ v g h (PutWord t r j) =
+    Begun (v .words) t h × (StandsFor κ r (v .own-lo) (v .own-hi) × (r .tag ≡ g) × (v .own-hi < v .own-lo + v .slots) × (j ≤ v .words) × Written v j t)
 OwnerOk κ v g h (PutFinish t r) =
-    Begun t h × (StandsFor κ r (v .own-lo) (v .own-hi) × (r .tag ≡ g) × (v .own-hi < v .own-lo + v .slots) × (taskAt v (v .own-hi) ≡ t))
-OwnerOk κ v g h (Claim t) = Begun t h
-OwnerOk κ v g h (Note t) = Begun t h × (Claimed v)
-OwnerOk κ v g h (Copy t a q k) = Begun t h × Claimed v × Copying κ v a q k
-OwnerOk κ v g h (Publish t) = Begun t h × Claimed v × Copied v (v .own-lo) (v .own-hi)
+    Begun (v .words) t h × (StandsFor κ r (v .own-lo) (v .own-hi) × (r .tag ≡ g) × (v .own-hi < v .own-lo + v .slots) × (taskAt v (v .own-hi) ≡ t))
+OwnerOk κ v g h (Claim t) = Begun (v .words) t h
+OwnerOk κ v g h (Note t) = Begun (v .words) t h × (Claimed v)
+OwnerOk κ v g h (Copy t a q k) = Begun (v .words) t h × Claimed v × Copying κ v a q k
+OwnerOk κ v g h (Publish t) = Begun (v .words) t h × Claimed v × Copied v (v .own-lo) (v .own-hi)
 OwnerOk κ v g h TakeRead = Unit {0}
 OwnerOk κ v g h (TakeTail a) = IsFifo κ × (v .own-lo ≡ a) × (v .own-lo ≡ v .own-hi → Emptied 0 h) × List·Memᴰ (line-1 0) h
 OwnerOk κ v g h (TakeTest r) = StandsFor κ r (v .own-lo) (v .own-hi) × (r .tag ≡ g) × (v .own-lo ≡ v .own-hi → Emptied 0 h) × List·Memᴰ (line-1 0) h
-OwnerOk κ v g h (TakeNumber r) = StandsFor κ r (v .own-lo) (v .own-hi) × (r .tag ≡ g) × (v .own-lo < v .own-hi)
-OwnerOk κ v g h (TakePayload r x) = StandsFor κ r (v .own-lo) (v .own-hi) × (r .tag ≡ g) × (v .own-lo < v .own-hi) × (x ≡ word v (taken-ix κ (v .own-lo) (v .own-hi)) 0)
+OwnerOk κ v g h (TakeWord r t j) =
+    StandsFor κ r (v .own-lo) (v .own-hi) × (r .tag ≡ g) × (v .own-lo < v .own-hi) × (j ≤ v .words)
+    × (t ≡ gathered j (word v (taken-ix κ (v .own-lo) (v .own-hi))))
 OwnerOk κ v g h (TakeFinish r t) =
     StandsFor κ r (v .own-lo) (v .own-hi) × (r .tag ≡ g) × (v .own-lo < v .own-hi) × (t ≡ taskAt v (taken-ix κ (v .own-lo) (v .own-hi)))
 OwnerOk κ v g h StealRead = ⊥
 OwnerOk κ v g h (StealTail a) = ⊥
 OwnerOk κ v g h (StealTest r) = ⊥
 OwnerOk κ v g h (StealNote r) = ⊥
-OwnerOk κ v g h (StealNumber r b) = ⊥
-OwnerOk κ v g h (StealPayload r b x) = ⊥
+OwnerOk κ v g h (StealWord r b t j) = ⊥
 OwnerOk κ v g h (StealNext r t) = ⊥
 OwnerOk κ v g h (StealCompare r e t) = ⊥
 
@@ -115,13 +120,13 @@ pub record Reads (κ : Kind) (w : ℕ) (v : View) (g : ℕ) (h : History) (k : �
 abbrev pub NotedAt : ℕ → View → ℕ → ℕ → ℕ → Type 0
 NotedAt st v b z i = Dir v b z × Noted st v b z i
 
-abbrev pub GotV : (κ : Kind) → (w : ℕ) → (v : View) → (g : ℕ) → (h : History) → (k : ℕ) (r : Anchor) → Reads κ w v g h k r → ℕ → ℕ → Type 0
-GotV κ w v g h k r R j x = Got (stale κ (puts-since k h)) v (stolen-ix κ (R .lo) (R .hi)) j x
+abbrev pub GotV : (κ : Kind) → (w : ℕ) → (v : View) → (g : ℕ) → (h : History) → (k : ℕ) (r : Anchor) → Reads κ w v g h k r → ℕ → Task → Type 0
+GotV κ w v g h k r R j t = Got (stale κ (puts-since k h)) v (stolen-ix κ (R .lo) (R .hi)) j t
 
 abbrev pub NotedV : (κ : Kind) → (w : ℕ) → (v : View) → (g : ℕ) → (h : History) → (k : ℕ) (r : Anchor) → Reads κ w v g h k r → ℕ → Type 0
 NotedV κ w v g h k r R b =
-    (b < v .published) × (Size (sizeAt (v .directory) b) × Small κ (sizeAt (v .directory) b) (R .hi))
-    × NotedAt (stale κ (puts-since k h)) v (offsetAt (v .directory) b) (sizeAt (v .directory) b) (stolen-ix κ (R .lo) (R .hi))
+    (b < v .published) × (Size (sizeAt (v .words) (v .directory) b) × Small κ (sizeAt (v .words) (v .directory) b) (R .hi))
+    × NotedAt (stale κ (puts-since k h)) v (offsetAt (v .directory) b) (sizeAt (v .words) (v .directory) b) (stolen-ix κ (R .lo) (R .hi))
 
 -- double-ended line 5
 abbrev pub Next : Kind → ℕ → ℕ → Type 0
@@ -135,19 +140,15 @@ ThiefOk κ w v g h k StealRead = Unit {0}
 ThiefOk κ w v g h k (StealTail a) = IsFifo κ × (e : ℕ) × (a ≤ e) × (e ≤ v .own-hi) × (a ≡ e → Emptied k h) × List·Memᴰ (line-1 k) h
 ThiefOk κ w v g h k (StealTest r) = (R : Reads κ w v g h k r) × (R .lo ≡ R .hi → Emptied k h)
 ThiefOk κ w v g h k (StealNote r) = (R : Reads κ w v g h k r) × (R .lo < R .hi)
-ThiefOk κ w v g h k (StealNumber r b) = (R : Reads κ w v g h k r) × (R .lo < R .hi) × NotedV κ w v g h k r R b
-ThiefOk κ w v g h k (StealPayload r b x) =
-    (R : Reads κ w v g h k r) × (R .lo < R .hi) × NotedV κ w v g h k r R b × GotV κ w v g h k r R 0 x
-ThiefOk κ w v g h k (StealNext r t) =
-    (R : Reads κ w v g h k r) × (R .lo < R .hi) × GotV κ w v g h k r R 0 (t .number) × GotV κ w v g h k r R 1 (t .payload)
+ThiefOk κ w v g h k (StealWord r b t j) =
+    (R : Reads κ w v g h k r) × (R .lo < R .hi) × NotedV κ w v g h k r R b × (j ≤ v .words) × GotV κ w v g h k r R j t
+ThiefOk κ w v g h k (StealNext r t) = (R : Reads κ w v g h k r) × (R .lo < R .hi) × GotV κ w v g h k r R (v .words + 1) t
 ThiefOk κ w v g h k (StealCompare r e t) =
-    (R : Reads κ w v g h k r) × (R .lo < R .hi) × GotV κ w v g h k r R 0 (t .number) × GotV κ w v g h k r R 1 (t .payload)
-    × Next κ (r .head) e
+    (R : Reads κ w v g h k r) × (R .lo < R .hi) × GotV κ w v g h k r R (v .words + 1) t × Next κ (r .head) e
 ThiefOk κ w v g h k (PutRead t) = ⊥
 ThiefOk κ w v g h k (PutTail t a) = ⊥
 ThiefOk κ w v g h k (PutTest t r) = ⊥
-ThiefOk κ w v g h k (PutNumber t r) = ⊥
-ThiefOk κ w v g h k (PutPayload t r) = ⊥
+ThiefOk κ w v g h k (PutWord t r j) = ⊥
 ThiefOk κ w v g h k (PutFinish t r) = ⊥
 ThiefOk κ w v g h k (Claim t) = ⊥
 ThiefOk κ w v g h k (Note t) = ⊥
@@ -156,25 +157,24 @@ ThiefOk κ w v g h k (Publish t) = ⊥
 ThiefOk κ w v g h k TakeRead = ⊥
 ThiefOk κ w v g h k (TakeTail a) = ⊥
 ThiefOk κ w v g h k (TakeTest r) = ⊥
-ThiefOk κ w v g h k (TakeNumber r) = ⊥
-ThiefOk κ w v g h k (TakePayload r x) = ⊥
+ThiefOk κ w v g h k (TakeWord r t j) = ⊥
 ThiefOk κ w v g h k (TakeFinish r t) = ⊥
 
 -- o: the owner's line; φ k: thief k's
-pub record Inv (κ : Kind) (w : ℕ) (Q : Queue) (μ : List ℕ) (o : Line) (φ : ℕ → Line) (h : History) : Type 0 where
+pub record Inv (κ : Kind) (w ω : ℕ) (Q : Queue) (μ : List ℕ) (o : Line) (φ : ℕ → Line) (h : History) : Type 0 where
   pub lo : ℕ
   pub hi : ℕ
   pub own-lo : ℕ
   pub own-hi : ℕ
   pub rep : StandsFor κ (Q .anchor) lo hi
   pub tops : Tops κ hi own-hi
-  pub core : Core (view Q μ own-lo own-hi) lo hi h
-  pub order : Order κ (view Q μ own-lo own-hi) lo h
-  pub sized : Size (size Q)
-  pub room : off Q + 2 * size Q ≤ length μ
+  pub core : Core (view ω Q μ own-lo own-hi) lo hi h
+  pub order : Order κ (view ω Q μ own-lo own-hi) lo h
+  pub sized : Size (size ω Q)
+  pub room : off Q + (ω + 1) * size ω Q ≤ length μ
   pub tag : Q .anchor .tag < 2 ^ w
-  pub own : OwnerOk κ (view Q μ own-lo own-hi) (Q .anchor .tag) h o
-  pub th : (k : ℕ) → ThiefOk κ w (view Q μ own-lo own-hi) (Q .anchor .tag) h (suc k) (φ k)
+  pub own : OwnerOk κ (view ω Q μ own-lo own-hi) (Q .anchor .tag) h o
+  pub th : (k : ℕ) → ThiefOk κ w (view ω Q μ own-lo own-hi) (Q .anchor .tag) h (suc k) (φ k)
 
 -- what a step of another worker does to thief k
 abbrev pub Grow : Kind → View → View → Type 0
@@ -224,6 +224,12 @@ module _ {κ : Kind} {w : ℕ} {v v′ : View} {g g′ : ℕ} {h h′ : History}
       let P = M .frame .places b p in
       (P .0, rw (P .2) s, rw (P .1, P .2) (dir-keep (M .frame) (N .0), noted-keep (M .frame) (st R l) (N .0) (N .1)))
 
+  got-all : {r : Anchor} {t : Task} (R : Reads κ w v g h k r) → R .lo < R .hi → GotV κ w v g h k r R (v .words + 1) t
+      → GotV κ w v′ g′ h′ k r (reads-keep R) (v′ .words + 1) t
+  unfolding reads-keep
+  got-all {r} {t} R l G =
+      subst (λ (x : ℕ). Got (stale κ (puts-since k h′)) v′ (stolen-ix κ (R .lo) (R .hi)) (x + 1) t) (sym (M .frame .width)) (got-keep (M .frame) (st R l) (omega arith) G)
+
   oh-le : IsFifo κ → v .own-hi ≤ v′ .own-hi
   oh-le f = go κ f (M .grow)
     where
@@ -239,18 +245,14 @@ module _ {κ : Kind} {w : ℕ} {v v′ : View} {g g′ : ℕ} {h h′ : History}
   thief-holds (StealTail a) (f, e, p, q, E, r) = (f, e, p, omega (arith, oh-le f), (λ x. M .emp (E x)), M .grown r)
   thief-holds (StealTest r) (R, E) = (reads-keep R, λ x. M .emp (E x))
   thief-holds (StealNote r) (R, l) = (reads-keep R, l)
-  thief-holds (StealNumber r b) (R, l, N) = (reads-keep R, l, place-keep b R l N)
-  thief-holds (StealPayload r b x) (R, l, N, G) =
-      (reads-keep R, l, place-keep b R l N, got-keep (M .frame) (st R l) (omega arith) G)
-  thief-holds (StealNext r t) (R, l, G, G′) =
-      (reads-keep R, l, got-keep (M .frame) (st R l) (omega arith) G, got-keep (M .frame) (st R l) (omega arith) G′)
-  thief-holds (StealCompare r e t) (R, l, G, G′, N) =
-      (reads-keep R, l, got-keep (M .frame) (st R l) (omega arith) G, got-keep (M .frame) (st R l) (omega arith) G′, N)
+  thief-holds (StealWord r b t j) (R, l, N, u, G) =
+      (reads-keep R, l, place-keep b R l N, omega (arith, M .frame .width), got-keep (M .frame) (st R l) (omega arith) G)
+  thief-holds (StealNext r t) (R, l, G) = (reads-keep R, l, got-all R l G)
+  thief-holds (StealCompare r e t) (R, l, G, N) = (reads-keep R, l, got-all R l G, N)
   thief-holds (PutRead t) o = absurd o
   thief-holds (PutTail t a) o = absurd o
   thief-holds (PutTest t r) o = absurd o
-  thief-holds (PutNumber t r) o = absurd o
-  thief-holds (PutPayload t r) o = absurd o
+  thief-holds (PutWord t r j) o = absurd o
   thief-holds (PutFinish t r) o = absurd o
   thief-holds (Claim t) o = absurd o
   thief-holds (Note t) o = absurd o
@@ -259,8 +261,7 @@ module _ {κ : Kind} {w : ℕ} {v v′ : View} {g g′ : ℕ} {h h′ : History}
   thief-holds TakeRead o = absurd o
   thief-holds (TakeTail a) o = absurd o
   thief-holds (TakeTest r) o = absurd o
-  thief-holds (TakeNumber r) o = absurd o
-  thief-holds (TakePayload r x) o = absurd o
+  thief-holds (TakeWord r t j) o = absurd o
   thief-holds (TakeFinish r t) o = absurd o
 
 -- events that leave worker k's attempt as it is
@@ -370,8 +371,7 @@ own-keep κ v gc h e c Idle k = k
 own-keep κ v gc h e c (PutRead t) k = begun-later e (calm-done 0 e c) k
 own-keep κ v gc h e c (PutTail t a) (b, k) = (begun-later e (calm-done 0 e c) b, k)
 own-keep κ v gc h e c (PutTest t r) (b, k) = (begun-later e (calm-done 0 e c) b, k)
-own-keep κ v gc h e c (PutNumber t r) (b, k) = (begun-later e (calm-done 0 e c) b, k)
-own-keep κ v gc h e c (PutPayload t r) (b, k) = (begun-later e (calm-done 0 e c) b, k)
+own-keep κ v gc h e c (PutWord t r j) (b, k) = (begun-later e (calm-done 0 e c) b, k)
 own-keep κ v gc h e c (PutFinish t r) (b, k) = (begun-later e (calm-done 0 e c) b, k)
 own-keep κ v gc h e c (Claim t) k = begun-later e (calm-done 0 e c) k
 own-keep κ v gc h e c (Note t) (b, k) = (begun-later e (calm-done 0 e c) b, k)
@@ -380,15 +380,13 @@ own-keep κ v gc h e c (Publish t) (b, d, k) = (begun-later e (calm-done 0 e c) 
 own-keep κ v gc h e c TakeRead k = k
 own-keep κ v gc h e c (TakeTail a) (f, l, E, r) = (f, l, (λ x. emp-calm 0 h e c (E x)), List·Memᴰ·tail r)
 own-keep κ v gc h e c (TakeTest r) (p, q, E, y) = (p, q, (λ x. emp-calm 0 h e c (E x)), List·Memᴰ·tail y)
-own-keep κ v gc h e c (TakeNumber r) k = k
-own-keep κ v gc h e c (TakePayload r x) k = k
+own-keep κ v gc h e c (TakeWord r t j) k = k
 own-keep κ v gc h e c (TakeFinish r t) k = k
 own-keep κ v gc h e c StealRead k = absurd k
 own-keep κ v gc h e c (StealTail a) k = absurd k
 own-keep κ v gc h e c (StealTest r) k = absurd k
 own-keep κ v gc h e c (StealNote r) k = absurd k
-own-keep κ v gc h e c (StealNumber r b) k = absurd k
-own-keep κ v gc h e c (StealPayload r b x) k = absurd k
+own-keep κ v gc h e c (StealWord r b t j) k = absurd k
 own-keep κ v gc h e c (StealNext r t) k = absurd k
 own-keep κ v gc h e c (StealCompare r i t) k = absurd k
 

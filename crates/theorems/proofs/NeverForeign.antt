@@ -6,7 +6,7 @@ use Prim.Native.Nat.{ℕ, zero, suc}
 use native.Mathlib.Omega.{arith}
 use Rattle.model.specs.declared.Kind.{Kind}
 use Rattle.model.specs.declared.Line.{Line}
-use Rattle.model.specs.declared.Line.the-variants.{Idle, PutRead, PutTail, PutTest, PutNumber, PutPayload, PutFinish, Claim, Note, Copy, Publish, TakeRead, TakeTail, TakeTest, TakeNumber, TakePayload, TakeFinish, StealRead, StealTail, StealTest, StealNote, StealNumber, StealPayload, StealNext, StealCompare}
+use Rattle.model.specs.declared.Line.the-variants.{Idle, PutRead, PutTail, PutTest, PutWord, PutFinish, Claim, Note, Copy, Publish, TakeRead, TakeTail, TakeTest, TakeWord, TakeFinish, StealRead, StealTail, StealTest, StealNote, StealWord, StealNext, StealCompare}
 use Rattle.model.specs.declared.Queue.{Queue}
 use Rattle.model.specs.declared.Operation.{Operation}
 use Rattle.model.specs.declared.Operation.the-variants.{Put, Take, Steal}
@@ -35,33 +35,30 @@ unfolding if_then_else_
 either true E E′ p q = p
 either false E E′ p q = q
 
-line-answers : (κ : Kind) (w : ℕ) (q : Queue) (m : List ℕ) (i : ℕ) (l : Line) → isRefused (lineStep κ w q m i l .answer) ≡ false
+line-answers : (κ : Kind) (w ω : ℕ) (q : Queue) (m : List ℕ) (i : ℕ) (l : Line) → isRefused (lineStep κ w ω q m i l .answer) ≡ false
 unfolding lineStep
-line-answers κ w q m i Idle = refl
-line-answers κ w q m i (PutRead t) = refl
-line-answers κ w q m i (PutTail t h) = refl
-line-answers κ w q m i (PutTest t r) = refl
-line-answers κ w q m i (PutNumber t r) = refl
-line-answers κ w q m i (PutPayload t r) = refl
-line-answers κ w q m i (PutFinish t r) = refl
-line-answers κ w q m i (Claim t) = either (fits q m) _ _ refl refl
-line-answers κ w q m i (Note t) = refl
-line-answers κ w q m i (Copy t h j k) = refl
-line-answers κ w q m i (Publish t) = refl
-line-answers κ w q m i TakeRead = refl
-line-answers κ w q m i (TakeTail h) = refl
-line-answers κ w q m i (TakeTest r) = either (isEmpty κ r) _ _ refl refl
-line-answers κ w q m i (TakeNumber r) = refl
-line-answers κ w q m i (TakePayload r x) = refl
-line-answers κ w q m i (TakeFinish r t) = refl
-line-answers κ w q m i StealRead = refl
-line-answers κ w q m i (StealTail h) = refl
-line-answers κ w q m i (StealTest r) = either (isEmpty κ r) _ _ refl refl
-line-answers κ w q m i (StealNote r) = refl
-line-answers κ w q m i (StealNumber r k) = refl
-line-answers κ w q m i (StealPayload r k x) = refl
-line-answers κ w q m i (StealNext r t) = refl
-line-answers κ w q m i (StealCompare r e t) = either (isSame κ (q .anchor) r) _ _ refl refl
+line-answers κ w ω q m i Idle = refl
+line-answers κ w ω q m i (PutRead t) = refl
+line-answers κ w ω q m i (PutTail t h) = refl
+line-answers κ w ω q m i (PutTest t r) = refl
+line-answers κ w ω q m i (PutWord t r j) = refl
+line-answers κ w ω q m i (PutFinish t r) = refl
+line-answers κ w ω q m i (Claim t) = either (fits ω q m) _ _ refl refl
+line-answers κ w ω q m i (Note t) = refl
+line-answers κ w ω q m i (Copy t h j k) = refl
+line-answers κ w ω q m i (Publish t) = refl
+line-answers κ w ω q m i TakeRead = refl
+line-answers κ w ω q m i (TakeTail h) = refl
+line-answers κ w ω q m i (TakeTest r) = either (isEmpty κ r) _ _ refl refl
+line-answers κ w ω q m i (TakeWord r t j) = refl
+line-answers κ w ω q m i (TakeFinish r t) = refl
+line-answers κ w ω q m i StealRead = refl
+line-answers κ w ω q m i (StealTail h) = refl
+line-answers κ w ω q m i (StealTest r) = either (isEmpty κ r) _ _ refl refl
+line-answers κ w ω q m i (StealNote r) = refl
+line-answers κ w ω q m i (StealWord r k t j) = refl
+line-answers κ w ω q m i (StealNext r t) = refl
+line-answers κ w ω q m i (StealCompare r e t) = either (isSame κ (q .anchor) r) _ _ refl refl
 
 begin-answers : (op : Operation) (u : ℕ) → isRefused (beginAnswer op u) ≡ false
 begin-answers (Put p) u = refl
@@ -76,7 +73,7 @@ no-refusal a p q = let z : _≡_ {A = Bool} (isRefused a) true = ap isRefused q 
 
 not-foreign : (U : World) (c : Call) → validOf U ≡ true → NotForeign (callOf U c)
 not-foreign U c ok =
-    call-cases NotForeign U lawful (λ i op B. no-refusal _ (begin-answers op (U .bench .used))) (λ i M. no-refusal _ (line-answers _ _ _ _ i (lineAt (U .bench .workers) i))) c
+    call-cases NotForeign U lawful (λ i op B. no-refusal _ (begin-answers op (U .bench .used))) (λ i M. no-refusal _ (line-answers _ _ _ _ _ i (lineAt (U .bench .workers) i))) c
   where
     lawful : (r : Refusal) → Lawful U r → NotForeign (refuse U r)
     lawful r l q = let s : r ≡ ForeignState = cc in let f = l s in let y : _≡_ {A = ℕ} 0 1 = cc in omega arith

@@ -12,7 +12,8 @@ use Rattle.model.specs.declared.Kind.the-variants.{Lifo, Fifo, Deque}
 use Rattle.model.specs.declared.Task.{Task}
 use Rattle.model.specs.declared.Line.{Line}
 use Rattle.model.specs.declared.Queue.{Queue}
-use Rattle.model.specs.Answers.{task}
+use Rattle.model.specs.Tasks.{gathered}
+use Rattle.model.proofs.Tasks.{same-words}
 use Rattle.model.specs.Figures.{slot}
 use Rattle.model.specs.Lines.{off, size}
 use Rattle.model.specs.World.{World}
@@ -32,22 +33,22 @@ use Rattle.theorems.proofs.PutNumbers.{one-number}
 use Rattle.theorems.proofs.Translate.{at-map, at-some, to-ev, from-ev, done-ev, ev-done, ev-began, empty-ev, out-ev, ev-out, ev-attempt, few-ev}
 
 -- an index of the window has a slot of the window
-in-slot : (κ : Kind) (w : ℕ) (Q : Queue) (μ : List ℕ) (o : Line) (φ : ℕ → Line) (h : History) (I : Inv κ w Q μ o φ h) (i : ℕ) → I .lo ≤ i → i < I .hi
-    → (k : ℕ) × (k < tasks κ (Q .anchor)) × (slot κ (size Q) (windowIndex κ (Q .anchor) k) ≡ i % size Q)
-in-slot Lifo w Q μ o φ h I i l u = (i, omega (arith, I .rep .2), sym (mod-eq-of-lt (omega (arith, I .rep .1, I .core .low, I .core .high, I .core .fit))))
-in-slot Fifo w Q μ o φ h I i l u = (i - I .lo, omega (arith, I .rep .0, I .rep .1), ap (λ (x : ℕ). x % size Q) sum)
+in-slot : (κ : Kind) (w ω : ℕ) (Q : Queue) (μ : List ℕ) (o : Line) (φ : ℕ → Line) (h : History) (I : Inv κ w ω Q μ o φ h) (i : ℕ) → I .lo ≤ i → i < I .hi
+    → (k : ℕ) × (k < tasks κ (Q .anchor)) × (slot κ (size ω Q) (windowIndex κ (Q .anchor) k) ≡ i % size ω Q)
+in-slot Lifo w ω Q μ o φ h I i l u = (i, omega (arith, I .rep .2), sym (mod-eq-of-lt (omega (arith, I .rep .1, I .core .low, I .core .high, I .core .fit))))
+in-slot Fifo w ω Q μ o φ h I i l u = (i - I .lo, omega (arith, I .rep .0, I .rep .1), ap (λ (x : ℕ). x % size ω Q) sum)
   where
     sum : Q .anchor .head + (i - I .lo) ≡ i
     sum = omega (arith, I .rep .0)
-in-slot Deque w Q μ o φ h I i l u = (i - I .lo, omega (arith, I .rep .1), here)
+in-slot Deque w ω Q μ o φ h I i l u = (i - I .lo, omega (arith, I .rep .1), here)
   where
     sum : I .lo + (i - I .lo) ≡ i
     sum = omega arith
 
-    here : (Q .anchor .head + (i - I .lo)) % size Q ≡ i % size Q
+    here : (Q .anchor .head + (i - I .lo)) % size ω Q ≡ i % size ω Q
     here =
         start-ix (I .sized) Deque (Q .anchor .head) (I .lo) (i - I .lo) (omega (arith, I .core .low, I .core .high, I .core .fit)) (I .rep .0)
-        ∙ ap (λ (x : ℕ). x % size Q) sum
+        ∙ ap (λ (x : ℕ). x % size ω Q) sum
 
 -- demand 3
 pub demand3 : NothingLost
@@ -135,6 +136,9 @@ demand3 s m l e cs f =
             before (inr q) = q
             before (inl q) = absurd (apart i t (at-one E k (line-1 i) (finished-put t) (subst (λ (x : ℕ). EventAt E x (line-1 i)) {x = N .0} {y = k} (omega arith) (N .1 .here)) fin))
 
+    v : ℕ
+    v = after U cs .bench .words
+
     Q : Queue
     Q = after U cs .bench .queue
 
@@ -142,7 +146,7 @@ demand3 s m l e cs f =
     μ = after U cs .store
 
     keep : (t : Task)
-        → Out t (rev E []) ⊎ ((i : ℕ) × (R .0 .lo ≤ i) × (i < R .0 .hi) × (task (cell μ (off Q) (size Q) i 0) (cell μ (off Q) (size Q) i 1) ≡ t))
+        → Out t (rev E []) ⊎ ((i : ℕ) × (R .0 .lo ≤ i) × (i < R .0 .hi) × (gathered (v + 1) (cell v μ (off Q) (size v Q) i) ≡ t))
         → ((k : ℕ) × At T k (HandsOut t)) ⊎ Stands (after U cs) t
     keep t (inl (i, d)) = inl (some (rev-at E [] (handed-out i t) d))
       where
@@ -150,10 +154,5 @@ demand3 s m l e cs f =
         some (inl (k, a)) = (k, at-map T k (λ s. event-at s ≡ handed-out i t) (HandsOut t) (ev-out i t) (from-ev T k (handed-out i t) a))
         some (inr r) = absurd (List·Memᴰ·not-nil r)
     keep t (inr (i, l, u, x)) =
-        let S = in-slot _ _ _ _ _ _ _ (R .0) i l u in
-        inr (
-          S .0,
-          S .1,
-          word-W μ (off Q) (size Q) _ i 0 (S .2) ∙ ap (λ (t : Task). t .number) x,
-          word-W μ (off Q) (size Q) _ i 1 (S .2) ∙ ap (λ (t : Task). t .payload) x,
-        )
+        let S = in-slot _ _ _ _ _ _ _ _ (R .0) i l u in
+        inr (S .0, S .1, same-words (v + 1) _ _ (λ j h. word-W v μ (off Q) (size v Q) _ i j (S .2)) ∙ x)

@@ -1,12 +1,13 @@
 -- FIFO: put numbers rise with the index, and a hand-out below the highest index ever handed out is a repeat.
 use mathlib.Core.Path.{_≡_, refl, sym, _∙_, subst}
 use mathlib.Core.Logic.{_⊎_, inl, inr}
-use mathlib.Core.List.{List, [], _∷_, List·Memᴰ, List·Memᴰ·head, List·Memᴰ·tail, List·Memᴰ·not-nil, List·Memᴰ·cases-cons}
+use mathlib.Core.List.{[], _∷_, List·Memᴰ, List·Memᴰ·head, List·Memᴰ·tail, List·Memᴰ·not-nil, List·Memᴰ·cases-cons}
 use Prim.Native.Nat.{ℕ, _+_, _≤_, _<_}
 use native.Mathlib.Omega.{arith}
 use Rattle.model.specs.declared.Kind.{Kind}
 use Rattle.model.specs.declared.Kind.the-variants.{Lifo, Fifo, Deque}
 use Rattle.model.specs.declared.Task.{Task}
+use Rattle.model.proofs.Tasks.{number-gathered}
 use Rattle.theorems.proofs.Remainders.{le-or-lt}
 use Rattle.theorems.proofs.Events.{Event, quiet, line-1, finished-put, handed-out, failed-compare, found-empty, began-put, found-full, History}
 use Rattle.theorems.proofs.Window.{View, word, taskAt, Plain}
@@ -137,7 +138,7 @@ order-view Deque v lo h v′ l e same R = tt
 -- a put ends: its number is larger than all finished before
 pub rising-put : {v : View} {lo : ℕ} {h : History} (t : Task) → ((u : Task) → List·Memᴰ (finished-put u) h → u .number < t .number)
     → ((i : ℕ) → v .own-lo ≤ i → i < v .own-hi → List·Memᴰ (finished-put (taskAt v i)) h) → word v (v .own-hi) 0 ≡ t .number → Rising v lo h
-    → Rising (record { store = v .store; base = v .base; slots = v .slots; directory = v .directory; published = v .published; own-lo = v .own-lo; own-hi = v .own-hi + 1 }) lo (finished-put t ∷ h)
+    → Rising (record { words = v .words; store = v .store; base = v .base; slots = v .slots; directory = v .directory; published = v .published; own-lo = v .own-lo; own-hi = v .own-hi + 1 }) lo (finished-put t ∷ h)
 rising-put {v} {lo} {h} t newer whole is R =
     record {
       top = R .top;
@@ -159,16 +160,16 @@ rising-put {v} {lo} {h} t newer whole is R =
     climb : (i j : ℕ) → v .own-lo ≤ i → i < j → j < v .own-hi + 1 → (v .own-hi ≤ j) ⊎ (j < v .own-hi) → word v i 0 < word v j 0
     climb i j p q r (inr x) = R .rise i j p q x
     climb i j p q r (inl x) =
-        subst (λ (k : ℕ). word v i 0 < word v k 0) {x = v .own-hi} {y = j} (omega arith) (omega (arith, is, newer (taskAt v i) (whole i p (omega arith))))
+        subst (λ (k : ℕ). word v i 0 < word v k 0) {x = v .own-hi} {y = j} (omega arith) (omega (arith, is, newer (taskAt v i) (whole i p (omega arith)), number-gathered (v .words) (word v i)))
 
 -- index n is handed out, at or below the head; the head comes to be n + 1
 pub rising-out : {v : View} {lo : ℕ} {h : History} (k n own-lo : ℕ) (t : Task) → v .own-lo ≤ n → n ≤ lo → n < v .own-hi → v .own-lo ≤ own-lo
     → t .number ≡ word v n 0 → List·Memᴰ (finished-put t) h → Rising v lo h
-    → Rising (record { store = v .store; base = v .base; slots = v .slots; directory = v .directory; published = v .published; own-lo = own-lo; own-hi = v .own-hi }) (n + 1) (handed-out k t ∷ h)
+    → Rising (record { words = v .words; store = v .store; base = v .base; slots = v .slots; directory = v .directory; published = v .published; own-lo = own-lo; own-hi = v .own-hi }) (n + 1) (handed-out k t ∷ h)
 rising-out {v} {lo} {h} k n own-lo t l u r up is done R = go (le-or-lt (R .top) n)
   where
     v′ : View
-    v′ = record { store = v .store; base = v .base; slots = v .slots; directory = v .directory; published = v .published; own-lo = own-lo; own-hi = v .own-hi }
+    v′ = record { words = v .words; store = v .store; base = v .base; slots = v .slots; directory = v .directory; published = v .published; own-lo = own-lo; own-hi = v .own-hi }
 
     e : Event
     e = handed-out k t

@@ -1,7 +1,7 @@
 -- The owner's steps by what they change.
 use mathlib.Core.Path.{_≡_, refl}
 use mathlib.Core.List.{List, _∷_}
-use Prim.Native.Nat.{ℕ, suc, _≤_, _<_}
+use Prim.Native.Nat.{ℕ, suc, _+_, _≤_, _<_}
 use native.Mathlib.Omega.{arith}
 use lib.ListN.{length, getD}
 use Rattle.model.specs.declared.Kind.{Kind}
@@ -18,14 +18,14 @@ use Rattle.theorems.proofs.Seen.{frame-same, frame-store}
 use Rattle.theorems.proofs.Invariant.{view, OwnerOk, Inv, Calm, move-calm, thief-holds, tops-refl, grow-same, grow-read}
 
 -- the owner's line o leaves E
-abbrev pub Kept : Kind → ℕ → (ℕ → Line) → History → Line → Effect → Type 0
-Kept κ w φ h o E =
-    Inv κ w (E .queue) (E .store) (E .line) φ (event-of (step 0) o (E .answer) ∷ h) × GoodEvent (event-of (step 0) o (E .answer)) h
+abbrev pub Kept : Kind → ℕ → ℕ → (ℕ → Line) → History → Line → Effect → Type 0
+Kept κ w ω φ h o E =
+    Inv κ w ω (E .queue) (E .store) (E .line) φ (event-of ω (step 0) o (E .answer) ∷ h) × GoodEvent (event-of ω (step 0) o (E .answer)) h
 
 -- a line that changes only what the owner has read
-pub own-same : (κ : Kind) (w : ℕ) (Q : Queue) (μ : List ℕ) (φ : ℕ → Line) (h : History) (o o′ : Line) (e : Event) → Plain e → ((k : ℕ) → Calm (suc k) e)
-    → (I : Inv κ w Q μ o φ h) → OwnerOk κ (view Q μ (I .own-lo) (I .own-hi)) (Q .anchor .tag) (e ∷ h) o′ → Inv κ w Q μ o′ φ (e ∷ h)
-own-same κ w Q μ φ h o o′ e nd c I k =
+pub own-same : (κ : Kind) (w ω : ℕ) (Q : Queue) (μ : List ℕ) (φ : ℕ → Line) (h : History) (o o′ : Line) (e : Event) → Plain e → ((k : ℕ) → Calm (suc k) e)
+    → (I : Inv κ w ω Q μ o φ h) → OwnerOk κ (view ω Q μ (I .own-lo) (I .own-hi)) (Q .anchor .tag) (e ∷ h) o′ → Inv κ w ω Q μ o′ φ (e ∷ h)
+own-same κ w ω Q μ φ h o o′ e nd c I k =
     record {
       lo = I .lo;
       hi = I .hi;
@@ -34,7 +34,7 @@ own-same κ w Q μ φ h o o′ e nd c I k =
       rep = I .rep;
       tops = I .tops;
       core = core-ev e (plain-done e nd) (I .core);
-      order = order-ev κ (view Q μ (I .own-lo) (I .own-hi)) (I .lo) h e (plain-out e nd) (I .order);
+      order = order-ev κ (view ω Q μ (I .own-lo) (I .own-hi)) (I .lo) h e (plain-out e nd) (I .order);
       sized = I .sized;
       room = I .room;
       tag = I .tag;
@@ -44,12 +44,12 @@ own-same κ w Q μ φ h o o′ e nd c I k =
     }
   where
     v : View
-    v = view Q μ (I .own-lo) (I .own-hi)
+    v = view ω Q μ (I .own-lo) (I .own-hi)
 
 -- a line that reads the window
-pub own-read : (κ : Kind) (w : ℕ) (Q : Queue) (μ : List ℕ) (φ : ℕ → Line) (h : History) (o o′ : Line) (e : Event) → Plain e → ((k : ℕ) → Calm (suc k) e)
-    → (I : Inv κ w Q μ o φ h) → OwnerOk κ (view Q μ (I .lo) (I .hi)) (Q .anchor .tag) (e ∷ h) o′ → Inv κ w Q μ o′ φ (e ∷ h)
-own-read κ w Q μ φ h o o′ e nd c I k =
+pub own-read : (κ : Kind) (w ω : ℕ) (Q : Queue) (μ : List ℕ) (φ : ℕ → Line) (h : History) (o o′ : Line) (e : Event) → Plain e → ((k : ℕ) → Calm (suc k) e)
+    → (I : Inv κ w ω Q μ o φ h) → OwnerOk κ (view ω Q μ (I .lo) (I .hi)) (Q .anchor .tag) (e ∷ h) o′ → Inv κ w ω Q μ o′ φ (e ∷ h)
+own-read κ w ω Q μ φ h o o′ e nd c I k =
     record {
       lo = I .lo;
       hi = I .hi;
@@ -59,26 +59,26 @@ own-read κ w Q μ φ h o o′ e nd c I k =
       tops = tops-refl κ (I .hi);
       core = core-ev e (plain-done e nd) (core-read (I .core));
       order =
-          order-ev κ (view Q μ (I .lo) (I .hi)) (I .lo) h e (plain-out e nd)
-          (order-view κ (view Q μ (I .own-lo) (I .own-hi)) (I .lo) h (view Q μ (I .lo) (I .hi)) (I .core .low) (I .tops) (λ i p q. refl) (I .order));
+          order-ev κ (view ω Q μ (I .lo) (I .hi)) (I .lo) h e (plain-out e nd)
+          (order-view κ (view ω Q μ (I .own-lo) (I .own-hi)) (I .lo) h (view ω Q μ (I .lo) (I .hi)) (I .core .low) (I .tops) (λ i p q. refl) (I .order));
       sized = I .sized;
       room = I .room;
       tag = I .tag;
       own = k;
       th = λ i.
           thief-holds
-          (move-calm e (c i) (frame-same (view Q μ (I .own-lo) (I .own-hi)) (I .lo) (I .hi) (I .core .low))
-          (grow-read κ (view Q μ (I .own-lo) (I .own-hi)) (view Q μ (I .lo) (I .hi)) (I .hi) refl (I .tops)) (I .core .high)) (φ i) (I .th i);
+          (move-calm e (c i) (frame-same (view ω Q μ (I .own-lo) (I .own-hi)) (I .lo) (I .hi) (I .core .low))
+          (grow-read κ (view ω Q μ (I .own-lo) (I .own-hi)) (view ω Q μ (I .lo) (I .hi)) (I .hi) refl (I .tops)) (I .core .high)) (φ i) (I .th i);
     }
 
 -- a line that stores words outside the owner's window
-pub own-store : (κ : Kind) (w : ℕ) (Q : Queue) (μ : List ℕ) (φ : ℕ → Line) (h : History) (o o′ : Line) (m : List ℕ) (I : Inv κ w Q μ o φ h)
+pub own-store : (κ : Kind) (w ω : ℕ) (Q : Queue) (μ : List ℕ) (φ : ℕ → Line) (h : History) (o o′ : Line) (m : List ℕ) (I : Inv κ w ω Q μ o φ h)
     → length m ≡ length μ
-    → ((i j : ℕ) → I .own-lo ≤ i → i < I .own-hi → j < 2 → cell m (off Q) (size Q) i j ≡ cell μ (off Q) (size Q) i j)
+    → ((i j : ℕ) → I .own-lo ≤ i → i < I .own-hi → j < ω + 1 → cell ω m (off Q) (size ω Q) i j ≡ cell ω μ (off Q) (size ω Q) i j)
     → ((a : ℕ) → a < off Q → getD m a 0 ≡ getD μ a 0)
-    → OwnerOk κ (view Q m (I .own-lo) (I .own-hi)) (Q .anchor .tag) (quiet ∷ h) o′
-    → Inv κ w Q m o′ φ (quiet ∷ h)
-own-store κ w Q μ φ h o o′ m I len same low k =
+    → OwnerOk κ (view ω Q m (I .own-lo) (I .own-hi)) (Q .anchor .tag) (quiet ∷ h) o′
+    → Inv κ w ω Q m o′ φ (quiet ∷ h)
+own-store κ w ω Q μ φ h o o′ m I len same low k =
     record {
       lo = I .lo;
       hi = I .hi;
@@ -86,10 +86,10 @@ own-store κ w Q μ φ h o o′ m I len same low k =
       own-hi = I .own-hi;
       rep = I .rep;
       tops = I .tops;
-      core = core-ev quiet tt (core-words m (Q .arrays) (Q .published) (off Q) (size Q) (I .core) (I .core .fit) same);
+      core = core-ev quiet tt (core-words m (Q .arrays) (Q .published) (off Q) (size ω Q) (I .core) (I .core .fit) same);
       order =
-          order-ev κ (view Q m (I .own-lo) (I .own-hi)) (I .lo) h quiet tt
-          (order-view κ (view Q μ (I .own-lo) (I .own-hi)) (I .lo) h (view Q m (I .own-lo) (I .own-hi)) (omega arith) (tops-refl κ (I .own-hi)) (λ i p q. same i 0 p q (omega arith)) (I .order));
+          order-ev κ (view ω Q m (I .own-lo) (I .own-hi)) (I .lo) h quiet tt
+          (order-view κ (view ω Q μ (I .own-lo) (I .own-hi)) (I .lo) h (view ω Q m (I .own-lo) (I .own-hi)) (omega arith) (tops-refl κ (I .own-hi)) (λ i p q. same i 0 p q (omega arith)) (I .order));
       sized = I .sized;
       room = omega (arith, I .room);
       tag = I .tag;
@@ -98,4 +98,4 @@ own-store κ w Q μ φ h o o′ m I len same low k =
     }
   where
     v : View
-    v = view Q μ (I .own-lo) (I .own-hi)
+    v = view ω Q μ (I .own-lo) (I .own-hi)

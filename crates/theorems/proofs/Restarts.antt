@@ -11,8 +11,7 @@ use Rattle.model.specs.declared.Line.the-variants.{
   PutRead,
   PutTail,
   PutTest,
-  PutNumber,
-  PutPayload,
+  PutWord,
   PutFinish,
   Claim,
   Note,
@@ -21,15 +20,13 @@ use Rattle.model.specs.declared.Line.the-variants.{
   TakeRead,
   TakeTail,
   TakeTest,
-  TakeNumber,
-  TakePayload,
+  TakeWord,
   TakeFinish,
   StealRead,
   StealTail,
   StealTest,
   StealNote,
-  StealNumber,
-  StealPayload,
+  StealWord,
   StealNext,
   StealCompare,
 }
@@ -89,31 +86,28 @@ back false a b e f = f
 
 pub back-to-line-1 : BackToLine1
 unfolding lineStep
-back-to-line-1 κ w q m i Idle = refl
-back-to-line-1 κ w q m i (PutRead t) = put-1 κ (q .anchor) t
-back-to-line-1 κ w q m i (PutTail t h) = refl
-back-to-line-1 κ w q m i (PutTest t r) = either (isFull κ (size q) r) (Claim t) (PutNumber t r) refl refl
-back-to-line-1 κ w q m i (PutNumber t r) = refl
-back-to-line-1 κ w q m i (PutPayload t r) = refl
-back-to-line-1 κ w q m i (PutFinish t r) = refl
-back-to-line-1 κ w q m i (Claim t) = either-left (fits q m) _ _ refl refl
-back-to-line-1 κ w q m i (Note t) = noted κ (size q) (q .anchor) t
-back-to-line-1 κ w q m i (Copy t h n k) = either (eqb (k + 1) n) (Publish t) (Copy t h n (k + 1)) refl refl
-back-to-line-1 κ w q m i (Publish t) = refl
-back-to-line-1 κ w q m i TakeRead = take-1 κ (q .anchor)
-back-to-line-1 κ w q m i (TakeTail h) = refl
-back-to-line-1 κ w q m i (TakeTest r) = either-left (isEmpty κ r) _ _ refl refl
-back-to-line-1 κ w q m i (TakeNumber r) = refl
-back-to-line-1 κ w q m i (TakePayload r n) = refl
-back-to-line-1 κ w q m i (TakeFinish r t) = refl
-back-to-line-1 κ w q m i StealRead = steal-1 κ (q .anchor)
-back-to-line-1 κ w q m i (StealTail h) = refl
-back-to-line-1 κ w q m i (StealTest r) = either-left (isEmpty κ r) _ _ refl refl
-back-to-line-1 κ w q m i (StealNote r) = refl
-back-to-line-1 κ w q m i (StealNumber r k) = refl
-back-to-line-1 κ w q m i (StealPayload r k n) = last κ r _
-back-to-line-1 κ w q m i (StealNext r t) = refl
-back-to-line-1 κ w q m i (StealCompare r e t) = back (isSame κ (q .anchor) r) _ _ refl refl
+back-to-line-1 κ w ω q m i Idle = refl
+back-to-line-1 κ w ω q m i (PutRead t) = put-1 κ (q .anchor) t
+back-to-line-1 κ w ω q m i (PutTail t h) = refl
+back-to-line-1 κ w ω q m i (PutTest t r) = either (isFull κ (size ω q) r) (Claim t) (PutWord t r 0) refl refl
+back-to-line-1 κ w ω q m i (PutWord t r j) = either (eqb j ω) (PutFinish t r) (PutWord t r (j + 1)) refl refl
+back-to-line-1 κ w ω q m i (PutFinish t r) = refl
+back-to-line-1 κ w ω q m i (Claim t) = either-left (fits ω q m) _ _ refl refl
+back-to-line-1 κ w ω q m i (Note t) = noted κ (size ω q) (q .anchor) t
+back-to-line-1 κ w ω q m i (Copy t h n k) = either (eqb (k + 1) n) (Publish t) (Copy t h n (k + 1)) refl refl
+back-to-line-1 κ w ω q m i (Publish t) = refl
+back-to-line-1 κ w ω q m i TakeRead = take-1 κ (q .anchor)
+back-to-line-1 κ w ω q m i (TakeTail h) = refl
+back-to-line-1 κ w ω q m i (TakeTest r) = either-left (isEmpty κ r) _ _ refl refl
+back-to-line-1 κ w ω q m i (TakeWord r t j) = either (eqb j ω) (TakeFinish r _) (TakeWord r _ (j + 1)) refl refl
+back-to-line-1 κ w ω q m i (TakeFinish r t) = refl
+back-to-line-1 κ w ω q m i StealRead = steal-1 κ (q .anchor)
+back-to-line-1 κ w ω q m i (StealTail h) = refl
+back-to-line-1 κ w ω q m i (StealTest r) = either-left (isEmpty κ r) _ _ refl refl
+back-to-line-1 κ w ω q m i (StealNote r) = refl
+back-to-line-1 κ w ω q m i (StealWord r k t j) = either (eqb j ω) (stealLast κ r _) (StealWord r k _ (j + 1)) (last κ r _) refl
+back-to-line-1 κ w ω q m i (StealNext r t) = refl
+back-to-line-1 κ w ω q m i (StealCompare r e t) = back (isSame κ (q .anchor) r) _ _ refl refl
 
 pub restarts-are-failed-compares : RestartsAreFailedCompares
 restarts-are-failed-compares W i =

@@ -6,9 +6,12 @@ use native.Mathlib.Omega.{arith}
 use Rattle.model.specs.declared.Kind.{Kind}
 use Rattle.model.specs.declared.Kind.the-variants.{Lifo, Fifo, Deque}
 use Rattle.model.specs.declared.Line.{Line}
-use Rattle.model.specs.declared.Line.the-variants.{Idle, PutRead, PutTail, PutTest, PutNumber, PutPayload, PutFinish, Claim, Note, Copy, Publish, TakeRead, TakeTail, TakeTest, TakeNumber, TakePayload, TakeFinish, StealRead, StealTail, StealTest, StealNote, StealNumber, StealPayload, StealNext, StealCompare}
+use Rattle.model.specs.declared.Line.the-variants.{Idle, PutRead, PutTail, PutTest, PutWord, PutFinish, Claim, Note, Copy, Publish, TakeRead, TakeTail, TakeTest, TakeWord, TakeFinish, StealRead, StealTail, StealTest, StealNote, StealWord, StealNext, StealCompare}
 use Rattle.model.specs.declared.Queue.{Queue}
 use Rattle.model.specs.declared.Anchor.{Anchor}
+use Rattle.model.specs.declared.Task.{Task}
+use Rattle.model.specs.Tasks.{noTask, wordIn, firstWords, withWord}
+use Rattle.model.proofs.Tasks.{no-words, known-next, number-next}
 use Rattle.model.specs.Tests.{if_then_else_}
 use Rattle.model.specs.Memory.{sizeAt}
 use Rattle.model.specs.Lines.{size}
@@ -87,14 +90,23 @@ After Lifo e = e ≡ 0
 After Fifo e = e ≡ 0
 After Deque e = e < 2048
 
+-- a task of which n words are known
+abbrev pub Known : ℕ → Task → Type 0
+Known n t = (t .number ≤ 65535) × (t ≡ firstWords n t)
+
+pub none-known : Known 0 noTask
+none-known = (omega arith, no-words (wordIn noTask))
+
+pub known-more : (j : ℕ) (t : Task) (x : ℕ) → j < 5 → Known j t → (j ≡ 0 → x ≤ 65535) → Known (j + 1) (withWord t j x)
+known-more j t x h (a, e) f = (number-next j t x a f, known-next j t x h e)
+
 -- a put is open
 abbrev pub pending : Line → ℕ
 pending Idle = 0
 pending (PutRead t) = 1
 pending (PutTail t h) = 1
 pending (PutTest t r) = 1
-pending (PutNumber t r) = 1
-pending (PutPayload t r) = 1
+pending (PutWord t r j) = 1
 pending (PutFinish t r) = 1
 pending (Claim t) = 1
 pending (Note t) = 1
@@ -103,15 +115,13 @@ pending (Publish t) = 1
 pending TakeRead = 0
 pending (TakeTail h) = 0
 pending (TakeTest r) = 0
-pending (TakeNumber r) = 0
-pending (TakePayload r x) = 0
+pending (TakeWord r t j) = 0
 pending (TakeFinish r t) = 0
 pending StealRead = 0
 pending (StealTail h) = 0
 pending (StealTest r) = 0
 pending (StealNote r) = 0
-pending (StealNumber r k) = 0
-pending (StealPayload r k x) = 0
+pending (StealWord r k t j) = 0
 pending (StealNext r t) = 0
 pending (StealCompare r e t) = 0
 
@@ -121,76 +131,71 @@ Spent Lifo c o used = Unit {0}
 Spent Fifo c o used = c + pending o ≤ used
 Spent Deque c o used = Unit {0}
 
-abbrev pub OwnShape : Kind → ℕ → ℕ → ℕ → ℕ → Line → Type 0
-OwnShape κ w z low τ Idle = Unit {0}
-OwnShape κ w z low τ (PutRead t) = t .number ≤ 65535
-OwnShape κ w z low τ (PutTail t h) = (t .number ≤ 65535) × Head κ h low
-OwnShape κ w z low τ (PutTest t r) = (t .number ≤ 65535) × OwnRead κ w z low τ r
-OwnShape κ w z low τ (PutNumber t r) = (t .number ≤ 65535) × OwnRead κ w z low τ r × Room κ z low (r .count)
-OwnShape κ w z low τ (PutPayload t r) = (t .number ≤ 65535) × OwnRead κ w z low τ r × Room κ z low (r .count)
-OwnShape κ w z low τ (PutFinish t r) = (t .number ≤ 65535) × OwnRead κ w z low τ r × Room κ z low (r .count)
-OwnShape κ w z low τ (Claim t) = t .number ≤ 65535
-OwnShape κ w z low τ (Note t) = t .number ≤ 65535
-OwnShape κ w z low τ (Copy t h q k) = (t .number ≤ 65535) × Span κ τ h q × (q ≤ z) × (k < q)
-OwnShape κ w z low τ (Publish t) = t .number ≤ 65535
-OwnShape κ w z low τ TakeRead = Unit {0}
-OwnShape κ w z low τ (TakeTail h) = Head κ h low
-OwnShape κ w z low τ (TakeTest r) = OwnRead κ w z low τ r
-OwnShape κ w z low τ (TakeNumber r) = OwnRead κ w z low τ r × Some κ r
-OwnShape κ w z low τ (TakePayload r x) = OwnRead κ w z low τ r × Some κ r × (x ≤ 65535)
-OwnShape κ w z low τ (TakeFinish r t) = OwnRead κ w z low τ r × Some κ r × (t .number ≤ 65535)
-OwnShape κ w z low τ StealRead = ⊥
-OwnShape κ w z low τ (StealTail h) = ⊥
-OwnShape κ w z low τ (StealTest r) = ⊥
-OwnShape κ w z low τ (StealNote r) = ⊥
-OwnShape κ w z low τ (StealNumber r k) = ⊥
-OwnShape κ w z low τ (StealPayload r k x) = ⊥
-OwnShape κ w z low τ (StealNext r t) = ⊥
-OwnShape κ w z low τ (StealCompare r e t) = ⊥
+abbrev pub OwnShape : Kind → ℕ → ℕ → ℕ → ℕ → ℕ → Line → Type 0
+OwnShape κ w ω z low τ Idle = Unit {0}
+OwnShape κ w ω z low τ (PutRead t) = Known (ω + 1) t
+OwnShape κ w ω z low τ (PutTail t h) = Known (ω + 1) t × Head κ h low
+OwnShape κ w ω z low τ (PutTest t r) = Known (ω + 1) t × OwnRead κ w z low τ r
+OwnShape κ w ω z low τ (PutWord t r j) = Known (ω + 1) t × OwnRead κ w z low τ r × Room κ z low (r .count) × (j ≤ ω)
+OwnShape κ w ω z low τ (PutFinish t r) = Known (ω + 1) t × OwnRead κ w z low τ r × Room κ z low (r .count)
+OwnShape κ w ω z low τ (Claim t) = Known (ω + 1) t
+OwnShape κ w ω z low τ (Note t) = Known (ω + 1) t
+OwnShape κ w ω z low τ (Copy t h q k) = Known (ω + 1) t × Span κ τ h q × (q ≤ z) × (k < q)
+OwnShape κ w ω z low τ (Publish t) = Known (ω + 1) t
+OwnShape κ w ω z low τ TakeRead = Unit {0}
+OwnShape κ w ω z low τ (TakeTail h) = Head κ h low
+OwnShape κ w ω z low τ (TakeTest r) = OwnRead κ w z low τ r
+OwnShape κ w ω z low τ (TakeWord r t j) = OwnRead κ w z low τ r × Some κ r × Known j t × (j ≤ ω)
+OwnShape κ w ω z low τ (TakeFinish r t) = OwnRead κ w z low τ r × Some κ r × Known (ω + 1) t
+OwnShape κ w ω z low τ StealRead = ⊥
+OwnShape κ w ω z low τ (StealTail h) = ⊥
+OwnShape κ w ω z low τ (StealTest r) = ⊥
+OwnShape κ w ω z low τ (StealNote r) = ⊥
+OwnShape κ w ω z low τ (StealWord r k t j) = ⊥
+OwnShape κ w ω z low τ (StealNext r t) = ⊥
+OwnShape κ w ω z low τ (StealCompare r e t) = ⊥
 
-abbrev pub ThiefShape : Kind → ℕ → Queue → ℕ → Line → Type 0
-ThiefShape κ w q τ Idle = Unit {0}
-ThiefShape κ w q τ (PutRead t) = ⊥
-ThiefShape κ w q τ (PutTail t h) = ⊥
-ThiefShape κ w q τ (PutTest t r) = ⊥
-ThiefShape κ w q τ (PutNumber t r) = ⊥
-ThiefShape κ w q τ (PutPayload t r) = ⊥
-ThiefShape κ w q τ (PutFinish t r) = ⊥
-ThiefShape κ w q τ (Claim t) = ⊥
-ThiefShape κ w q τ (Note t) = ⊥
-ThiefShape κ w q τ (Copy t h j k) = ⊥
-ThiefShape κ w q τ (Publish t) = ⊥
-ThiefShape κ w q τ TakeRead = ⊥
-ThiefShape κ w q τ (TakeTail h) = ⊥
-ThiefShape κ w q τ (TakeTest r) = ⊥
-ThiefShape κ w q τ (TakeNumber r) = ⊥
-ThiefShape κ w q τ (TakePayload r x) = ⊥
-ThiefShape κ w q τ (TakeFinish r t) = ⊥
-ThiefShape κ w q τ StealRead = Unit {0}
-ThiefShape κ w q τ (StealTail h) = Early κ τ h
-ThiefShape κ w q τ (StealTest r) = ThiefRead κ w (size q) τ r
-ThiefShape κ w q τ (StealNote r) = ThiefRead κ w (size q) τ r × Some κ r
-ThiefShape κ w q τ (StealNumber r k) = ThiefRead κ w (size q) τ r × Some κ r × (k < q .published) × Slot κ (sizeAt (q .arrays) k) (r .count)
-ThiefShape κ w q τ (StealPayload r k x) = ThiefRead κ w (size q) τ r × Some κ r × (k < q .published) × Slot κ (sizeAt (q .arrays) k) (r .count) × (x ≤ 65535)
-ThiefShape κ w q τ (StealNext r t) = ThiefRead κ w (size q) τ r × Some κ r × Double κ × (t .number ≤ 65535)
-ThiefShape κ w q τ (StealCompare r e t) = ThiefRead κ w (size q) τ r × Some κ r × After κ e × (t .number ≤ 65535)
+abbrev pub ThiefShape : Kind → ℕ → ℕ → Queue → ℕ → Line → Type 0
+ThiefShape κ w ω q τ Idle = Unit {0}
+ThiefShape κ w ω q τ (PutRead t) = ⊥
+ThiefShape κ w ω q τ (PutTail t h) = ⊥
+ThiefShape κ w ω q τ (PutTest t r) = ⊥
+ThiefShape κ w ω q τ (PutWord t r j) = ⊥
+ThiefShape κ w ω q τ (PutFinish t r) = ⊥
+ThiefShape κ w ω q τ (Claim t) = ⊥
+ThiefShape κ w ω q τ (Note t) = ⊥
+ThiefShape κ w ω q τ (Copy t h j k) = ⊥
+ThiefShape κ w ω q τ (Publish t) = ⊥
+ThiefShape κ w ω q τ TakeRead = ⊥
+ThiefShape κ w ω q τ (TakeTail h) = ⊥
+ThiefShape κ w ω q τ (TakeTest r) = ⊥
+ThiefShape κ w ω q τ (TakeWord r t j) = ⊥
+ThiefShape κ w ω q τ (TakeFinish r t) = ⊥
+ThiefShape κ w ω q τ StealRead = Unit {0}
+ThiefShape κ w ω q τ (StealTail h) = Early κ τ h
+ThiefShape κ w ω q τ (StealTest r) = ThiefRead κ w (size ω q) τ r
+ThiefShape κ w ω q τ (StealNote r) = ThiefRead κ w (size ω q) τ r × Some κ r
+ThiefShape κ w ω q τ (StealWord r k t j) =
+    ThiefRead κ w (size ω q) τ r × Some κ r × (k < q .published) × Slot κ (sizeAt ω (q .arrays) k) (r .count) × Known j t × (j ≤ ω)
+ThiefShape κ w ω q τ (StealNext r t) = ThiefRead κ w (size ω q) τ r × Some κ r × Double κ × Known (ω + 1) t
+ThiefShape κ w ω q τ (StealCompare r e t) = ThiefRead κ w (size ω q) τ r × Some κ r × After κ e × Known (ω + 1) t
 
 -- o: the owner's line; φ k: that of thief k + 1
-pub record Shape (κ : Kind) (w used : ℕ) (q : Queue) (m : List ℕ) (o : Line) (φ : ℕ → Line) : Type 0 where
+pub record Shape (κ : Kind) (w ω used : ℕ) (q : Queue) (m : List ℕ) (o : Line) (φ : ℕ → Line) : Type 0 where
   pub low : ℕ
-  pub anchor : Bounded κ w (size q) low (q .anchor)
-  pub arrays : Arrays q m
+  pub anchor : Bounded κ w (size ω q) low (q .anchor)
+  pub arrays : Arrays ω q m
   pub claims : q .claimed ≡ (if isExpanding o then q .published + 1 else q .published)
   pub spent : Spent κ (q .anchor .count) o used
-  pub own : OwnShape κ w (size q) low (tail κ q) o
-  pub th : (k : ℕ) → ThiefShape κ w q (tail κ q) (φ k)
+  pub own : OwnShape κ w ω (size ω q) low (tail κ q) o
+  pub th : (k : ℕ) → ThiefShape κ w ω q (tail κ q) (φ k)
 
 -- a queue that thieves find larger
-pub record Larger (κ : Kind) (q q′ : Queue) : Type 0 where
-  pub sized : size q ≤ size q′
+pub record Larger (κ : Kind) (ω : ℕ) (q q′ : Queue) : Type 0 where
+  pub sized : size ω q ≤ size ω q′
   pub later : tail κ q ≤ tail κ q′
   pub more : q .published ≤ q′ .published
-  pub same : (k : ℕ) → k < q .published → sizeAt (q′ .arrays) k ≡ sizeAt (q .arrays) k
+  pub same : (k : ℕ) → k < q .published → sizeAt ω (q′ .arrays) k ≡ sizeAt ω (q .arrays) k
 
 read-keep : (κ : Kind) (w z z′ τ τ′ : ℕ) (r : Anchor) → z ≤ z′ → τ ≤ τ′ → ThiefRead κ w z τ r → ThiefRead κ w z′ τ′ r
 read-keep Lifo w z z′ τ τ′ r l u (a, b, d) = (a, omega arith, d)
@@ -202,29 +207,26 @@ early-keep Lifo τ τ′ h l e = e
 early-keep Fifo τ τ′ h l e = omega arith
 early-keep Deque τ τ′ h l e = e
 
-pub thief-keep : (κ : Kind) (w : ℕ) (q q′ : Queue) → Larger κ q q′ → (θ : Line) → ThiefShape κ w q (tail κ q) θ → ThiefShape κ w q′ (tail κ q′) θ
-thief-keep κ w q q′ M Idle s = tt
-thief-keep κ w q q′ M (PutRead t) s = absurd s
-thief-keep κ w q q′ M (PutTail t h) s = absurd s
-thief-keep κ w q q′ M (PutTest t r) s = absurd s
-thief-keep κ w q q′ M (PutNumber t r) s = absurd s
-thief-keep κ w q q′ M (PutPayload t r) s = absurd s
-thief-keep κ w q q′ M (PutFinish t r) s = absurd s
-thief-keep κ w q q′ M (Claim t) s = absurd s
-thief-keep κ w q q′ M (Note t) s = absurd s
-thief-keep κ w q q′ M (Copy t h j k) s = absurd s
-thief-keep κ w q q′ M (Publish t) s = absurd s
-thief-keep κ w q q′ M TakeRead s = absurd s
-thief-keep κ w q q′ M (TakeTail h) s = absurd s
-thief-keep κ w q q′ M (TakeTest r) s = absurd s
-thief-keep κ w q q′ M (TakeNumber r) s = absurd s
-thief-keep κ w q q′ M (TakePayload r x) s = absurd s
-thief-keep κ w q q′ M (TakeFinish r t) s = absurd s
-thief-keep κ w q q′ M StealRead s = tt
-thief-keep κ w q q′ M (StealTail h) s = early-keep κ _ _ h (M .later) s
-thief-keep κ w q q′ M (StealTest r) s = read-keep κ w _ _ _ _ r (M .sized) (M .later) s
-thief-keep κ w q q′ M (StealNote r) (ρ, s) = (read-keep κ w _ _ _ _ r (M .sized) (M .later) ρ, s)
-thief-keep κ w q q′ M (StealNumber r k) (ρ, s, p, z) = (read-keep κ w _ _ _ _ r (M .sized) (M .later) ρ, s, omega (arith, M .more), rw (M .same k p) z)
-thief-keep κ w q q′ M (StealPayload r k x) (ρ, s, p, z, u) = (read-keep κ w _ _ _ _ r (M .sized) (M .later) ρ, s, omega (arith, M .more), rw (M .same k p) z, u)
-thief-keep κ w q q′ M (StealNext r t) (ρ, s, d, u) = (read-keep κ w _ _ _ _ r (M .sized) (M .later) ρ, s, d, u)
-thief-keep κ w q q′ M (StealCompare r e t) (ρ, s, d, u) = (read-keep κ w _ _ _ _ r (M .sized) (M .later) ρ, s, d, u)
+pub thief-keep : (κ : Kind) (w ω : ℕ) (q q′ : Queue) → Larger κ ω q q′ → (θ : Line) → ThiefShape κ w ω q (tail κ q) θ → ThiefShape κ w ω q′ (tail κ q′) θ
+thief-keep κ w ω q q′ M Idle s = tt
+thief-keep κ w ω q q′ M (PutRead t) s = absurd s
+thief-keep κ w ω q q′ M (PutTail t h) s = absurd s
+thief-keep κ w ω q q′ M (PutTest t r) s = absurd s
+thief-keep κ w ω q q′ M (PutWord t r j) s = absurd s
+thief-keep κ w ω q q′ M (PutFinish t r) s = absurd s
+thief-keep κ w ω q q′ M (Claim t) s = absurd s
+thief-keep κ w ω q q′ M (Note t) s = absurd s
+thief-keep κ w ω q q′ M (Copy t h j k) s = absurd s
+thief-keep κ w ω q q′ M (Publish t) s = absurd s
+thief-keep κ w ω q q′ M TakeRead s = absurd s
+thief-keep κ w ω q q′ M (TakeTail h) s = absurd s
+thief-keep κ w ω q q′ M (TakeTest r) s = absurd s
+thief-keep κ w ω q q′ M (TakeWord r t j) s = absurd s
+thief-keep κ w ω q q′ M (TakeFinish r t) s = absurd s
+thief-keep κ w ω q q′ M StealRead s = tt
+thief-keep κ w ω q q′ M (StealTail h) s = early-keep κ _ _ h (M .later) s
+thief-keep κ w ω q q′ M (StealTest r) s = read-keep κ w _ _ _ _ r (M .sized) (M .later) s
+thief-keep κ w ω q q′ M (StealNote r) (ρ, s) = (read-keep κ w _ _ _ _ r (M .sized) (M .later) ρ, s)
+thief-keep κ w ω q q′ M (StealWord r k t j) (ρ, s, p, z, u, i) = (read-keep κ w _ _ _ _ r (M .sized) (M .later) ρ, s, omega (arith, M .more), rw (M .same k p) z, u, i)
+thief-keep κ w ω q q′ M (StealNext r t) (ρ, s, d, u) = (read-keep κ w _ _ _ _ r (M .sized) (M .later) ρ, s, d, u)
+thief-keep κ w ω q q′ M (StealCompare r e t) (ρ, s, d, u) = (read-keep κ w _ _ _ _ r (M .sized) (M .later) ρ, s, d, u)

@@ -1,5 +1,5 @@
 -- Each line of a thief keeps the invariant; demand 3 over the history newest first.
-use mathlib.Core.Path.{_≡_, refl, sym, _∙_, ap}
+use mathlib.Core.Path.{_≡_, refl, sym, _∙_, ap, subst}
 use mathlib.Core.Bool.{Bool, true, false}
 use mathlib.Core.Logic.{_≢_, _⊎_, inl, inr}
 use mathlib.Core.List.{List, _∷_, List·Memᴰ, List·Memᴰ·head, List·Memᴰ·tail}
@@ -7,38 +7,39 @@ use Prim.Native.Nat.{ℕ, suc, _+_, _-_, _%_, _^_, _≤_, _<_}
 use native.Mathlib.Omega.{arith}
 use native.Mathlib.Nat.{mod-eq-of-lt, add-zero, mod-add-mod}
 use lib.Dec.{eqb}
-use borrow.Author.Tests.{eqb-true}
+use borrow.Author.Tests.{eqb-true, eqb-false}
 use Rattle.model.specs.declared.Kind.{Kind}
 use Rattle.model.specs.declared.Kind.the-variants.{Lifo, Fifo, Deque}
 use Rattle.model.specs.declared.Line.{Line}
-use Rattle.model.specs.declared.Line.the-variants.{Idle, PutRead, PutTail, PutTest, PutNumber, PutPayload, PutFinish, Claim, Note, Copy, Publish, TakeRead, TakeTail, TakeTest, TakeNumber, TakePayload, TakeFinish, StealRead, StealTail, StealTest, StealNote, StealNumber, StealPayload, StealNext, StealCompare}
+use Rattle.model.specs.declared.Line.the-variants.{Idle, PutRead, PutTail, PutTest, PutWord, PutFinish, Claim, Note, Copy, Publish, TakeRead, TakeTail, TakeTest, TakeWord, TakeFinish, StealRead, StealTail, StealTest, StealNote, StealWord, StealNext, StealCompare}
 use Rattle.model.specs.declared.Queue.{Queue}
 use Rattle.model.specs.declared.Answer.the-variants.{GoesOn, HandedOut, Empty}
 use Rattle.model.specs.declared.Task.{Task}
 use Rattle.model.specs.declared.Anchor.{Anchor}
 use Rattle.model.specs.Tests.{if_then_else_, _and_}
-use Rattle.model.specs.Memory.{wordAt, offsetAt, sizeAt}
+use Rattle.model.specs.Memory.{offsetAt, sizeAt}
 use Rattle.model.specs.Calls.{step}
-use Rattle.model.specs.Lines.{Effect, eff, size, anchored, lineStep}
-use Rattle.model.specs.Answers.{task}
-use Rattle.model.specs.Figures.{isSame, stealLast, slot, stealIndex, isEmpty, afterSteal, stealRead, anchor}
+use Rattle.model.specs.Lines.{Effect, eff, size, anchored, wordOf, stealOn, lineStep}
+use Rattle.model.specs.Tasks.{noTask, withWord}
+use Rattle.model.proofs.Tasks.{no-words, next-is, number-gathered}
+use Rattle.model.specs.Figures.{isSame, stealLast, stealIndex, isEmpty, afterSteal, stealRead, anchor}
 use Rattle.theorems.specs.Demand3.{Few}
 use Rattle.model.proofs.Directory.{size-pos, size-le}
 use Rattle.theorems.proofs.Events.{Event, quiet, line-1, handed-out, failed-compare, found-empty, History, Out, puts-since, PremiseAt, GoodEvent, event-of}
 use Rattle.theorems.proofs.Words.{word-W}
 use Rattle.theorems.proofs.Remainders.{le-or-lt, tag-zero, same-head}
 use Rattle.theorems.proofs.Directory.{both}
-use Rattle.theorems.proofs.Window.{taskAt, both-words, View, Plain, plain-done, core-window, core-ev}
+use Rattle.theorems.proofs.Window.{word, taskAt, View, Plain, plain-done, core-window, core-ev}
 use Rattle.theorems.proofs.Order.{Tops, Order, order-ev, plain-out, rising-out}
 use Rattle.theorems.proofs.Seen.{frame-same}
-use Rattle.theorems.proofs.Indices.{StandsFor, Small, steal-ix, empty-yes, empty-no}
-use Rattle.theorems.proofs.Invariant.{view, Hold, Reads, GotV, Next, ThiefOk, Inv, Calm, move-calm, thief-holds, own-keep, emp-now, since-now, emp-calm, grow-same}
+use Rattle.theorems.proofs.Indices.{StandsFor, Small, stolen-ix, steal-ix, empty-yes, empty-no}
+use Rattle.theorems.proofs.Invariant.{view, Hold, stale, Reads, GotV, NotedV, Next, ThiefOk, Inv, Calm, move-calm, thief-holds, own-keep, emp-now, since-now, emp-calm, grow-same}
 
 -- thief k's line θ leaves E: the lines φ′ are as φ but for k's
-abbrev pub ThiefKept : Kind → ℕ → Line → (ℕ → Line) → History → ℕ → Line → Effect → Type 0
-ThiefKept κ w o φ h k θ E =
-    ((φ′ : ℕ → Line) → φ′ k ≡ E .line → ((i : ℕ) → i ≢ k → φ′ i ≡ φ i) → Inv κ w (E .queue) (E .store) o φ′ (event-of (step (suc k)) θ (E .answer) ∷ h))
-    × GoodEvent (event-of (step (suc k)) θ (E .answer)) h
+abbrev pub ThiefKept : Kind → ℕ → ℕ → Line → (ℕ → Line) → History → ℕ → Line → Effect → Type 0
+ThiefKept κ w ω o φ h k θ E =
+    ((φ′ : ℕ → Line) → φ′ k ≡ E .line → ((i : ℕ) → i ≢ k → φ′ i ≡ φ i) → Inv κ w ω (E .queue) (E .store) o φ′ (event-of ω (step (suc k)) θ (E .answer) ∷ h))
+    × GoodEvent (event-of ω (step (suc k)) θ (E .answer)) h
 
 others : (κ : Kind) (w : ℕ) (v : View) (g : ℕ) (h : History) (φ φ′ : ℕ → Line) (k : ℕ) (θ : Line) (e : Event)
     → ((i : ℕ) → i ≢ k → Calm (suc i) e) → φ′ k ≡ θ → ((i : ℕ) → i ≢ k → φ′ i ≡ φ i)
@@ -61,11 +62,11 @@ others κ w v g h φ φ′ k θ e c is rest old new i = go (le-or-lt i k) (le-or
         is-k = omega arith
 
 -- a line that changes only what thief k has read
-pub thief-same : (κ : Kind) (w : ℕ) (Q : Queue) (μ : List ℕ) (o : Line) (φ : ℕ → Line) (h : History) (k : ℕ) (θ : Line) (e : Event)
+pub thief-same : (κ : Kind) (w ω : ℕ) (Q : Queue) (μ : List ℕ) (o : Line) (φ : ℕ → Line) (h : History) (k : ℕ) (θ : Line) (e : Event)
     → Plain e → Calm 0 e → ((i : ℕ) → i ≢ k → Calm (suc i) e)
-    → (I : Inv κ w Q μ o φ h) → ThiefOk κ w (view Q μ (I .own-lo) (I .own-hi)) (Q .anchor .tag) (e ∷ h) (suc k) θ
-    → (φ′ : ℕ → Line) → φ′ k ≡ θ → ((i : ℕ) → i ≢ k → φ′ i ≡ φ i) → Inv κ w Q μ o φ′ (e ∷ h)
-thief-same κ w Q μ o φ h k θ e nd c0 c I new φ′ is rest =
+    → (I : Inv κ w ω Q μ o φ h) → ThiefOk κ w (view ω Q μ (I .own-lo) (I .own-hi)) (Q .anchor .tag) (e ∷ h) (suc k) θ
+    → (φ′ : ℕ → Line) → φ′ k ≡ θ → ((i : ℕ) → i ≢ k → φ′ i ≡ φ i) → Inv κ w ω Q μ o φ′ (e ∷ h)
+thief-same κ w ω Q μ o φ h k θ e nd c0 c I new φ′ is rest =
     record {
       lo = I .lo;
       hi = I .hi;
@@ -74,7 +75,7 @@ thief-same κ w Q μ o φ h k θ e nd c0 c I new φ′ is rest =
       rep = I .rep;
       tops = I .tops;
       core = core-ev e (plain-done e nd) (I .core);
-      order = order-ev κ (view Q μ (I .own-lo) (I .own-hi)) (I .lo) h e (plain-out e nd) (I .order);
+      order = order-ev κ (view ω Q μ (I .own-lo) (I .own-hi)) (I .lo) h e (plain-out e nd) (I .order);
       sized = I .sized;
       room = I .room;
       tag = I .tag;
@@ -83,13 +84,13 @@ thief-same κ w Q μ o φ h k θ e nd c0 c I new φ′ is rest =
     }
 
 -- a steal: the window comes to be [A, C), and t is the task of the index that leaves
-steal-end : (κ : Kind) (w : ℕ) (Q : Queue) (μ : List ℕ) (o : Line) (φ : ℕ → Line) (h : History) (k : ℕ) (r : Anchor) (e : ℕ) (t : Task) (r′ : Anchor) (A C n : ℕ) (I : Inv κ w Q μ o φ h)
+steal-end : (κ : Kind) (w ω : ℕ) (Q : Queue) (μ : List ℕ) (o : Line) (φ : ℕ → Line) (h : History) (k : ℕ) (r : Anchor) (e : ℕ) (t : Task) (r′ : Anchor) (A C n : ℕ) (I : Inv κ w ω Q μ o φ h)
     → I .lo ≤ A → A ≤ C → C ≤ I .hi → I .lo ≤ n → n < I .hi
     → ((i : ℕ) → I .lo ≤ i → i < I .hi → (i < A) ⊎ (C ≤ i) → i ≡ n)
-    → StandsFor κ r′ A C → r′ .tag ≡ Q .anchor .tag → Tops κ C (I .own-hi) → t ≡ taskAt (view Q μ (I .own-lo) (I .own-hi)) n
-    → Order κ (view Q μ (I .own-lo) (I .own-hi)) A (handed-out (suc k) t ∷ h)
-    → ThiefKept κ w o φ h k (StealCompare r e t) (eff (anchored Q r′) μ Idle (HandedOut (suc k) t))
-steal-end κ w Q μ o φ h k r e t r′ A C n I l m u ln un only R eg tops is-t O = (
+    → StandsFor κ r′ A C → r′ .tag ≡ Q .anchor .tag → Tops κ C (I .own-hi) → t ≡ taskAt (view ω Q μ (I .own-lo) (I .own-hi)) n
+    → Order κ (view ω Q μ (I .own-lo) (I .own-hi)) A (handed-out (suc k) t ∷ h)
+    → ThiefKept κ w ω o φ h k (StealCompare r e t) (eff (anchored Q r′) μ Idle (HandedOut (suc k) t))
+steal-end κ w ω Q μ o φ h k r e t r′ A C n I l m u ln un only R eg tops is-t O = (
   λ φ′ is rest. record {
     lo = A;
     hi = C;
@@ -111,17 +112,17 @@ steal-end κ w Q μ o φ h k r e t r′ A C n I l m u ln un only R eg tops is-t 
 )
   where
     leave : (i : ℕ) → I .lo ≤ i → i < I .hi → (i < A) ⊎ (C ≤ i)
-        → Out (taskAt (view Q μ (I .own-lo) (I .own-hi)) i) (handed-out (suc k) t ∷ h)
+        → Out (taskAt (view ω Q μ (I .own-lo) (I .own-hi)) i) (handed-out (suc k) t ∷ h)
     leave i p q z = (suc k, List·Memᴰ·head {x = handed-out (suc k) t} (rw (only i p q z, is-t)))
 
 -- the compare finds the anchor that was read
-steal-wins : (κ : Kind) (w : ℕ) (Q : Queue) (μ : List ℕ) (o : Line) (φ : ℕ → Line) (h : History) (k : ℕ) (r : Anchor) (e : ℕ) (t : Task) → isSame κ (Q .anchor) r ≡ true → (List·Memᴰ (line-1 (suc k)) h → Few κ w (puts-since (suc k) h))
-    → (I : Inv κ w Q μ o φ h) → ThiefOk κ w (view Q μ (I .own-lo) (I .own-hi)) (Q .anchor .tag) h (suc k) (StealCompare r e t)
-    → ThiefKept κ w o φ h k (StealCompare r e t) (eff (anchored Q (afterSteal κ (Q .anchor) r e)) μ Idle (HandedOut (suc k) t))
-steal-wins Lifo w Q μ o φ h k r e t q f I (R, l, G0, G1, N) =
-    steal-end Lifo w Q μ o φ h k r e t _ (I .lo) (I .hi - 1) (R .hi - 1) I (omega (arith, hi-is, lo-is)) (omega (arith, hi-is, lo-is)) (omega (arith, hi-is, lo-is)) (omega (arith, hi-is, lo-is)) (omega (arith, hi-is, lo-is))
+steal-wins : (κ : Kind) (w ω : ℕ) (Q : Queue) (μ : List ℕ) (o : Line) (φ : ℕ → Line) (h : History) (k : ℕ) (r : Anchor) (e : ℕ) (t : Task) → isSame κ (Q .anchor) r ≡ true → (List·Memᴰ (line-1 (suc k)) h → Few κ w (puts-since (suc k) h))
+    → (I : Inv κ w ω Q μ o φ h) → ThiefOk κ w (view ω Q μ (I .own-lo) (I .own-hi)) (Q .anchor .tag) h (suc k) (StealCompare r e t)
+    → ThiefKept κ w ω o φ h k (StealCompare r e t) (eff (anchored Q (afterSteal κ (Q .anchor) r e)) μ Idle (HandedOut (suc k) t))
+steal-wins Lifo w ω Q μ o φ h k r e t q f I (R, l, G, N) =
+    steal-end Lifo w ω Q μ o φ h k r e t _ (I .lo) (I .hi - 1) (R .hi - 1) I (omega (arith, hi-is, lo-is)) (omega (arith, hi-is, lo-is)) (omega (arith, hi-is, lo-is)) (omega (arith, hi-is, lo-is)) (omega (arith, hi-is, lo-is))
     only (R .rep .0, I .rep .1, omega (arith, hi-is, lo-is, I .rep .2)) (sym tag) tt
-    (both-words (G0 none (omega (arith, hi-is, lo-is, I .core .low)) top) (G1 none (omega (arith, hi-is, lo-is, I .core .low)) top)) tt
+    (G none (omega (arith, hi-is, lo-is, I .core .low)) top) tt
   where
     tests : (eqb (Q .anchor .count) (r .count) ≡ true) × (eqb (Q .anchor .tag) (r .tag) ≡ true)
     tests = both (eqb (Q .anchor .count) (r .count)) (eqb (Q .anchor .tag) (r .tag)) q
@@ -144,12 +145,12 @@ steal-wins Lifo w Q μ o φ h k r e t q f I (R, l, G0, G1, N) =
     only : (i : ℕ) → I .lo ≤ i → i < I .hi → (i < I .lo) ⊎ (I .hi - 1 ≤ i) → i ≡ R .hi - 1
     only i a b (inl z) = omega (arith, hi-is)
     only i a b (inr z) = omega (arith, hi-is)
-steal-wins Fifo w Q μ o φ h k r e t q f I (R, l, G0, G1, N) =
-    steal-end Fifo w Q μ o φ h k r e t _ (I .lo + 1) (I .hi) (R .lo) I (omega (arith, lo-is, in-window)) (omega (arith, lo-is, in-window)) (omega (arith, lo-is, in-window)) (omega (arith, lo-is, in-window)) (omega (arith, lo-is, in-window))
+steal-wins Fifo w ω Q μ o φ h k r e t q f I (R, l, G, N) =
+    steal-end Fifo w ω Q μ o φ h k r e t _ (I .lo + 1) (I .hi) (R .lo) I (omega (arith, lo-is, in-window)) (omega (arith, lo-is, in-window)) (omega (arith, lo-is, in-window)) (omega (arith, lo-is, in-window)) (omega (arith, lo-is, in-window))
     only (omega (arith, lo-is, in-window, R .rep .0), I .rep .1) refl (I .tops)
     is-t
     (rising-out (suc k) (I .lo) (I .own-lo) t (I .core .low) (omega arith) (omega (arith, lo-is, top)) (omega arith)
-    (ap (λ (u : Task). u .number) here) (rw here (I .core .whole (I .lo) (I .core .low) (omega (arith, lo-is, top)))) (I .order))
+    (ap (λ (u : Task). u .number) here ∙ number-gathered ω _) (rw here (I .core .whole (I .lo) (I .core .low) (omega (arith, lo-is, top)))) (I .order))
   where
     lo-is : I .lo ≡ R .lo
     lo-is = I .rep .0 ∙ eqb-true (Q .anchor .head) (r .head) q ∙ sym (R .rep .0)
@@ -160,19 +161,19 @@ steal-wins Fifo w Q μ o φ h k r e t q f I (R, l, G0, G1, N) =
     in-window : R .lo < I .hi
     in-window = omega (arith, I .tops)
 
-    is-t : t ≡ taskAt (view Q μ (I .own-lo) (I .own-hi)) (R .lo)
-    is-t = both-words (G0 refl (omega (arith, lo-is, in-window, I .core .low)) top) (G1 refl (omega (arith, lo-is, in-window, I .core .low)) top)
+    is-t : t ≡ taskAt (view ω Q μ (I .own-lo) (I .own-hi)) (R .lo)
+    is-t = G refl (omega (arith, lo-is, in-window, I .core .low)) top
 
-    here : t ≡ taskAt (view Q μ (I .own-lo) (I .own-hi)) (I .lo)
-    here = is-t ∙ ap (λ (x : ℕ). taskAt (view Q μ (I .own-lo) (I .own-hi)) x) (sym lo-is)
+    here : t ≡ taskAt (view ω Q μ (I .own-lo) (I .own-hi)) (I .lo)
+    here = is-t ∙ ap (λ (x : ℕ). taskAt (view ω Q μ (I .own-lo) (I .own-hi)) x) (sym lo-is)
 
     only : (i : ℕ) → I .lo ≤ i → i < I .hi → (i < I .lo + 1) ⊎ (I .hi ≤ i) → i ≡ R .lo
     only i a b (inl z) = omega (arith, lo-is)
     only i a b (inr z) = omega (arith, lo-is)
-steal-wins Deque w Q μ o φ h k r e t q f I (R, l, G0, G1, N) =
-    steal-end Deque w Q μ o φ h k r e t _ (I .lo + 1) (I .hi) (R .lo) I (omega (arith, lo-is, hi-is)) (omega (arith, lo-is, hi-is)) (omega (arith, lo-is, hi-is)) (omega (arith, lo-is, hi-is)) (omega (arith, lo-is, hi-is))
+steal-wins Deque w ω Q μ o φ h k r e t q f I (R, l, G, N) =
+    steal-end Deque w ω Q μ o φ h k r e t _ (I .lo + 1) (I .hi) (R .lo) I (omega (arith, lo-is, hi-is)) (omega (arith, lo-is, hi-is)) (omega (arith, lo-is, hi-is)) (omega (arith, lo-is, hi-is)) (omega (arith, lo-is, hi-is))
     only (head, omega (arith, lo-is, hi-is, R .rep .1)) (sym tag) (I .tops)
-    (both-words (G0 none (omega (arith, lo-is, hi-is, I .core .low)) top) (G1 none (omega (arith, lo-is, hi-is, I .core .low)) top)) tt
+    (G none (omega (arith, lo-is, hi-is, I .core .low)) top) tt
   where
     tests : (eqb (Q .anchor .head) (r .head) ≡ true) × (eqb (Q .anchor .count) (r .count) and eqb (Q .anchor .tag) (r .tag) ≡ true)
     tests = both (eqb (Q .anchor .head) (r .head)) _ q
@@ -210,27 +211,27 @@ steal-wins Deque w Q μ o φ h k r e t q f I (R, l, G0, G1, N) =
     only i a b (inl z) = omega (arith, lo-is)
     only i a b (inr z) = omega (arith, lo-is)
 
-steal-compare : (κ : Kind) (w : ℕ) (Q : Queue) (μ : List ℕ) (o : Line) (φ : ℕ → Line) (h : History) (k : ℕ) (r : Anchor) (e : ℕ) (t : Task) (z : Bool) → isSame κ (Q .anchor) r ≡ z
-    → (I : Inv κ w Q μ o φ h) → ThiefOk κ w (view Q μ (I .own-lo) (I .own-hi)) (Q .anchor .tag) h (suc k) (StealCompare r e t)
+steal-compare : (κ : Kind) (w ω : ℕ) (Q : Queue) (μ : List ℕ) (o : Line) (φ : ℕ → Line) (h : History) (k : ℕ) (r : Anchor) (e : ℕ) (t : Task) (z : Bool) → isSame κ (Q .anchor) r ≡ z
+    → (I : Inv κ w ω Q μ o φ h) → ThiefOk κ w (view ω Q μ (I .own-lo) (I .own-hi)) (Q .anchor .tag) h (suc k) (StealCompare r e t)
     → let R : Effect = (if z then eff (anchored Q (afterSteal κ (Q .anchor) r e)) μ Idle (HandedOut (suc k) t) else eff Q μ StealRead GoesOn) in
-    PremiseAt κ w (event-of (step (suc k)) (StealCompare r e t) (R .answer)) h → ThiefKept κ w o φ h k (StealCompare r e t) R
+    PremiseAt κ w (event-of ω (step (suc k)) (StealCompare r e t) (R .answer)) h → ThiefKept κ w ω o φ h k (StealCompare r e t) R
 unfolding if_then_else_
-steal-compare κ w Q μ o φ h k r e t true q I ok f = steal-wins κ w Q μ o φ h k r e t q f I ok
-steal-compare κ w Q μ o φ h k r e t false q I ok f = (thief-same κ w Q μ o φ h k StealRead (failed-compare (suc k)) tt tt (λ i q. tt) I tt, tt)
+steal-compare κ w ω Q μ o φ h k r e t true q I ok f = steal-wins κ w ω Q μ o φ h k r e t q f I ok
+steal-compare κ w ω Q μ o φ h k r e t false q I ok f = (thief-same κ w ω Q μ o φ h k StealRead (failed-compare (suc k)) tt tt (λ i q. tt) I tt, tt)
 
 -- what a thief has read, after a step that goes on
 soon : (κ : Kind) (w : ℕ) (v : View) (g : ℕ) (h : History) (k : ℕ) (θ : Line) → ThiefOk κ w v g h k θ → ThiefOk κ w v g (quiet ∷ h) k θ
 soon κ w v g h k θ o = thief-holds (move-calm quiet tt (frame-same v (v .own-lo) (v .own-hi) (omega arith)) (grow-same κ v v refl) (omega arith)) θ o
 
 -- the test for EMPTY
-steal-test : (κ : Kind) (w : ℕ) (Q : Queue) (μ : List ℕ) (o : Line) (φ : ℕ → Line) (h : History) (k : ℕ) (r : Anchor) (x : Bool) → isEmpty κ r ≡ x
-    → (I : Inv κ w Q μ o φ h) → ThiefOk κ w (view Q μ (I .own-lo) (I .own-hi)) (Q .anchor .tag) h (suc k) (StealTest r)
-    → ThiefKept κ w o φ h k (StealTest r) (if x then eff Q μ Idle (Empty (suc k)) else eff Q μ (StealNote r) GoesOn)
+steal-test : (κ : Kind) (w ω : ℕ) (Q : Queue) (μ : List ℕ) (o : Line) (φ : ℕ → Line) (h : History) (k : ℕ) (r : Anchor) (x : Bool) → isEmpty κ r ≡ x
+    → (I : Inv κ w ω Q μ o φ h) → ThiefOk κ w (view ω Q μ (I .own-lo) (I .own-hi)) (Q .anchor .tag) h (suc k) (StealTest r)
+    → ThiefKept κ w ω o φ h k (StealTest r) (if x then eff Q μ Idle (Empty (suc k)) else eff Q μ (StealNote r) GoesOn)
 unfolding if_then_else_
-steal-test κ w Q μ o φ h k r true e I (R, E) =
-    (thief-same κ w Q μ o φ h k Idle (found-empty (suc k)) tt tt (λ i q. tt) I tt, (R .begun, E (empty-yes κ r (R .lo) (R .hi) (R .rep) e)))
-steal-test κ w Q μ o φ h k r false e I (R, E) = (
-  thief-same κ w Q μ o φ h k (StealNote r) quiet tt tt (λ i q. tt) I
+steal-test κ w ω Q μ o φ h k r true e I (R, E) =
+    (thief-same κ w ω Q μ o φ h k Idle (found-empty (suc k)) tt tt (λ i q. tt) I tt, (R .begun, E (empty-yes κ r (R .lo) (R .hi) (R .rep) e)))
+steal-test κ w ω Q μ o φ h k r false e I (R, E) = (
+  thief-same κ w ω Q μ o φ h k (StealNote r) quiet tt tt (λ i q. tt) I
       (soon κ w _ (Q .anchor .tag) h (suc k) (StealNote r) (R, empty-no κ r (R .lo) (R .hi) (R .rep) (R .le) e)),
   tt,
 )
@@ -239,13 +240,13 @@ steal-test κ w Q μ o φ h k r false e I (R, E) = (
 tag-now : (w : ℕ) (Q : Queue) (h : History) (k : ℕ) → Q .anchor .tag < 2 ^ w → Q .anchor .tag ≡ (Q .anchor .tag + puts-since (suc k) (line-1 (suc k) ∷ h)) % 2 ^ w
 tag-now w Q h k l = rw (since-now (suc k) h, add-zero, mod-eq-of-lt l)
 
-steal-read : (κ : Kind) (w : ℕ) (Q : Queue) (μ : List ℕ) (o : Line) (φ : ℕ → Line) (h : History) (k : ℕ) (I : Inv κ w Q μ o φ h)
-    → ThiefOk κ w (view Q μ (I .own-lo) (I .own-hi)) (Q .anchor .tag) (line-1 (suc k) ∷ h) (suc k) (stealRead κ (Q .anchor))
-steal-read Lifo w Q μ o φ h k I =
+steal-read : (κ : Kind) (w ω : ℕ) (Q : Queue) (μ : List ℕ) (o : Line) (φ : ℕ → Line) (h : History) (k : ℕ) (I : Inv κ w ω Q μ o φ h)
+    → ThiefOk κ w (view ω Q μ (I .own-lo) (I .own-hi)) (Q .anchor .tag) (line-1 (suc k) ∷ h) (suc k) (stealRead κ (Q .anchor))
+steal-read Lifo w ω Q μ o φ h k I =
     (record { lo = I .lo; hi = I .hi; rep = I .rep; le = I .core .mid; begun = List·Memᴰ·head refl; tag = (I .tag, tag-now w Q h k (I .tag)); hold = omega (arith, I .core .high, I .core .fit, I .core .low, I .rep .1) }, emp-now (suc k) (I .core))
-steal-read Fifo w Q μ o φ h k I =
+steal-read Fifo w ω Q μ o φ h k I =
     (tt, I .hi, omega (arith, I .rep .0, I .core .mid), I .core .high, (λ e. emp-now (suc k) (I .core) (I .rep .0 ∙ e)), List·Memᴰ·head refl)
-steal-read Deque w Q μ o φ h k I = (
+steal-read Deque w ω Q μ o φ h k I = (
   record {
     lo = I .lo;
     hi = I .hi;
@@ -259,30 +260,45 @@ steal-read Deque w Q μ o φ h k I = (
 )
 
 -- FIFO's line 2
-steal-tail : (κ : Kind) (w : ℕ) (Q : Queue) (μ : List ℕ) (o : Line) (φ : ℕ → Line) (h : History) (k a : ℕ) (I : Inv κ w Q μ o φ h)
-    → ThiefOk κ w (view Q μ (I .own-lo) (I .own-hi)) (Q .anchor .tag) h (suc k) (StealTail a)
-    → ThiefOk κ w (view Q μ (I .own-lo) (I .own-hi)) (Q .anchor .tag) (quiet ∷ h) (suc k) (StealTest (anchor a (Q .anchor .count) (Q .anchor .tag)))
-steal-tail Lifo w Q μ o φ h k a I ok = absurd (ok .0)
-steal-tail Fifo w Q μ o φ h k a I (f, e, p, q, E, b) = (
+steal-tail : (κ : Kind) (w ω : ℕ) (Q : Queue) (μ : List ℕ) (o : Line) (φ : ℕ → Line) (h : History) (k a : ℕ) (I : Inv κ w ω Q μ o φ h)
+    → ThiefOk κ w (view ω Q μ (I .own-lo) (I .own-hi)) (Q .anchor .tag) h (suc k) (StealTail a)
+    → ThiefOk κ w (view ω Q μ (I .own-lo) (I .own-hi)) (Q .anchor .tag) (quiet ∷ h) (suc k) (StealTest (anchor a (Q .anchor .count) (Q .anchor .tag)))
+steal-tail Lifo w ω Q μ o φ h k a I ok = absurd (ok .0)
+steal-tail Fifo w ω Q μ o φ h k a I (f, e, p, q, E, b) = (
   record { lo = a; hi = Q .anchor .count; rep = (refl, refl); le = up; begun = List·Memᴰ·tail b; tag = tt; hold = omega (arith, I .rep .1, I .tops) },
   λ x. emp-calm (suc k) h quiet tt (E (omega (arith, I .rep .1, I .tops))),
 )
   where
     up : a ≤ Q .anchor .count
     up = omega (arith, I .rep .1, I .tops)
-steal-tail Deque w Q μ o φ h k a I ok = absurd (ok .0)
+steal-tail Deque w ω Q μ o φ h k a I ok = absurd (ok .0)
 
-small-now : (κ : Kind) (Q : Queue) (lo hi : ℕ) (v : View) (d : ℕ) → Hold κ v d lo hi → v .slots ≡ size Q → Small κ (size Q) hi
-small-now Lifo Q lo hi v d H e = omega arith
-small-now Fifo Q lo hi v d H e = tt
-small-now Deque Q lo hi v d H e = tt
+small-now : (κ : Kind) (ω : ℕ) (Q : Queue) (lo hi : ℕ) (v : View) (d : ℕ) → Hold κ v d lo hi → v .slots ≡ size ω Q → Small κ (size ω Q) hi
+small-now Lifo ω Q lo hi v d H e = omega arith
+small-now Fifo ω Q lo hi v d H e = tt
+small-now Deque ω Q lo hi v d H e = tt
 
--- both words are read
-steal-words : (κ : Kind) (w : ℕ) (v : View) (gc : ℕ) (h : History) (k : ℕ) (r : Anchor) (t : Task) (R : Reads κ w v gc h k r) → R .lo < R .hi
-    → GotV κ w v gc h k r R 0 (t .number) → GotV κ w v gc h k r R 1 (t .payload) → ThiefOk κ w v gc h k (stealLast κ r t)
-steal-words Lifo w v gc h k r t R l G G′ = (R, l, G, G′, tt)
-steal-words Fifo w v gc h k r t R l G G′ = (R, l, G, G′, tt)
-steal-words Deque w v gc h k r t R l G G′ = (R, l, G, G′)
+-- word j is read; after the last one the compare is near
+steal-on : (κ : Kind) (w ω : ℕ) (v : View) (g : ℕ) (h : History) (k : ℕ) (r : Anchor) (b : ℕ) (t : Task) (x j : ℕ) (z : Bool) → eqb j ω ≡ z → ω ≤ 4 → v .words ≡ ω
+    → (R : Reads κ w v g h k r) → R .lo < R .hi → NotedV κ w v g h k r R b → j ≤ v .words → GotV κ w v g h k r R j t
+    → (stale κ (puts-since k h) ≡ 0 → v .own-lo ≤ stolen-ix κ (R .lo) (R .hi) → stolen-ix κ (R .lo) (R .hi) < v .own-hi → x ≡ word v (stolen-ix κ (R .lo) (R .hi)) j)
+    → ThiefOk κ w v g h k (if z then stealLast κ r (withWord t j x) else StealWord r b (withWord t j x) (j + 1))
+unfolding if_then_else_
+steal-on κ w ω v g h k r b t x j z e wide q R l N u G is = go z e
+  where
+    more : GotV κ w v g h k r R (j + 1) (withWord t j x)
+    more s p o = next-is j t x _ (G s p o) (is s p o) (omega arith)
+
+    last : (κ′ : Kind) → κ ≡ κ′ → GotV κ w v g h k r R (v .words + 1) (withWord t j x) → ThiefOk κ w v g h k (stealLast κ′ r (withWord t j x))
+    last Lifo q G = (R, l, G, rw q tt)
+    last Fifo q G = (R, l, G, rw q tt)
+    last Deque q G = (R, l, G)
+
+    go : (z : Bool) → eqb j ω ≡ z → ThiefOk κ w v g h k (if z then stealLast κ r (withWord t j x) else StealWord r b (withWord t j x) (j + 1))
+    go true e =
+        last κ refl
+        (subst (λ (n : ℕ). GotV κ w v g h k r R (n + 1) (withWord t j x)) (eqb-true j ω e ∙ sym q) more)
+    go false e = (R, l, N, omega (arith, eqb-false j ω e), more)
 
 -- double-ended line 5
 steal-next : (κ : Kind) (a : ℕ) → Next κ a ((a + 1) % 2048)
@@ -290,51 +306,44 @@ steal-next Lifo a = tt
 steal-next Fifo a = tt
 steal-next Deque a = refl
 
-pub thief-kept : (κ : Kind) (w : ℕ) (Q : Queue) (μ : List ℕ) (o : Line) (φ : ℕ → Line) (h : History) (k : ℕ) (θ : Line) (I : Inv κ w Q μ o φ h) → ThiefOk κ w (view Q μ (I .own-lo) (I .own-hi)) (Q .anchor .tag) h (suc k) θ → 0 < Q .published
-    → PremiseAt κ w (event-of (step (suc k)) θ (lineStep κ w Q μ (suc k) θ .answer)) h → ThiefKept κ w o φ h k θ (lineStep κ w Q μ (suc k) θ)
+pub thief-kept : (κ : Kind) (w ω : ℕ) (Q : Queue) (μ : List ℕ) (o : Line) (φ : ℕ → Line) (h : History) (k : ℕ) (θ : Line) (I : Inv κ w ω Q μ o φ h) → ThiefOk κ w (view ω Q μ (I .own-lo) (I .own-hi)) (Q .anchor .tag) h (suc k) θ → 0 < Q .published → ω ≤ 4
+    → PremiseAt κ w (event-of ω (step (suc k)) θ (lineStep κ w ω Q μ (suc k) θ .answer)) h → ThiefKept κ w ω o φ h k θ (lineStep κ w ω Q μ (suc k) θ)
 unfolding lineStep
-thief-kept κ w Q μ o φ h k Idle I ok pos f = (thief-same κ w Q μ o φ h k Idle quiet tt tt (λ i q. tt) I tt, tt)
-thief-kept κ w Q μ o φ h k StealRead I ok pos f =
-    (thief-same κ w Q μ o φ h k (stealRead κ (Q .anchor)) (line-1 (suc k)) tt (omega arith) (λ i ne. omega arith) I (steal-read κ w Q μ o φ h k I), tt)
-thief-kept κ w Q μ o φ h k (StealTail a) I ok pos f = (thief-same κ w Q μ o φ h k (StealTest (anchor a (Q .anchor .count) (Q .anchor .tag))) quiet tt tt (λ i q. tt) I (steal-tail κ w Q μ o φ h k a I ok), tt)
-thief-kept κ w Q μ o φ h k (StealTest r) I ok pos f = steal-test κ w Q μ o φ h k r (isEmpty κ r) refl I ok
-thief-kept κ w Q μ o φ h k (StealNote r) I (R, l) pos f = (
-  thief-same κ w Q μ o φ h k _ quiet tt tt (λ i q. tt) I
-      (soon κ w _ (Q .anchor .tag) h (suc k) (StealNumber r _) (R, l, (omega arith, (I .sized, small-now κ Q (R .lo) (R .hi) (view Q μ (I .own-lo) (I .own-hi)) _ (R .hold) refl), ((size-pos (I .sized), inl (refl, refl)), λ j q x y z. refl)))),
+thief-kept κ w ω Q μ o φ h k Idle I ok pos wide f = (thief-same κ w ω Q μ o φ h k Idle quiet tt tt (λ i q. tt) I tt, tt)
+thief-kept κ w ω Q μ o φ h k StealRead I ok pos wide f =
+    (thief-same κ w ω Q μ o φ h k (stealRead κ (Q .anchor)) (line-1 (suc k)) tt (omega arith) (λ i ne. omega arith) I (steal-read κ w ω Q μ o φ h k I), tt)
+thief-kept κ w ω Q μ o φ h k (StealTail a) I ok pos wide f = (thief-same κ w ω Q μ o φ h k (StealTest (anchor a (Q .anchor .count) (Q .anchor .tag))) quiet tt tt (λ i q. tt) I (steal-tail κ w ω Q μ o φ h k a I ok), tt)
+thief-kept κ w ω Q μ o φ h k (StealTest r) I ok pos wide f = steal-test κ w ω Q μ o φ h k r (isEmpty κ r) refl I ok
+thief-kept κ w ω Q μ o φ h k (StealNote r) I (R, l) pos wide f = (
+  thief-same κ w ω Q μ o φ h k _ quiet tt tt (λ i q. tt) I
+      (soon κ w _ (Q .anchor .tag) h (suc k) (StealWord r _ noTask 0) (R, l, (omega arith, (I .sized, small-now κ ω Q (R .lo) (R .hi) (view ω Q μ (I .own-lo) (I .own-hi)) _ (R .hold) refl), ((size-pos (I .sized), inl (refl, refl)), λ j q x y z. refl)), omega arith, λ x y z. no-words _)),
   tt,
 )
-thief-kept κ w Q μ o φ h k (StealNumber r b) I (R, l, (p, n, (d, q))) pos f = (
-  thief-same κ w Q μ o φ h k (StealPayload r b (wordAt μ (offsetAt (Q .arrays) b) (slot κ (sizeAt (Q .arrays) b) (stealIndex κ r)) 0)) quiet tt tt (λ i q. tt) I
-      (soon κ w _ (Q .anchor .tag) h (suc k) (StealPayload r b (wordAt μ (offsetAt (Q .arrays) b) (slot κ (sizeAt (Q .arrays) b) (stealIndex κ r)) 0))
-      (R, l, (p, n, (d, q)), λ x y t. word-W μ (offsetAt (Q .arrays) b) (sizeAt (Q .arrays) b) _ _ 0 (steal-ix (n .0) κ r (R .lo) (R .hi) l (n .1) (R .rep)) ∙ q 0 (omega arith) x y t)),
+thief-kept κ w ω Q μ o φ h k (StealWord r b t j) I (R, l, (p, n, (d, q)), u, G) pos wide f =
+    let x = wordOf κ ω Q μ b (stealIndex κ r) j in (
+      thief-same κ w ω Q μ o φ h k (stealOn κ ω r b (withWord t j x) j) quiet tt tt (λ i q. tt) I
+          (soon κ w _ (Q .anchor .tag) h (suc k) (stealOn κ ω r b (withWord t j x) j)
+          (steal-on κ w ω (view ω Q μ (I .own-lo) (I .own-hi)) (Q .anchor .tag) h (suc k) r b t x j (eqb j ω) refl wide refl R l (p, n, (d, q)) u G
+          (λ s y z. word-W ω μ (offsetAt (Q .arrays) b) (sizeAt ω (Q .arrays) b) _ _ j (steal-ix (n .0) κ r (R .lo) (R .hi) l (n .1) (R .rep)) ∙ q j (omega arith) s y z))),
+      tt,
+    )
+thief-kept κ w ω Q μ o φ h k (StealNext r t) I (R, l, G) pos wide f = (
+  thief-same κ w ω Q μ o φ h k _ quiet tt tt (λ i q. tt) I
+      (soon κ w _ (Q .anchor .tag) h (suc k) (StealCompare r _ t) (R, l, G, steal-next κ (r .head))),
   tt,
 )
-thief-kept κ w Q μ o φ h k (StealPayload r b x) I (R, l, (p, n, (d, q)), G) pos f = (
-  thief-same κ w Q μ o φ h k (stealLast κ r (task x (wordAt μ (offsetAt (Q .arrays) b) (slot κ (sizeAt (Q .arrays) b) (stealIndex κ r)) 1))) quiet tt tt (λ i q. tt) I
-      (soon κ w _ (Q .anchor .tag) h (suc k) (stealLast κ r (task x (wordAt μ (offsetAt (Q .arrays) b) (slot κ (sizeAt (Q .arrays) b) (stealIndex κ r)) 1)))
-      (steal-words κ w _ (Q .anchor .tag) h (suc k) r (task x _) R l G
-      (λ x y t. word-W μ (offsetAt (Q .arrays) b) (sizeAt (Q .arrays) b) _ _ 1 (steal-ix (n .0) κ r (R .lo) (R .hi) l (n .1) (R .rep)) ∙ q 1 (omega arith) x y t))),
-  tt,
-)
-thief-kept κ w Q μ o φ h k (StealNext r t) I (R, l, G, G′) pos f = (
-  thief-same κ w Q μ o φ h k _ quiet tt tt (λ i q. tt) I
-      (soon κ w _ (Q .anchor .tag) h (suc k) (StealCompare r _ t) (R, l, G, G′, steal-next κ (r .head))),
-  tt,
-)
-thief-kept κ w Q μ o φ h k (StealCompare r e t) I ok pos f = steal-compare κ w Q μ o φ h k r e t (isSame κ (Q .anchor) r) refl I ok f
-thief-kept κ w Q μ o φ h k (PutRead t) I ok pos f = absurd ok
-thief-kept κ w Q μ o φ h k (PutTail t a) I ok pos f = absurd ok
-thief-kept κ w Q μ o φ h k (PutTest t r) I ok pos f = absurd ok
-thief-kept κ w Q μ o φ h k (PutNumber t r) I ok pos f = absurd ok
-thief-kept κ w Q μ o φ h k (PutPayload t r) I ok pos f = absurd ok
-thief-kept κ w Q μ o φ h k (PutFinish t r) I ok pos f = absurd ok
-thief-kept κ w Q μ o φ h k (Claim t) I ok pos f = absurd ok
-thief-kept κ w Q μ o φ h k (Note t) I ok pos f = absurd ok
-thief-kept κ w Q μ o φ h k (Copy t a q j) I ok pos f = absurd ok
-thief-kept κ w Q μ o φ h k (Publish t) I ok pos f = absurd ok
-thief-kept κ w Q μ o φ h k TakeRead I ok pos f = absurd ok
-thief-kept κ w Q μ o φ h k (TakeTail a) I ok pos f = absurd ok
-thief-kept κ w Q μ o φ h k (TakeTest r) I ok pos f = absurd ok
-thief-kept κ w Q μ o φ h k (TakeNumber r) I ok pos f = absurd ok
-thief-kept κ w Q μ o φ h k (TakePayload r x) I ok pos f = absurd ok
-thief-kept κ w Q μ o φ h k (TakeFinish r t) I ok pos f = absurd ok
+thief-kept κ w ω Q μ o φ h k (StealCompare r e t) I ok pos wide f = steal-compare κ w ω Q μ o φ h k r e t (isSame κ (Q .anchor) r) refl I ok f
+thief-kept κ w ω Q μ o φ h k (PutRead t) I ok pos wide f = absurd ok
+thief-kept κ w ω Q μ o φ h k (PutTail t a) I ok pos wide f = absurd ok
+thief-kept κ w ω Q μ o φ h k (PutTest t r) I ok pos wide f = absurd ok
+thief-kept κ w ω Q μ o φ h k (PutWord t r j) I ok pos wide f = absurd ok
+thief-kept κ w ω Q μ o φ h k (PutFinish t r) I ok pos wide f = absurd ok
+thief-kept κ w ω Q μ o φ h k (Claim t) I ok pos wide f = absurd ok
+thief-kept κ w ω Q μ o φ h k (Note t) I ok pos wide f = absurd ok
+thief-kept κ w ω Q μ o φ h k (Copy t a q j) I ok pos wide f = absurd ok
+thief-kept κ w ω Q μ o φ h k (Publish t) I ok pos wide f = absurd ok
+thief-kept κ w ω Q μ o φ h k TakeRead I ok pos wide f = absurd ok
+thief-kept κ w ω Q μ o φ h k (TakeTail a) I ok pos wide f = absurd ok
+thief-kept κ w ω Q μ o φ h k (TakeTest r) I ok pos wide f = absurd ok
+thief-kept κ w ω Q μ o φ h k (TakeWord r t j) I ok pos wide f = absurd ok
+thief-kept κ w ω Q μ o φ h k (TakeFinish r t) I ok pos wide f = absurd ok

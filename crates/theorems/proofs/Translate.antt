@@ -3,26 +3,27 @@ use mathlib.Core.Path.{_≡_, refl, sym, _∙_, ap, subst}
 use mathlib.Core.Bool.{Bool, true, false, cond}
 use mathlib.Core.Logic.{_⊎_, inl, inr}
 use mathlib.Core.List.{List, [], _∷_}
-use Prim.Native.Nat.{ℕ, zero, suc, _-_, _<_}
+use Prim.Native.Nat.{ℕ, zero, suc, _+_, _-_, _<_}
 use native.Mathlib.Omega.{arith}
 use lib.ListN.{take, drop}
 use Rattle.model.specs.declared.Kind.{Kind}
 use Rattle.model.specs.declared.Line.{Line}
-use Rattle.model.specs.declared.Line.the-variants.{Idle, PutRead, PutTail, PutTest, PutNumber, PutPayload, PutFinish, Claim, Note, Copy, Publish, TakeRead, TakeTail, TakeTest, TakeNumber, TakePayload, TakeFinish, StealRead, StealTail, StealTest, StealNote, StealNumber, StealPayload, StealNext, StealCompare}
+use Rattle.model.specs.declared.Line.the-variants.{Idle, PutRead, PutTail, PutTest, PutWord, PutFinish, Claim, Note, Copy, Publish, TakeRead, TakeTail, TakeTest, TakeWord, TakeFinish, StealRead, StealTail, StealTest, StealNote, StealWord, StealNext, StealCompare}
 use Rattle.model.specs.declared.Queue.{Queue}
 use Rattle.model.specs.declared.Operation.the-variants.{Put, Take, Steal}
 use Rattle.model.specs.declared.Answer.{Answer}
 use Rattle.model.specs.declared.Answer.the-variants.{Accepted, Numbered, GoesOn, Finished, HandedOut, Empty, Full, Refused}
+use Rattle.model.specs.declared.Payload.{Payload}
 use Rattle.model.specs.declared.Task.{Task}
+use Rattle.model.specs.Tasks.{task, firstWords}
 use Rattle.model.specs.declared.Anchor.{Anchor}
 use Rattle.model.specs.declared.Refusal.{Refusal}
 use Rattle.model.specs.Lines.{lineStep}
 use Rattle.model.specs.World.{World, Outcome, lineAt}
 use Rattle.model.specs.Calls.{nextEffect, Call, begin, step, callOf}
 use Rattle.model.specs.Run.{Played, played}
-use Rattle.theorems.specs.Demand3.{Belongs, At, Begins, Finishes, HandsOut, Empties, Line1, Compares, Attempt, finishes, puts, between, Few, FewPuts}
+use Rattle.theorems.specs.Demand3.{At, Begins, Finishes, HandsOut, Empties, Line1, Compares, Attempt, finishes, puts, between, Few, FewPuts}
 use Rattle.theorems.proofs.Events.{Event, quiet, line-1, finished-put, handed-out, failed-compare, found-empty, began-put, found-full, is-line-1, is-compare, event-of-begin, event-of-going-on, event-of-hand-out, event-of}
-use Rattle.theorems.proofs.Window.{both-words}
 use Rattle.theorems.proofs.Places.{EventAt, EventLine1, finishes-put, finished-puts, events-between, EventCompares, EventFew}
 use Rattle.theorems.proofs.Cases.{step-cases}
 use Rattle.theorems.proofs.SoundRun.{workerOf, event-at, events}
@@ -59,53 +60,53 @@ at-true (c ∷ cs) W zero P Q f a = f _ refl a
 at-true (c ∷ cs) W (suc j) P Q f a = at-true cs (callOf W c .world) j P Q f a
 
 -- what an event says of the call
-abbrev Says : Call → Line → Answer → Event → Type 0
-Says c l a quiet = Unit {0}
-Says c l a (line-1 i) = (c ≡ step i) × (is-line-1 l ≡ true) × (a ≡ GoesOn)
-Says c l a (finished-put t) = (i : ℕ) × (a ≡ Finished i t)
-Says c l a (handed-out zero t) = (i : ℕ) × (a ≡ HandedOut i t)
-Says c l a (handed-out (suc k) t) = (i : ℕ) × (a ≡ HandedOut i t) × (c ≡ step (suc k)) × (is-compare l ≡ true)
-Says c l a (failed-compare i) = (c ≡ step i) × (is-compare l ≡ true) × (a ≡ GoesOn)
-Says c l a (found-empty i) = a ≡ Empty i
-Says c l a (began-put t) = (c ≡ begin 0 (Put (t .payload))) × (a ≡ Numbered (t .number))
-Says c l a (found-full t) = Unit {0}
+abbrev Says : ℕ → Call → Line → Answer → Event → Type 0
+Says ω c l a quiet = Unit {0}
+Says ω c l a (line-1 i) = (c ≡ step i) × (is-line-1 l ≡ true) × (a ≡ GoesOn)
+Says ω c l a (finished-put t) = (i : ℕ) × (a ≡ Finished i t)
+Says ω c l a (handed-out zero t) = (i : ℕ) × (a ≡ HandedOut i t)
+Says ω c l a (handed-out (suc k) t) = (i : ℕ) × (a ≡ HandedOut i t) × (c ≡ step (suc k)) × (is-compare l ≡ true)
+Says ω c l a (failed-compare i) = (c ≡ step i) × (is-compare l ≡ true) × (a ≡ GoesOn)
+Says ω c l a (found-empty i) = a ≡ Empty i
+Says ω c l a (began-put t) = (n : ℕ) × (p : Payload) × (c ≡ begin 0 (Put p)) × (a ≡ Numbered n) × (firstWords (ω + 1) (task n p) ≡ t)
+Says ω c l a (found-full t) = Unit {0}
 
-says-go : (i : ℕ) (l : Line) (x y : Bool) → is-line-1 l ≡ x → is-compare l ≡ y → Says (step i) l GoesOn (cond x (line-1 i) (cond y (failed-compare i) quiet))
-says-go i l true y p q = (refl, p, refl)
-says-go i l false true p q = (refl, q, refl)
-says-go i l false false p q = tt
+says-go : (ω i : ℕ) (l : Line) (x y : Bool) → is-line-1 l ≡ x → is-compare l ≡ y → Says ω (step i) l GoesOn (cond x (line-1 i) (cond y (failed-compare i) quiet))
+says-go ω i l true y p q = (refl, p, refl)
+says-go ω i l false true p q = (refl, q, refl)
+says-go ω i l false false p q = tt
 
-says-out : (i : ℕ) (l : Line) (j : ℕ) (t : Task) (y : Bool) → is-compare l ≡ y → Says (step i) l (HandedOut j t) (cond y (handed-out i t) (handed-out 0 t))
-says-out zero l j t true q = (j, refl)
-says-out (suc k) l j t true q = (j, refl, refl, q)
-says-out zero l j t false q = (j, refl)
-says-out (suc k) l j t false q = (j, refl)
+says-out : (ω i : ℕ) (l : Line) (j : ℕ) (t : Task) (y : Bool) → is-compare l ≡ y → Says ω (step i) l (HandedOut j t) (cond y (handed-out i t) (handed-out 0 t))
+says-out ω zero l j t true q = (j, refl)
+says-out ω (suc k) l j t true q = (j, refl, refl, q)
+says-out ω zero l j t false q = (j, refl)
+says-out ω (suc k) l j t false q = (j, refl)
 
-says : (c : Call) (l : Line) (a : Answer) → Says c l a (event-of c l a)
-says c l Accepted = tt
-says (begin zero (Put p)) l (Numbered n) = (refl, refl)
-says (begin (suc k) (Put p)) l (Numbered n) = tt
-says (begin i Take) l (Numbered n) = tt
-says (begin i Steal) l (Numbered n) = tt
-says (step i) l (Numbered n) = tt
-says (begin i op) l GoesOn = tt
-says (step i) l GoesOn = says-go i l (is-line-1 l) (is-compare l) refl refl
-says c l (Finished i t) = (i, refl)
-says (begin i op) l (HandedOut j t) = (j, refl)
-says (step i) l (HandedOut j t) = says-out i l j t (is-compare l) refl
-says c l (Empty i) = refl
-says c l (Full i t) = tt
-says c l (Refused r) = tt
+says : (ω : ℕ) (c : Call) (l : Line) (a : Answer) → Says ω c l a (event-of ω c l a)
+says ω c l Accepted = tt
+says ω (begin zero (Put p)) l (Numbered n) = (n, p, refl, refl, refl)
+says ω (begin (suc k) (Put p)) l (Numbered n) = tt
+says ω (begin i Take) l (Numbered n) = tt
+says ω (begin i Steal) l (Numbered n) = tt
+says ω (step i) l (Numbered n) = tt
+says ω (begin i op) l GoesOn = tt
+says ω (step i) l GoesOn = says-go ω i l (is-line-1 l) (is-compare l) refl refl
+says ω c l (Finished i t) = (i, refl)
+says ω (begin i op) l (HandedOut j t) = (j, refl)
+says ω (step i) l (HandedOut j t) = says-out ω i l j t (is-compare l) refl
+says ω c l (Empty i) = refl
+says ω c l (Full i t) = tt
+says ω c l (Refused r) = tt
 
 abbrev lineOf : Played → Line
 lineOf s = lineAt (s .before .bench .workers) (workerOf (s .call))
 
-pub told : (s : Played) (e : Event) → event-at s ≡ e → Says (s .call) (lineOf s) (s .answer) e
-told s e q = subst (Says (s .call) (lineOf s) (s .answer)) q (says (s .call) (lineOf s) (s .answer))
+pub told : (s : Played) (e : Event) → event-at s ≡ e → Says (s .before .bench .words) (s .call) (lineOf s) (s .answer) e
+told s e q = subst (Says (s .before .bench .words) (s .call) (lineOf s) (s .answer)) q (says (s .before .bench .words) (s .call) (lineOf s) (s .answer))
 
 -- finished, begun, EMPTY
 pub done-ev : (t : Task) (s : Played) → Finishes t s → event-at s ≡ finished-put t
-done-ev t s (i, e) = ap (event-of (s .call) (lineOf s)) e
+done-ev t s (i, e) = ap (event-of (s .before .bench .words) (s .call) (lineOf s)) e
 
 pub ev-done : (t : Task) (s : Played) → event-at s ≡ finished-put t → Finishes t s
 ev-done t s e = told s (finished-put t) e
@@ -114,11 +115,7 @@ pub ev-began : (t : Task) (s : Played) → event-at s ≡ began-put t → Begins
 ev-began t s e = told s (began-put t) e
 
 pub empty-ev : (i : ℕ) (s : Played) → Empties i s → event-at s ≡ found-empty i
-empty-ev i s e = ap (event-of (s .call) (lineOf s)) e
-
--- a pair that belongs to a put is its task
-belongs-is : (u t : Task) → Belongs u t → u ≡ t
-belongs-is u t b = both-words {x = u .number} {x′ = t .number} {y = u .payload} {y′ = t .payload} (b .0) (b .1)
+empty-ev i s e = ap (event-of (s .before .bench .words) (s .call) (lineOf s)) e
 
 -- handed out
 out-is : (c : Call) (l : Line) (t : Task) → (i : ℕ) × (event-of-hand-out c l t ≡ handed-out i t)
@@ -130,11 +127,11 @@ out-is (step i) l t = go (is-compare l)
     go false = (0, refl)
 
 pub out-ev : (t : Task) (s : Played) → HandsOut t s → (i : ℕ) × (event-at s ≡ handed-out i t)
-out-ev t s (j, u, e, b) = let r = out-is (s .call) (lineOf s) t in (r .0, ap (event-of (s .call) (lineOf s)) (e ∙ ap (HandedOut j) (belongs-is u t b)) ∙ r .1)
+out-ev t s (j, e) = let r = out-is (s .call) (lineOf s) t in (r .0, ap (event-of (s .before .bench .words) (s .call) (lineOf s)) e ∙ r .1)
 
 pub ev-out : (i : ℕ) (t : Task) (s : Played) → event-at s ≡ handed-out i t → HandsOut t s
-ev-out zero t s e = let r = told s (handed-out 0 t) e in (r .0, t, r .1, (refl, refl))
-ev-out (suc k) t s e = let r = told s (handed-out (suc k) t) e in (r .0, t, r .1, (refl, refl))
+ev-out zero t s e = let r = told s (handed-out 0 t) e in (r .0, r .1)
+ev-out (suc k) t s e = let r = told s (handed-out (suc k) t) e in (r .0, r .1)
 
 -- line 1
 first-is : (l : Line) → is-line-1 l ≡ true → (l ≡ TakeRead) ⊎ (l ≡ StealRead)
@@ -142,8 +139,7 @@ first-is Idle e = absurd (let z : _≡_ {A = ℕ} 0 1 = cc in omega arith)
 first-is (PutRead t) e = absurd (let z : _≡_ {A = ℕ} 0 1 = cc in omega arith)
 first-is (PutTail t h) e = absurd (let z : _≡_ {A = ℕ} 0 1 = cc in omega arith)
 first-is (PutTest t r) e = absurd (let z : _≡_ {A = ℕ} 0 1 = cc in omega arith)
-first-is (PutNumber t r) e = absurd (let z : _≡_ {A = ℕ} 0 1 = cc in omega arith)
-first-is (PutPayload t r) e = absurd (let z : _≡_ {A = ℕ} 0 1 = cc in omega arith)
+first-is (PutWord t r j) e = absurd (let z : _≡_ {A = ℕ} 0 1 = cc in omega arith)
 first-is (PutFinish t r) e = absurd (let z : _≡_ {A = ℕ} 0 1 = cc in omega arith)
 first-is (Claim t) e = absurd (let z : _≡_ {A = ℕ} 0 1 = cc in omega arith)
 first-is (Note t) e = absurd (let z : _≡_ {A = ℕ} 0 1 = cc in omega arith)
@@ -152,15 +148,13 @@ first-is (Publish t) e = absurd (let z : _≡_ {A = ℕ} 0 1 = cc in omega arith
 first-is TakeRead e = inl refl
 first-is (TakeTail h) e = absurd (let z : _≡_ {A = ℕ} 0 1 = cc in omega arith)
 first-is (TakeTest r) e = absurd (let z : _≡_ {A = ℕ} 0 1 = cc in omega arith)
-first-is (TakeNumber r) e = absurd (let z : _≡_ {A = ℕ} 0 1 = cc in omega arith)
-first-is (TakePayload r x) e = absurd (let z : _≡_ {A = ℕ} 0 1 = cc in omega arith)
+first-is (TakeWord r t j) e = absurd (let z : _≡_ {A = ℕ} 0 1 = cc in omega arith)
 first-is (TakeFinish r t) e = absurd (let z : _≡_ {A = ℕ} 0 1 = cc in omega arith)
 first-is StealRead e = inr refl
 first-is (StealTail h) e = absurd (let z : _≡_ {A = ℕ} 0 1 = cc in omega arith)
 first-is (StealTest r) e = absurd (let z : _≡_ {A = ℕ} 0 1 = cc in omega arith)
 first-is (StealNote r) e = absurd (let z : _≡_ {A = ℕ} 0 1 = cc in omega arith)
-first-is (StealNumber r k) e = absurd (let z : _≡_ {A = ℕ} 0 1 = cc in omega arith)
-first-is (StealPayload r k x) e = absurd (let z : _≡_ {A = ℕ} 0 1 = cc in omega arith)
+first-is (StealWord r k t j) e = absurd (let z : _≡_ {A = ℕ} 0 1 = cc in omega arith)
 first-is (StealNext r t) e = absurd (let z : _≡_ {A = ℕ} 0 1 = cc in omega arith)
 first-is (StealCompare r i t) e = absurd (let z : _≡_ {A = ℕ} 0 1 = cc in omega arith)
 
@@ -169,8 +163,7 @@ compare-is Idle e = absurd (let z : _≡_ {A = ℕ} 0 1 = cc in omega arith)
 compare-is (PutRead t) e = absurd (let z : _≡_ {A = ℕ} 0 1 = cc in omega arith)
 compare-is (PutTail t h) e = absurd (let z : _≡_ {A = ℕ} 0 1 = cc in omega arith)
 compare-is (PutTest t r) e = absurd (let z : _≡_ {A = ℕ} 0 1 = cc in omega arith)
-compare-is (PutNumber t r) e = absurd (let z : _≡_ {A = ℕ} 0 1 = cc in omega arith)
-compare-is (PutPayload t r) e = absurd (let z : _≡_ {A = ℕ} 0 1 = cc in omega arith)
+compare-is (PutWord t r j) e = absurd (let z : _≡_ {A = ℕ} 0 1 = cc in omega arith)
 compare-is (PutFinish t r) e = absurd (let z : _≡_ {A = ℕ} 0 1 = cc in omega arith)
 compare-is (Claim t) e = absurd (let z : _≡_ {A = ℕ} 0 1 = cc in omega arith)
 compare-is (Note t) e = absurd (let z : _≡_ {A = ℕ} 0 1 = cc in omega arith)
@@ -179,15 +172,13 @@ compare-is (Publish t) e = absurd (let z : _≡_ {A = ℕ} 0 1 = cc in omega ari
 compare-is TakeRead e = absurd (let z : _≡_ {A = ℕ} 0 1 = cc in omega arith)
 compare-is (TakeTail h) e = absurd (let z : _≡_ {A = ℕ} 0 1 = cc in omega arith)
 compare-is (TakeTest r) e = absurd (let z : _≡_ {A = ℕ} 0 1 = cc in omega arith)
-compare-is (TakeNumber r) e = absurd (let z : _≡_ {A = ℕ} 0 1 = cc in omega arith)
-compare-is (TakePayload r x) e = absurd (let z : _≡_ {A = ℕ} 0 1 = cc in omega arith)
+compare-is (TakeWord r t j) e = absurd (let z : _≡_ {A = ℕ} 0 1 = cc in omega arith)
 compare-is (TakeFinish r t) e = absurd (let z : _≡_ {A = ℕ} 0 1 = cc in omega arith)
 compare-is StealRead e = absurd (let z : _≡_ {A = ℕ} 0 1 = cc in omega arith)
 compare-is (StealTail h) e = absurd (let z : _≡_ {A = ℕ} 0 1 = cc in omega arith)
 compare-is (StealTest r) e = absurd (let z : _≡_ {A = ℕ} 0 1 = cc in omega arith)
 compare-is (StealNote r) e = absurd (let z : _≡_ {A = ℕ} 0 1 = cc in omega arith)
-compare-is (StealNumber r k) e = absurd (let z : _≡_ {A = ℕ} 0 1 = cc in omega arith)
-compare-is (StealPayload r k x) e = absurd (let z : _≡_ {A = ℕ} 0 1 = cc in omega arith)
+compare-is (StealWord r k t j) e = absurd (let z : _≡_ {A = ℕ} 0 1 = cc in omega arith)
 compare-is (StealNext r t) e = absurd (let z : _≡_ {A = ℕ} 0 1 = cc in omega arith)
 compare-is (StealCompare r i t) e = (r, i, t, refl)
 
@@ -214,13 +205,13 @@ Stepped W i a = ((r : Refusal) × (a ≡ Refused r)) ⊎ (a ≡ nextEffect W i .
 step-answer : (W : World) (i : ℕ) → Stepped W i (callOf W (step i) .answer)
 step-answer W i = step-cases (λ (D : Outcome). Stepped W i (D .answer)) W (λ r l. inl (r, refl)) i (λ M. inr refl)
 
-goes-take : (κ : Kind) (w : ℕ) (q : Queue) (m : List ℕ) (i : ℕ) (l : Line) → l ≡ TakeRead → lineStep κ w q m i l .answer ≡ GoesOn
+goes-take : (κ : Kind) (w ω : ℕ) (q : Queue) (m : List ℕ) (i : ℕ) (l : Line) → l ≡ TakeRead → lineStep κ w ω q m i l .answer ≡ GoesOn
 unfolding lineStep
-goes-take κ w q m i l e = rw e
+goes-take κ w ω q m i l e = rw e
 
-goes-steal : (κ : Kind) (w : ℕ) (q : Queue) (m : List ℕ) (i : ℕ) (l : Line) → l ≡ StealRead → lineStep κ w q m i l .answer ≡ GoesOn
+goes-steal : (κ : Kind) (w ω : ℕ) (q : Queue) (m : List ℕ) (i : ℕ) (l : Line) → l ≡ StealRead → lineStep κ w ω q m i l .answer ≡ GoesOn
 unfolding lineStep
-goes-steal κ w q m i l e = rw e
+goes-steal κ w ω q m i l e = rw e
 
 accepted-is : (W : World) (i : ℕ) (a b : Answer) → nextEffect W i .answer ≡ b
     → ((r : Refusal) → a ≡ Refused r → ⊥) → Stepped W i a → a ≡ b
@@ -229,17 +220,17 @@ accepted-is W i a b e n (inr q) = q ∙ e
 
 line1-is : (i : ℕ) (s : Played) (l : Line) → is-line-1 l ≡ true → s .call ≡ step i → lineAt (s .before .bench .workers) i ≡ l → s .answer ≡ GoesOn → event-at s ≡ line-1 i
 line1-is i s l f ec el ea =
-    ap (event-of (s .call) (lineOf s)) ea ∙ ap (λ (c : Call). event-of-going-on c (lineOf s)) ec
+    ap (event-of (s .before .bench .words) (s .call) (lineOf s)) ea ∙ ap (λ (c : Call). event-of-going-on c (lineOf s)) ec
     ∙ ap (λ (x : Line). cond (is-line-1 x) (line-1 i) (cond (is-compare x) (failed-compare i) quiet)) (of-step s i ec ∙ el)
     ∙ ap (λ (x : Bool). cond x (line-1 i) (cond (is-compare l) (failed-compare i) quiet)) f
 
 pub line1-ev : (i : ℕ) (s : Played) → True s → Line1 i s → event-at s ≡ line-1 i
 line1-ev i s t (inl (ec, el, n)) =
     line1-is i s TakeRead refl ec el
-    (accepted-is (s .before) i (s .answer) GoesOn (goes-take _ _ _ _ i _ el) n (subst (Stepped (s .before) i) (sym (t ∙ ap (λ (c : Call). callOf (s .before) c .answer) ec)) (step-answer (s .before) i)))
+    (accepted-is (s .before) i (s .answer) GoesOn (goes-take _ _ _ _ _ i _ el) n (subst (Stepped (s .before) i) (sym (t ∙ ap (λ (c : Call). callOf (s .before) c .answer) ec)) (step-answer (s .before) i)))
 line1-ev i s t (inr (ec, el, n)) =
     line1-is i s StealRead refl ec el
-    (accepted-is (s .before) i (s .answer) GoesOn (goes-steal _ _ _ _ i _ el) n (subst (Stepped (s .before) i) (sym (t ∙ ap (λ (c : Call). callOf (s .before) c .answer) ec)) (step-answer (s .before) i)))
+    (accepted-is (s .before) i (s .answer) GoesOn (goes-steal _ _ _ _ _ i _ el) n (subst (Stepped (s .before) i) (sym (t ∙ ap (λ (c : Call). callOf (s .before) c .answer) ec)) (step-answer (s .before) i)))
 
 -- compares
 compares-is : (i : ℕ) (s : Played) → s .call ≡ step i → is-compare (lineOf s) ≡ true → ((r : Refusal) → s .answer ≡ Refused r → ⊥) → Compares i s
@@ -268,26 +259,26 @@ done-go (step i) l = go (is-line-1 l) (is-compare l)
     go false true = refl
     go false false = refl
 
-done-begin : (c : Call) (n : ℕ) → finishes-put (event-of-begin c n) ≡ 0
-done-begin (begin zero (Put p)) n = refl
-done-begin (begin (suc k) (Put p)) n = refl
-done-begin (begin i Take) n = refl
-done-begin (begin i Steal) n = refl
-done-begin (step i) n = refl
+done-begin : (ω : ℕ) (c : Call) (n : ℕ) → finishes-put (event-of-begin ω c n) ≡ 0
+done-begin ω (begin zero (Put p)) n = refl
+done-begin ω (begin (suc k) (Put p)) n = refl
+done-begin ω (begin i Take) n = refl
+done-begin ω (begin i Steal) n = refl
+done-begin ω (step i) n = refl
 
-done-is : (c : Call) (l : Line) (a : Answer) → finishes-put (event-of c l a) ≡ finishes a
-done-is c l Accepted = refl
-done-is c l (Numbered n) = done-begin c n
-done-is c l GoesOn = done-go c l
-done-is c l (Finished i t) = refl
-done-is c l (HandedOut i t) = let r = out-is c l t in ap finishes-put (r .1)
-done-is c l (Empty i) = refl
-done-is c l (Full i t) = refl
-done-is c l (Refused r) = refl
+done-is : (ω : ℕ) (c : Call) (l : Line) (a : Answer) → finishes-put (event-of ω c l a) ≡ finishes a
+done-is ω c l Accepted = refl
+done-is ω c l (Numbered n) = done-begin ω c n
+done-is ω c l GoesOn = done-go c l
+done-is ω c l (Finished i t) = refl
+done-is ω c l (HandedOut i t) = let r = out-is c l t in ap finishes-put (r .1)
+done-is ω c l (Empty i) = refl
+done-is ω c l (Full i t) = refl
+done-is ω c l (Refused r) = refl
 
 puts-is : (T : List Played) → finished-puts (events T) ≡ puts T
 puts-is [] = refl
-puts-is (s ∷ T) = omega (arith, puts-is T, done-is (s .call) (lineOf s) (s .answer))
+puts-is (s ∷ T) = omega (arith, puts-is T, done-is (s .before .bench .words) (s .call) (lineOf s) (s .answer))
 
 events-drop : (T : List Played) (n : ℕ) → drop n (events T) ≡ events (drop n T)
 events-drop T zero = refl

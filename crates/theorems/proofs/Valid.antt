@@ -10,18 +10,20 @@ use borrow.Author.Tests.{eq-eqb, le-leb, lt-ltb, ltb-false}
 use Rattle.model.specs.declared.Kind.{Kind}
 use Rattle.model.specs.declared.Kind.the-variants.{Lifo, Fifo, Deque}
 use Rattle.model.specs.declared.Line.{Line}
-use Rattle.model.specs.declared.Line.the-variants.{Idle, PutRead, PutTail, PutTest, PutNumber, PutPayload, PutFinish, Claim, Note, Copy, Publish, TakeRead, TakeTail, TakeTest, TakeNumber, TakePayload, TakeFinish, StealRead, StealTail, StealTest, StealNote, StealNumber, StealPayload, StealNext, StealCompare}
+use Rattle.model.specs.declared.Line.the-variants.{Idle, PutRead, PutTail, PutTest, PutWord, PutFinish, Claim, Note, Copy, Publish, TakeRead, TakeTail, TakeTest, TakeWord, TakeFinish, StealRead, StealTail, StealTest, StealNote, StealWord, StealNext, StealCompare}
 use Rattle.model.specs.declared.Queue.{Queue}
 use Rattle.model.specs.declared.Worker.{Worker}
 use Rattle.model.specs.declared.Anchor.{Anchor}
+use Rattle.model.specs.declared.Task.{Task}
+use Rattle.model.proofs.Tasks.{none-from}
 use Rattle.model.specs.Tests.{if_then_else_, _and_, _or_}
 use Rattle.model.proofs.Tests.{and-both}
 use Rattle.model.specs.Lines.{size}
 use Rattle.model.specs.World.{World, lineAt, isIdle}
-use Rattle.model.specs.Limits.{numberOk, anchorOk, readOk, headOk, roomOk, someOk, notedOk, slotOk, isDeque, nextOk, ownerOk, thiefOk, thievesOk, validOf}
+use Rattle.model.specs.Limits.{taskOk, anchorOk, readOk, headOk, roomOk, someOk, notedOk, slotOk, isDeque, nextOk, ownerOk, thiefOk, thievesOk, validOf}
 use Rattle.model.specs.Figures.{anchor}
 use Rattle.theorems.proofs.Directory.{Arrays}
-use Rattle.theorems.proofs.Shape.{tail, Bounded, Head, OwnRead, Room, Some, Span, Early, ThiefRead, Slot, Double, After, pending, Spent, OwnShape, ThiefShape, Shape}
+use Rattle.theorems.proofs.Shape.{tail, Bounded, Head, OwnRead, Room, Some, Span, Early, ThiefRead, Slot, Double, After, Known, pending, Spent, OwnShape, ThiefShape, Shape}
 
 -- the last head that a FIFO's owner read is no higher than the tail
 abbrev LowOk : Kind → ℕ → ℕ → Type 0
@@ -70,42 +72,37 @@ ok-span Lifo τ h q u s = eq-eqb h 0 s
 ok-span Fifo τ h q u s = le-leb (h + q) 65535 (omega arith)
 ok-span Deque τ h q u s = lt-ltb h 2048 s
 
-ok-put : (κ : Kind) (w z low τ n : ℕ) (r : Anchor) → τ + 1 ≤ 65535 → LowOk κ low τ → (n ≤ 65535) × OwnRead κ w z low τ r × Room κ z low (r .count)
-    → (numberOk n and (readOk κ w z r and roomOk κ z r)) ≡ true
-ok-put κ w z low τ n r u l (a, b, d) =
-    and-both _ _ (le-leb n 65535 a) (and-both _ _ (ok-own κ w z low τ r (omega arith) l b) (ok-room κ w z low τ r u b d))
+ok-task : (n : ℕ) (t : Task) → Known n t → taskOk n t ≡ true
+ok-task n t (a, e) = and-both _ _ (le-leb (t .number) 65535 a) (none-from n t e)
 
-ok-take : (κ : Kind) (w z low τ : ℕ) (r : Anchor) (x : ℕ) → τ + 0 ≤ 65535 → LowOk κ low τ → OwnRead κ w z low τ r × Some κ r × (x ≤ 65535)
-    → (readOk κ w z r and (someOk κ r and numberOk x)) ≡ true
-ok-take κ w z low τ r x u l (a, b, d) = and-both _ _ (ok-own κ w z low τ r (omega arith) l a) (and-both _ _ (ok-some κ r b) (le-leb x 65535 d))
-
-ok-owner : (κ : Kind) (w : ℕ) (q : Queue) (low τ : ℕ) (o : Line) → τ + pending o ≤ 65535 → LowOk κ low τ → OwnShape κ w (size q) low τ o → ownerOk κ w q o ≡ true
-ok-owner κ w q low τ Idle u l s = and-both _ _ refl refl
-ok-owner κ w q low τ (PutRead t) u l s = and-both _ _ refl (le-leb (t .number) 65535 s)
-ok-owner κ w q low τ (PutTail t h) u l (a, b) = and-both _ _ refl (and-both _ _ (le-leb (t .number) 65535 a) (ok-head κ h low τ (omega arith) l b))
-ok-owner κ w q low τ (PutTest t r) u l (a, b) = and-both _ _ refl (and-both _ _ (le-leb (t .number) 65535 a) (ok-own κ w (size q) low τ r (omega arith) l b))
-ok-owner κ w q low τ (PutNumber t r) u l s = and-both _ _ refl (ok-put κ w (size q) low τ (t .number) r u l s)
-ok-owner κ w q low τ (PutPayload t r) u l s = and-both _ _ refl (ok-put κ w (size q) low τ (t .number) r u l s)
-ok-owner κ w q low τ (PutFinish t r) u l s = and-both _ _ refl (ok-put κ w (size q) low τ (t .number) r u l s)
-ok-owner κ w q low τ (Claim t) u l s = and-both _ _ refl (le-leb (t .number) 65535 s)
-ok-owner κ w q low τ (Note t) u l s = and-both _ _ refl (le-leb (t .number) 65535 s)
-ok-owner κ w q low τ (Copy t h j k) u l (a, b, d, e) =
-    and-both _ _ refl (and-both _ _ (le-leb (t .number) 65535 a) (and-both _ _ (ok-span κ τ h j (omega arith) b) (and-both _ _ (le-leb j (size q) d) (lt-ltb k j e))))
-ok-owner κ w q low τ (Publish t) u l s = and-both _ _ refl (le-leb (t .number) 65535 s)
-ok-owner κ w q low τ TakeRead u l s = and-both _ _ refl refl
-ok-owner κ w q low τ (TakeTail h) u l s = and-both _ _ refl (ok-head κ h low τ (omega arith) l s)
-ok-owner κ w q low τ (TakeTest r) u l s = and-both _ _ refl (ok-own κ w (size q) low τ r (omega arith) l s)
-ok-owner κ w q low τ (TakeNumber r) u l (a, b) = and-both _ _ refl (and-both _ _ (ok-own κ w (size q) low τ r (omega arith) l a) (ok-some κ r b))
-ok-owner κ w q low τ (TakePayload r x) u l s = and-both _ _ refl (ok-take κ w (size q) low τ r x u l s)
-ok-owner κ w q low τ (TakeFinish r t) u l s = and-both _ _ refl (ok-take κ w (size q) low τ r (t .number) u l s)
-ok-owner κ w q low τ StealRead u l s = absurd s
-ok-owner κ w q low τ (StealTail h) u l s = absurd s
-ok-owner κ w q low τ (StealTest r) u l s = absurd s
-ok-owner κ w q low τ (StealNote r) u l s = absurd s
-ok-owner κ w q low τ (StealNumber r k) u l s = absurd s
-ok-owner κ w q low τ (StealPayload r k x) u l s = absurd s
-ok-owner κ w q low τ (StealNext r t) u l s = absurd s
-ok-owner κ w q low τ (StealCompare r e t) u l s = absurd s
+ok-owner : (κ : Kind) (w ω : ℕ) (q : Queue) (low τ : ℕ) (o : Line) → τ + pending o ≤ 65535 → LowOk κ low τ → OwnShape κ w ω (size ω q) low τ o → ownerOk κ w ω q o ≡ true
+ok-owner κ w ω q low τ Idle u l s = and-both _ _ refl refl
+ok-owner κ w ω q low τ (PutRead t) u l s = and-both _ _ refl (ok-task (ω + 1) t s)
+ok-owner κ w ω q low τ (PutTail t h) u l (a, b) = and-both _ _ refl (and-both _ _ (ok-task (ω + 1) t a) (ok-head κ h low τ (omega arith) l b))
+ok-owner κ w ω q low τ (PutTest t r) u l (a, b) = and-both _ _ refl (and-both _ _ (ok-task (ω + 1) t a) (ok-own κ w (size ω q) low τ r (omega arith) l b))
+ok-owner κ w ω q low τ (PutWord t r j) u l (a, b, d, e) =
+    and-both _ _ refl (and-both _ _ (ok-task (ω + 1) t a) (and-both _ _ (ok-own κ w (size ω q) low τ r (omega arith) l b) (and-both _ _ (ok-room κ w (size ω q) low τ r u b d) (le-leb j ω e))))
+ok-owner κ w ω q low τ (PutFinish t r) u l (a, b, d) =
+    and-both _ _ refl (and-both _ _ (ok-task (ω + 1) t a) (and-both _ _ (ok-own κ w (size ω q) low τ r (omega arith) l b) (ok-room κ w (size ω q) low τ r u b d)))
+ok-owner κ w ω q low τ (Claim t) u l s = and-both _ _ refl (ok-task (ω + 1) t s)
+ok-owner κ w ω q low τ (Note t) u l s = and-both _ _ refl (ok-task (ω + 1) t s)
+ok-owner κ w ω q low τ (Copy t h j k) u l (a, b, d, e) =
+    and-both _ _ refl (and-both _ _ (ok-task (ω + 1) t a) (and-both _ _ (ok-span κ τ h j (omega arith) b) (and-both _ _ (le-leb j (size ω q) d) (lt-ltb k j e))))
+ok-owner κ w ω q low τ (Publish t) u l s = and-both _ _ refl (ok-task (ω + 1) t s)
+ok-owner κ w ω q low τ TakeRead u l s = and-both _ _ refl refl
+ok-owner κ w ω q low τ (TakeTail h) u l s = and-both _ _ refl (ok-head κ h low τ (omega arith) l s)
+ok-owner κ w ω q low τ (TakeTest r) u l s = and-both _ _ refl (ok-own κ w (size ω q) low τ r (omega arith) l s)
+ok-owner κ w ω q low τ (TakeWord r t j) u l (a, b, d, e) =
+    and-both _ _ refl (and-both _ _ (ok-own κ w (size ω q) low τ r (omega arith) l a) (and-both _ _ (ok-some κ r b) (and-both _ _ (ok-task j t d) (le-leb j ω e))))
+ok-owner κ w ω q low τ (TakeFinish r t) u l (a, b, d) =
+    and-both _ _ refl (and-both _ _ (ok-own κ w (size ω q) low τ r (omega arith) l a) (and-both _ _ (ok-some κ r b) (ok-task (ω + 1) t d)))
+ok-owner κ w ω q low τ StealRead u l s = absurd s
+ok-owner κ w ω q low τ (StealTail h) u l s = absurd s
+ok-owner κ w ω q low τ (StealTest r) u l s = absurd s
+ok-owner κ w ω q low τ (StealNote r) u l s = absurd s
+ok-owner κ w ω q low τ (StealWord r k t j) u l s = absurd s
+ok-owner κ w ω q low τ (StealNext r t) u l s = absurd s
+ok-owner κ w ω q low τ (StealCompare r e t) u l s = absurd s
 
 ok-early : (κ : Kind) (τ h : ℕ) → τ ≤ 65535 → Early κ τ h → headOk κ h ≡ true
 ok-early Lifo τ h u s = absurd s
@@ -132,46 +129,44 @@ ok-next Lifo e a = eq-eqb e 0 a
 ok-next Fifo e a = eq-eqb e 0 a
 ok-next Deque e a = lt-ltb e 2048 a
 
-ok-thief : (κ : Kind) (w : ℕ) (q : Queue) (τ : ℕ) (θ : Line) → τ ≤ 65535 → ThiefShape κ w q τ θ → thiefOk κ w q θ ≡ true
+ok-thief : (κ : Kind) (w ω : ℕ) (q : Queue) (τ : ℕ) (θ : Line) → τ ≤ 65535 → ThiefShape κ w ω q τ θ → thiefOk κ w ω q θ ≡ true
 unfolding _or_
-ok-thief κ w q τ Idle u s = and-both _ _ refl refl
-ok-thief κ w q τ StealRead u s = and-both _ _ refl refl
-ok-thief κ w q τ (StealTail h) u s = and-both _ _ refl (ok-early κ τ h u s)
-ok-thief κ w q τ (StealTest r) u s = and-both _ _ refl (ok-read κ w (size q) τ r u s)
-ok-thief κ w q τ (StealNote r) u (a, b) = and-both _ _ refl (and-both _ _ (ok-read κ w (size q) τ r u a) (ok-some κ r b))
-ok-thief κ w q τ (StealNumber r k) u (a, b, d, e) =
-    and-both _ _ refl (and-both _ _ (ok-read κ w (size q) τ r u a) (and-both _ _ (ok-some κ r b) (and-both _ _ (lt-ltb k _ d) (ok-slot κ _ r e))))
-ok-thief κ w q τ (StealPayload r k x) u (a, b, d, e, f) =
-    and-both _ _ refl (and-both _ _ (ok-read κ w (size q) τ r u a) (and-both _ _ (ok-some κ r b) (and-both _ _ (and-both _ _ (lt-ltb k _ d) (ok-slot κ _ r e)) (le-leb x 65535 f))))
-ok-thief κ w q τ (StealNext r t) u (a, b, d, e) =
-    and-both _ _ refl (and-both _ _ (ok-read κ w (size q) τ r u a) (and-both _ _ (ok-some κ r b) (and-both _ _ (ok-double κ d) (le-leb (t .number) 65535 e))))
-ok-thief κ w q τ (StealCompare r i t) u (a, b, d, e) =
-    and-both _ _ refl (and-both _ _ (ok-read κ w (size q) τ r u a) (and-both _ _ (ok-some κ r b) (and-both _ _ (ok-next κ i d) (le-leb (t .number) 65535 e))))
-ok-thief κ w q τ (PutRead t) u s = absurd s
-ok-thief κ w q τ (PutTail t h) u s = absurd s
-ok-thief κ w q τ (PutTest t r) u s = absurd s
-ok-thief κ w q τ (PutNumber t r) u s = absurd s
-ok-thief κ w q τ (PutPayload t r) u s = absurd s
-ok-thief κ w q τ (PutFinish t r) u s = absurd s
-ok-thief κ w q τ (Claim t) u s = absurd s
-ok-thief κ w q τ (Note t) u s = absurd s
-ok-thief κ w q τ (Copy t h j i) u s = absurd s
-ok-thief κ w q τ (Publish t) u s = absurd s
-ok-thief κ w q τ TakeRead u s = absurd s
-ok-thief κ w q τ (TakeTail h) u s = absurd s
-ok-thief κ w q τ (TakeTest r) u s = absurd s
-ok-thief κ w q τ (TakeNumber r) u s = absurd s
-ok-thief κ w q τ (TakePayload r x) u s = absurd s
-ok-thief κ w q τ (TakeFinish r t) u s = absurd s
+ok-thief κ w ω q τ Idle u s = and-both _ _ refl refl
+ok-thief κ w ω q τ StealRead u s = and-both _ _ refl refl
+ok-thief κ w ω q τ (StealTail h) u s = and-both _ _ refl (ok-early κ τ h u s)
+ok-thief κ w ω q τ (StealTest r) u s = and-both _ _ refl (ok-read κ w (size ω q) τ r u s)
+ok-thief κ w ω q τ (StealNote r) u (a, b) = and-both _ _ refl (and-both _ _ (ok-read κ w (size ω q) τ r u a) (ok-some κ r b))
+ok-thief κ w ω q τ (StealWord r k t j) u (a, b, d, e, f, g) =
+    and-both _ _ refl
+    (and-both _ _ (ok-read κ w (size ω q) τ r u a)
+    (and-both _ _ (ok-some κ r b) (and-both _ _ (and-both _ _ (lt-ltb k _ d) (ok-slot κ _ r e)) (and-both _ _ (ok-task j t f) (le-leb j ω g)))))
+ok-thief κ w ω q τ (StealNext r t) u (a, b, d, e) =
+    and-both _ _ refl (and-both _ _ (ok-read κ w (size ω q) τ r u a) (and-both _ _ (ok-some κ r b) (and-both _ _ (ok-double κ d) (ok-task (ω + 1) t e))))
+ok-thief κ w ω q τ (StealCompare r i t) u (a, b, d, e) =
+    and-both _ _ refl (and-both _ _ (ok-read κ w (size ω q) τ r u a) (and-both _ _ (ok-some κ r b) (and-both _ _ (ok-next κ i d) (ok-task (ω + 1) t e))))
+ok-thief κ w ω q τ (PutRead t) u s = absurd s
+ok-thief κ w ω q τ (PutTail t h) u s = absurd s
+ok-thief κ w ω q τ (PutTest t r) u s = absurd s
+ok-thief κ w ω q τ (PutWord t r j) u s = absurd s
+ok-thief κ w ω q τ (PutFinish t r) u s = absurd s
+ok-thief κ w ω q τ (Claim t) u s = absurd s
+ok-thief κ w ω q τ (Note t) u s = absurd s
+ok-thief κ w ω q τ (Copy t h j i) u s = absurd s
+ok-thief κ w ω q τ (Publish t) u s = absurd s
+ok-thief κ w ω q τ TakeRead u s = absurd s
+ok-thief κ w ω q τ (TakeTail h) u s = absurd s
+ok-thief κ w ω q τ (TakeTest r) u s = absurd s
+ok-thief κ w ω q τ (TakeWord r t j) u s = absurd s
+ok-thief κ w ω q τ (TakeFinish r t) u s = absurd s
 
-ok-thieves : (κ : Kind) (w : ℕ) (q : Queue) (τ team : ℕ) (l : List Worker) → τ ≤ 65535 → ((k : ℕ) → ThiefShape κ w q τ (lineAt l (suc k)))
-    → ((k : ℕ) → team ≤ k → isIdle (lineAt l k) ≡ true) → (n : ℕ) → thievesOk κ w q team l n ≡ true
+ok-thieves : (κ : Kind) (w ω : ℕ) (q : Queue) (τ team : ℕ) (l : List Worker) → τ ≤ 65535 → ((k : ℕ) → ThiefShape κ w ω q τ (lineAt l (suc k)))
+    → ((k : ℕ) → team ≤ k → isIdle (lineAt l k) ≡ true) → (n : ℕ) → thievesOk κ w ω q team l n ≡ true
 unfolding if_then_else_
-ok-thieves κ w q τ team l u s ρ zero = refl
-ok-thieves κ w q τ team l u s ρ (suc k) = and-both _ _ (ok-thieves κ w q τ team l u s ρ k) (pick (ltb (suc k) team) refl)
+ok-thieves κ w ω q τ team l u s ρ zero = refl
+ok-thieves κ w ω q τ team l u s ρ (suc k) = and-both _ _ (ok-thieves κ w ω q τ team l u s ρ k) (pick (ltb (suc k) team) refl)
   where
-    pick : (x : Bool) → ltb (suc k) team ≡ x → (if x then thiefOk κ w q (lineAt l (suc k)) else isIdle (lineAt l (suc k))) ≡ true
-    pick true e = ok-thief κ w q τ (lineAt l (suc k)) u (s k)
+    pick : (x : Bool) → ltb (suc k) team ≡ x → (if x then thiefOk κ w ω q (lineAt l (suc k)) else isIdle (lineAt l (suc k))) ≡ true
+    pick true e = ok-thief κ w ω q τ (lineAt l (suc k)) u (s k)
     pick false e = ρ (suc k) (ltb-false (suc k) team e)
 
 pending-le : (o : Line) → pending o ≤ 1
@@ -179,8 +174,7 @@ pending-le Idle = omega arith
 pending-le (PutRead t) = omega arith
 pending-le (PutTail t h) = omega arith
 pending-le (PutTest t r) = omega arith
-pending-le (PutNumber t r) = omega arith
-pending-le (PutPayload t r) = omega arith
+pending-le (PutWord t r j) = omega arith
 pending-le (PutFinish t r) = omega arith
 pending-le (Claim t) = omega arith
 pending-le (Note t) = omega arith
@@ -189,15 +183,13 @@ pending-le (Publish t) = omega arith
 pending-le TakeRead = omega arith
 pending-le (TakeTail h) = omega arith
 pending-le (TakeTest r) = omega arith
-pending-le (TakeNumber r) = omega arith
-pending-le (TakePayload r x) = omega arith
+pending-le (TakeWord r t j) = omega arith
 pending-le (TakeFinish r t) = omega arith
 pending-le StealRead = omega arith
 pending-le (StealTail h) = omega arith
 pending-le (StealTest r) = omega arith
 pending-le (StealNote r) = omega arith
-pending-le (StealNumber r k) = omega arith
-pending-le (StealPayload r k x) = omega arith
+pending-le (StealWord r k t j) = omega arith
 pending-le (StealNext r t) = omega arith
 pending-le (StealCompare r e t) = omega arith
 
@@ -207,24 +199,26 @@ thieves l k = lineAt l (suc k)
 -- a world's state, store and log
 pub record Whole (W : World) : Type 0 where
   pub width : (0 < W .bench .width) × (W .bench .width ≤ 16)
+  pub words : (0 < W .bench .words) × (W .bench .words ≤ 4)
   pub crew : (0 < W .bench .crew) × (W .bench .crew ≤ 8)
   pub workers : length (W .bench .workers) ≡ 8
   pub rest : (k : ℕ) → W .bench .crew ≤ k → isIdle (lineAt (W .bench .workers) k) ≡ true
   pub used : W .bench .used ≤ 65535
   pub logged : W .bench .written ≤ length (W .log)
-  pub shape : Shape (W .bench .kind) (W .bench .width) (W .bench .used) (W .bench .queue) (W .store) (lineAt (W .bench .workers) 0) (thieves (W .bench .workers))
+  pub shape : Shape (W .bench .kind) (W .bench .width) (W .bench .words) (W .bench .used) (W .bench .queue) (W .store) (lineAt (W .bench .workers) 0) (thieves (W .bench .workers))
 
 pub valid : (W : World) → Whole W → validOf W ≡ true
 unfolding validOf
 valid W H =
     and-both _ _ (and-both _ _ (lt-ltb _ _ (H .width .0)) (le-leb _ _ (H .width .1)))
+    (and-both _ _ (and-both _ _ (lt-ltb _ _ (H .words .0)) (le-leb _ _ (H .words .1)))
     (and-both _ _ (and-both _ _ (lt-ltb _ _ (H .crew .0)) (le-leb _ _ (H .crew .1)))
-    (and-both _ _ (and-both _ _ (lt-ltb _ _ (A .some)) (and-both _ _ (le-leb _ _ (A .few)) (and-both _ _ (eq-eqb _ _ (S .claims)) (and-both _ _ (A .tidied) (le-leb _ _ (A .room))))))
+    (and-both _ _ (and-both _ _ (lt-ltb _ _ (A .some)) (and-both _ _ (le-leb _ _ (A .few)) (and-both _ _ (eq-eqb _ _ (S .claims)) (and-both _ _ (A .tidied) (and-both _ _ (le-leb _ _ (A .room)) (eq-eqb _ _ (A .kept)))))))
     (and-both _ _ (le-leb _ _ (H .logged))
-    (and-both _ _ (ok-anchor κ w (size q) (S .low) q (omega (arith, T)) (S .anchor))
+    (and-both _ _ (ok-anchor κ w (size ω q) (S .low) q (omega (arith, T)) (S .anchor))
     (and-both _ _ (le-leb _ _ (H .used))
-    (and-both _ _ (ok-owner κ w q (S .low) (tail κ q) o T (low-ok κ w (size q) (S .low) q (S .anchor)) (S .own))
-    (ok-thieves κ w q (tail κ q) (W .bench .crew) (W .bench .workers) (omega (arith, T)) (S .th) (H .rest) 7)))))))
+    (and-both _ _ (ok-owner κ w ω q (S .low) (tail κ q) o T (low-ok κ w (size ω q) (S .low) q (S .anchor)) (S .own))
+    (ok-thieves κ w ω q (tail κ q) (W .bench .crew) (W .bench .workers) (omega (arith, T)) (S .th) (H .rest) 7))))))))
   where
     κ : Kind
     κ = W .bench .kind
@@ -232,16 +226,19 @@ valid W H =
     w : ℕ
     w = W .bench .width
 
+    ω : ℕ
+    ω = W .bench .words
+
     q : Queue
     q = W .bench .queue
 
     o : Line
     o = lineAt (W .bench .workers) 0
 
-    S : Shape κ w (W .bench .used) q (W .store) o (thieves (W .bench .workers))
+    S : Shape κ w ω (W .bench .used) q (W .store) o (thieves (W .bench .workers))
     S = H .shape
 
-    A : Arrays q (W .store)
+    A : Arrays ω q (W .store)
     A = S .arrays
 
     T : tail κ q + pending o ≤ 65535

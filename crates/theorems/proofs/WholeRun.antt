@@ -12,20 +12,24 @@ use borrow.Author.Tests.{ltb-true, ltb-false, eqb-true}
 use Rattle.model.specs.declared.Kind.{Kind}
 use Rattle.model.specs.declared.Kind.the-variants.{Lifo, Fifo, Deque}
 use Rattle.model.specs.declared.Line.{Line}
-use Rattle.model.specs.declared.Line.the-variants.{Idle, PutRead, PutTail, PutTest, PutNumber, PutPayload, PutFinish, Claim, Note, Copy, Publish, TakeRead, TakeTail, TakeTest, TakeNumber, TakePayload, TakeFinish, StealRead, StealTail, StealTest, StealNote, StealNumber, StealPayload, StealNext, StealCompare}
+use Rattle.model.specs.declared.Line.the-variants.{Idle, PutRead, PutTail, PutTest, PutWord, PutFinish, Claim, Note, Copy, Publish, TakeRead, TakeTail, TakeTest, TakeWord, TakeFinish, StealRead, StealTail, StealTest, StealNote, StealWord, StealNext, StealCompare}
 use Rattle.model.specs.declared.Queue.{Queue}
 use Rattle.model.specs.declared.Worker.{Worker}
 use Rattle.model.specs.declared.Operation.{Operation}
 use Rattle.model.specs.declared.Operation.the-variants.{Put, Take, Steal}
 use Rattle.model.specs.Tests.{if_then_else_, _and_, _or_}
-use Rattle.model.specs.Answers.{Entry, entryOf, ends, writeEntry, logged, task}
+use Rattle.model.specs.Answers.{entryOf, ends, entryLength, entryWords, logged}
 use Rattle.model.specs.Lines.{Effect}
 use Rattle.model.specs.World.{World, Outcome, resting, lineAt, isIdle}
 use Rattle.model.specs.Calls.{logFull, usedBy, firstLine, begun, stepped, nextEffect, Call, callOf}
 use Rattle.model.specs.Run.{after}
 use Rattle.model.proofs.Tests.{or-false}
+use Rattle.model.specs.declared.Payload.{Payload}
+use Rattle.model.specs.Tasks.{task, firstWords}
+use Rattle.model.proofs.Tasks.{gathered-again, first-number}
+use Rattle.theorems.proofs.Words.{set-all-length}
 use Rattle.theorems.proofs.Cases.{MayBegin, MayStep, call-cases}
-use Rattle.theorems.proofs.Shape.{Spent, Shape}
+use Rattle.theorems.proofs.Shape.{Spent, Known, Shape}
 use Rattle.theorems.proofs.ShapeOwner.{own-shaped, stay, spent-put}
 use Rattle.theorems.proofs.ShapeThief.{thief-shaped, thief-stay}
 use Rattle.theorems.proofs.Valid.{thieves, Whole}
@@ -35,8 +39,7 @@ idle-is Idle e = refl
 idle-is (PutRead t) e = cc
 idle-is (PutTail t h) e = cc
 idle-is (PutTest t r) e = cc
-idle-is (PutNumber t r) e = cc
-idle-is (PutPayload t r) e = cc
+idle-is (PutWord t r j) e = cc
 idle-is (PutFinish t r) e = cc
 idle-is (Claim t) e = cc
 idle-is (Note t) e = cc
@@ -45,15 +48,13 @@ idle-is (Publish t) e = cc
 idle-is TakeRead e = cc
 idle-is (TakeTail h) e = cc
 idle-is (TakeTest r) e = cc
-idle-is (TakeNumber r) e = cc
-idle-is (TakePayload r x) e = cc
+idle-is (TakeWord r t j) e = cc
 idle-is (TakeFinish r t) e = cc
 idle-is StealRead e = cc
 idle-is (StealTail h) e = cc
 idle-is (StealTest r) e = cc
 idle-is (StealNote r) e = cc
-idle-is (StealNumber r k) e = cc
-idle-is (StealPayload r k x) e = cc
+idle-is (StealWord r k t j) e = cc
 idle-is (StealNext r t) e = cc
 idle-is (StealCompare r i t) e = cc
 
@@ -77,12 +78,6 @@ thief-back P l k x p f =
     subst (λ (o : Line). P o (thieves (set l (suc k) (record { line = x })))) (sym (line-other l (suc k) 0 x (omega arith)))
     (f (thieves (set l (suc k) (record { line = x }))) (line-same l (suc k) x p) (λ i ne. line-other l (suc k) (suc i) x (omega arith)))
 
-pub entry-length : (l : List ℕ) (at : ℕ) (e : Entry) → length (writeEntry l at e) ≡ length l
-entry-length l at e =
-    length-set (set (set (set l at (e .kind)) (at + 1) (e .worker)) (at + 2) (e .number)) (at + 3) (e .payload)
-    ∙ length-set (set (set l at (e .kind)) (at + 1) (e .worker)) (at + 2) (e .number) ∙ length-set (set l at (e .kind)) (at + 1) (e .worker)
-    ∙ length-set l at (e .kind)
-
 -- the owner's operations and the thieves'
 pub not-thief : (k : ℕ) {A : Type 0} → eqb (suc k) 0 ≡ true → A
 not-thief k e = absurd (omega (arith, eqb-true (suc k) 0 e))
@@ -99,27 +94,30 @@ module _ {W : World} (H : Whole W) where
 
   -- BEGIN
   abbrev ShapeOf : ℕ → Line → (ℕ → Line) → Type 0
-  ShapeOf n o φ = Shape (W .bench .kind) (W .bench .width) n (W .bench .queue) (W .store) o φ
+  ShapeOf n o φ = Shape (W .bench .kind) (W .bench .width) (W .bench .words) n (W .bench .queue) (W .store) o φ
 
   idle-shape : isIdle (lineAt (W .bench .workers) 0) ≡ true → ShapeOf (W .bench .used) Idle (thieves (W .bench .workers))
   idle-shape e = subst (λ (o : Line). ShapeOf (W .bench .used) o (thieves (W .bench .workers))) (idle-is _ e) (H .shape)
 
   -- a put takes a number
-  put-shape : (p : ℕ) (κ : Kind) (w used : ℕ) (q : Queue) (m : List ℕ) (φ : ℕ → Line) → used < 65535 → Shape κ w used q m Idle φ
-      → Shape κ w (used + 1) q m (PutRead (task (used + 1) p)) φ
-  put-shape p κ w used q m φ l S =
-      record { low = S .low; anchor = S .anchor; arrays = S .arrays; claims = S .claims; spent = go κ (S .spent); own = omega arith; th = S .th }
+  put-shape : (p : Payload) (κ : Kind) (w ω used : ℕ) (q : Queue) (m : List ℕ) (φ : ℕ → Line) → used < 65535 → ω ≤ 4 → Shape κ w ω used q m Idle φ
+      → Shape κ w ω (used + 1) q m (PutRead (firstWords (ω + 1) (task (used + 1) p))) φ
+  put-shape p κ w ω used q m φ l wide S =
+      record { low = S .low; anchor = S .anchor; arrays = S .arrays; claims = S .claims; spent = go κ (S .spent); own = known; th = S .th }
     where
-      go : (κ : Kind) → Spent κ (q .anchor .count) Idle used → Spent κ (q .anchor .count) (PutRead (task (used + 1) p)) (used + 1)
+      go : (κ : Kind) → Spent κ (q .anchor .count) Idle used → Spent κ (q .anchor .count) (PutRead (firstWords (ω + 1) (task (used + 1) p))) (used + 1)
       go Lifo s = tt
       go Fifo s = omega arith
       go Deque s = tt
 
-  first-shape : (i : ℕ) (op : Operation) → MayBegin W i op → let x = firstLine op (W .bench .used) in
+      known : Known (ω + 1) (firstWords (ω + 1) (task (used + 1) p))
+      known = (omega (arith, first-number ω (task (used + 1) p)), gathered-again (ω + 1) _ (omega arith))
+
+  first-shape : (i : ℕ) (op : Operation) → MayBegin W i op → let x = firstLine op (W .bench .words) (W .bench .used) in
       ShapeOf (usedBy op (W .bench .used)) (lineAt (set (W .bench .workers) i (record { line = x })) 0) (thieves (set (W .bench .workers) i (record { line = x })))
   first-shape zero (Put p) B =
       own-back (ShapeOf (W .bench .used + 1)) (W .bench .workers) _ (in-crew 0 (B .member))
-      (put-shape p _ _ _ _ _ _ (ltb-true (W .bench .used) 65535 (B .number)) (idle-shape (B .idle)))
+      (put-shape p _ _ _ _ _ _ _ (ltb-true (W .bench .used) 65535 (B .number)) (H .words .1) (idle-shape (B .idle)))
   first-shape (suc k) (Put p) B = not-thief k (B .hand)
   first-shape zero Take B =
       own-back (ShapeOf (W .bench .used)) (W .bench .workers) TakeRead (in-crew 0 (B .member))
@@ -141,9 +139,10 @@ module _ {W : World} (H : Whole W) where
   begun-whole i op B =
       record {
         width = H .width;
+        words = H .words;
         crew = H .crew;
         workers = length-set (W .bench .workers) i _ ∙ H .workers;
-        rest = rested i (firstLine op (W .bench .used)) (B .member);
+        rest = rested i (firstLine op (W .bench .words) (W .bench .used)) (B .member);
         used = used-in op i B;
         logged = H .logged;
         shape = first-shape i op B;
@@ -151,28 +150,28 @@ module _ {W : World} (H : Whole W) where
 
   -- STEP
   abbrev ShapeAfter : Effect → Line → (ℕ → Line) → Type 0
-  ShapeAfter E o φ = Shape (W .bench .kind) (W .bench .width) (W .bench .used) (E .queue) (E .store) o φ
+  ShapeAfter E o φ = Shape (W .bench .kind) (W .bench .width) (W .bench .words) (W .bench .used) (E .queue) (E .store) o φ
 
   line-shape : (i : ℕ) → i < W .bench .crew → let x = nextEffect W i .line in
       ShapeAfter (nextEffect W i) (lineAt (set (W .bench .workers) i (record { line = x })) 0) (thieves (set (W .bench .workers) i (record { line = x })))
   line-shape zero l =
       own-back (ShapeAfter (nextEffect W 0)) (W .bench .workers) (nextEffect W 0 .line) (in-crew 0 l)
-      (own-shaped _ _ _ _ _ _ (lineAt (W .bench .workers) 0) (H .shape))
+      (own-shaped _ _ _ _ _ _ _ (lineAt (W .bench .workers) 0) (H .words .1) (H .shape))
   line-shape (suc k) l =
       thief-back (ShapeAfter (nextEffect W (suc k))) (W .bench .workers) k (nextEffect W (suc k) .line) (in-crew (suc k) l)
-      (thief-shaped _ _ _ _ _ _ _ k (lineAt (W .bench .workers) (suc k)) (H .shape) (H .shape .th k))
+      (thief-shaped _ _ _ _ _ _ _ _ k (lineAt (W .bench .workers) (suc k)) (H .words .1) (H .shape) (H .shape .th k))
 
   -- the log's length stays within the slice
-  written-in : (i : ℕ) (E : Effect) (x y : Bool) → ends (E .answer) ≡ x → logFull (W .log) (W .bench .written) ≡ y → x and y ≡ false
-      → stepped W i E .world .bench .written ≤ length (logged (W .log) (W .bench .written) (E .answer))
+  written-in : (i : ℕ) (E : Effect) (x y : Bool) → ends (E .answer) ≡ x → logFull (W .bench .words) (W .log) (W .bench .written) ≡ y → x and y ≡ false
+      → stepped W i E .world .bench .written ≤ length (logged (W .bench .words) (W .log) (W .bench .written) (E .answer))
   unfolding _and_ if_then_else_
   written-in i E true true ex ey nb = absurd (let z : _≡_ {A = ℕ} 0 1 = cc in omega arith)
   written-in i E true false ex ey nb =
       rw ex
       (omega (
         arith,
-        ltb-false (length (W .log)) (W .bench .written + 4) (or-false (ltb (length (W .log)) (W .bench .written + 4)) _ ey .0),
-        entry-length (W .log) (W .bench .written) (entryOf (E .answer)),
+        ltb-false (length (W .log)) (W .bench .written + entryLength (W .bench .words)) (or-false (ltb (length (W .log)) (W .bench .written + entryLength (W .bench .words))) _ ey .0),
+        set-all-length (W .log) (W .bench .written) (entryWords (W .bench .words) (entryOf (E .answer))),
       ))
   written-in i E false y ex ey nb = rw ex (H .logged)
 
@@ -180,6 +179,7 @@ module _ {W : World} (H : Whole W) where
   stepped-whole i M =
       record {
         width = H .width;
+        words = H .words;
         crew = H .crew;
         workers = length-set (W .bench .workers) i _ ∙ H .workers;
         rest = rested i (nextEffect W i .line) (M .member);

@@ -6,13 +6,15 @@ use Prim.Native.Nat.{ℕ, _+_, _≤_, _<_}
 use native.Mathlib.Omega.{arith}
 use Rattle.model.specs.declared.Region.{Region}
 use Rattle.model.specs.declared.Task.{Task}
-use Rattle.model.specs.Answers.{task}
+use Rattle.model.specs.Tasks.{gathered, firstWords}
+use Rattle.model.proofs.Tasks.{same-words}
 use Rattle.theorems.proofs.Remainders.{le-or-lt}
 use Rattle.theorems.proofs.Events.{Event, quiet, line-1, finished-put, handed-out, failed-compare, found-empty, began-put, found-full, History, Out}
 use Rattle.theorems.proofs.Words.{cell}
 
--- the store, the directory (n arrays of d are published), the current array and the owner's window
+-- the payload words of a task, the store, the directory (n arrays of d are published), the current array and the owner's window
 pub record View : Type 0 where
+  pub words : ℕ
   pub store : List ℕ
   pub directory : List Region
   pub published : ℕ
@@ -22,14 +24,11 @@ pub record View : Type 0 where
   pub own-hi : ℕ
 
 abbrev pub word : View → ℕ → ℕ → ℕ
-word v i j = cell (v .store) (v .base) (v .slots) i j
+word v i j = cell (v .words) (v .store) (v .base) (v .slots) i j
 
 -- the task at index i
 abbrev pub taskAt : View → ℕ → Task
-taskAt v i = task (word v i 0) (word v i 1)
-
-pub both-words : {x x′ y y′ : ℕ} → x ≡ x′ → y ≡ y′ → task x y ≡ task x′ y′
-both-words p q = rw (p, q)
+taskAt v i = gathered (v .words + 1) (word v i)
 
 pub record Core (v : View) (lo hi : ℕ) (h : History) : Type 0 where
   pub low : v .own-lo ≤ lo
@@ -82,18 +81,20 @@ old-done {t} {e} {h} nd d = go (List·Memᴰ·cases-cons d)
     go (inl q) = absurd (subst NotDone (sym q) nd)
     go (inr r) = r
 
--- the put of t is begun, and its number is larger than all of finished puts
-abbrev pub Begun : Task → History → Type 0
-Begun t h = List·Memᴰ (began-put t) h × ((u : Task) → List·Memᴰ (finished-put u) h → u .number < t .number)
+-- the put of t, of ω payload words, is begun, and its number is larger than all of finished puts
+pub record Begun (ω : ℕ) (t : Task) (h : History) : Type 0 where
+  pub begun : List·Memᴰ (began-put t) h
+  pub newer : (u : Task) → List·Memᴰ (finished-put u) h → u .number < t .number
+  pub cut : firstWords (ω + 1) t ≡ t
 
-pub begun-later : {t : Task} {h : History} (e : Event) → NotDone e → Begun t h → Begun t (e ∷ h)
-begun-later e nd (b, f) = (List·Memᴰ·tail b, λ u d. f u (old-done nd d))
+pub begun-later : {ω : ℕ} {t : Task} {h : History} (e : Event) → NotDone e → Begun ω t h → Begun ω t (e ∷ h)
+begun-later e nd B = record { begun = List·Memᴰ·tail (B .begun); newer = λ u d. B .newer u (old-done nd d); cut = B .cut }
 
 -- another window inside the owner's window: what leaves the window has been handed out
 pub core-window : {v : View} {lo hi : ℕ} {h : History} (e : Event) (own-lo own-hi a c : ℕ) → NotDone e → Core v lo hi h
     → v .own-lo ≤ own-lo → own-lo ≤ a → a ≤ c → c ≤ own-hi → own-hi ≤ v .own-hi
     → ((i : ℕ) → lo ≤ i → i < hi → (i < a) ⊎ (c ≤ i) → Out (taskAt v i) (e ∷ h))
-    → Core (record { store = v .store; base = v .base; slots = v .slots; directory = v .directory; published = v .published; own-lo = own-lo; own-hi = own-hi }) a c (e ∷ h)
+    → Core (record { words = v .words; store = v .store; base = v .base; slots = v .slots; directory = v .directory; published = v .published; own-lo = own-lo; own-hi = own-hi }) a c (e ∷ h)
 core-window {v} {lo} {hi} {h} e own-lo own-hi a c nd C h1 h2 h3 h4 h5 leave =
     record {
       low = h2;
@@ -130,30 +131,32 @@ core-window {v} {lo} {hi} {h} e own-lo own-hi a c nd C h1 h2 h3 h4 h5 leave =
 -- another store or another array, with the same words in the owner's window
 pub core-words : {v : View} {lo hi : ℕ} {h : History} (m : List ℕ) (d : List Region) (np b z : ℕ) → Core v lo hi h
     → v .own-hi ≤ v .own-lo + z
-    → ((i j : ℕ) → v .own-lo ≤ i → i < v .own-hi → j < 2 → cell m b z i j ≡ word v i j)
-    → Core (record { store = m; directory = d; published = np; base = b; slots = z; own-lo = v .own-lo; own-hi = v .own-hi }) lo hi h
+    → ((i j : ℕ) → v .own-lo ≤ i → i < v .own-hi → j < v .words + 1 → cell (v .words) m b z i j ≡ word v i j)
+    → Core (record { words = v .words; store = m; directory = d; published = np; base = b; slots = z; own-lo = v .own-lo; own-hi = v .own-hi }) lo hi h
 core-words {v} {lo} {hi} {h} m d np b z C f same =
     record {
       low = C .low;
       mid = C .mid;
       high = C .high;
       fit = f;
-      whole = λ i p q. rw (same i 0 p q (omega arith), same i 1 p q (omega arith)) (C .whole i p q);
-      outL = λ i p q. rw (same i 0 p (omega (arith, C .mid, C .high)) (omega arith), same i 1 p (omega (arith, C .mid, C .high)) (omega arith)) (C .outL i p q);
-      outH = λ i p q. rw (same i 0 (omega (arith, C .mid, C .low)) q (omega arith), same i 1 (omega (arith, C .mid, C .low)) q (omega arith)) (C .outH i p q);
+      whole = λ i p q. rw (task-is i p q) (C .whole i p q);
+      outL = λ i p q. rw (task-is i p (omega (arith, C .mid, C .high))) (C .outL i p q);
+      outH = λ i p q. rw (task-is i (omega (arith, C .mid, C .low)) q) (C .outH i p q);
       all = λ t d. go t (C .all t d);
     }
   where
+    task-is : (i : ℕ) → v .own-lo ≤ i → i < v .own-hi → gathered (v .words + 1) (cell (v .words) m b z i) ≡ taskAt v i
+    task-is i p q = same-words (v .words + 1) (cell (v .words) m b z i) (word v i) (λ j h. same i j p q h)
+
     go : (t : Task) → Out t h ⊎ ((i : ℕ) × (lo ≤ i) × (i < hi) × (taskAt v i ≡ t))
-        → Out t h ⊎ ((i : ℕ) × (lo ≤ i) × (i < hi) × (task (cell m b z i 0) (cell m b z i 1) ≡ t))
+        → Out t h ⊎ ((i : ℕ) × (lo ≤ i) × (i < hi) × (gathered (v .words + 1) (cell (v .words) m b z i) ≡ t))
     go t (inl o) = inl o
-    go t (inr (i, l, r, x)) =
-        inr (i, l, r, rw (same i 0 (omega (arith, C .low)) (omega (arith, C .high)) (omega arith), same i 1 (omega (arith, C .low)) (omega (arith, C .high)) (omega arith)) x)
+    go t (inr (i, l, r, x)) = inr (i, l, r, task-is i (omega (arith, C .low)) (omega (arith, C .high)) ∙ x)
 
 -- a put ends: its words stand at the top of the owner's window, and the queue's window grows up to there
 pub core-put : {v : View} {lo hi : ℕ} {h : History} (t : Task) (a : ℕ) → Core v lo hi h → v .own-hi < v .own-lo + v .slots → v .own-lo ≤ a → a ≤ lo
     → taskAt v (v .own-hi) ≡ t
-    → Core (record { store = v .store; base = v .base; slots = v .slots; directory = v .directory; published = v .published; own-lo = v .own-lo; own-hi = v .own-hi + 1 }) a (v .own-hi + 1) (finished-put t ∷ h)
+    → Core (record { words = v .words; store = v .store; base = v .base; slots = v .slots; directory = v .directory; published = v .published; own-lo = v .own-lo; own-hi = v .own-hi + 1 }) a (v .own-hi + 1) (finished-put t ∷ h)
 core-put {v} {lo} {hi} {h} t a C f la ha e =
     record {
       low = la;
@@ -193,7 +196,7 @@ core-ev {v} {lo} {hi} {h} e nd C =
     none i p q (inr r) = omega arith
 
 -- the owner reads the window
-pub core-read : {v : View} {lo hi : ℕ} {h : History} → Core v lo hi h → Core (record { store = v .store; base = v .base; slots = v .slots; directory = v .directory; published = v .published; own-lo = lo; own-hi = hi }) lo hi h
+pub core-read : {v : View} {lo hi : ℕ} {h : History} → Core v lo hi h → Core (record { words = v .words; store = v .store; base = v .base; slots = v .slots; directory = v .directory; published = v .published; own-lo = lo; own-hi = hi }) lo hi h
 core-read {v} {lo} {hi} {h} C =
     record {
       low = omega arith;

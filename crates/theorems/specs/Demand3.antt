@@ -8,6 +8,7 @@ use lib.ListN.{take, drop}
 use Rattle.model.specs.declared.Setup.{Setup}
 use Rattle.model.specs.declared.Kind.{Kind}
 use Rattle.model.specs.declared.Kind.the-variants.{Lifo, Fifo, Deque}
+use Rattle.model.specs.declared.Payload.{Payload}
 use Rattle.model.specs.declared.Task.{Task}
 use Rattle.model.specs.declared.Anchor.{Anchor}
 use Rattle.model.specs.declared.Line.{Line}
@@ -25,10 +26,11 @@ use Rattle.model.specs.declared.Answer.the-variants.{
   Full,
   Refused,
 }
+use Rattle.model.specs.Tasks.{task, firstWords}
 use Rattle.model.specs.World.{World, lineAt}
 use Rattle.model.specs.Calls.{freshOf, Call, begin, step}
 use Rattle.model.specs.Run.{Played, played, after}
-use Rattle.model.specs.Window.{windowSize, windowWord}
+use Rattle.model.specs.Window.{windowSize, windowTask}
 
 -- the call at place j of the list is such a one
 abbrev pub At : List Played → ℕ → (Played → Type 0) → Type 0
@@ -36,20 +38,20 @@ At [] j P = ⊥
 At (s ∷ T) zero P = P s
 At (s ∷ T) (suc j) P = At T j P
 
--- a put is an accepted put begin, with the number it answered and the payload it was given: together its task
+-- a put is an accepted put begin, with the number it answered and the payload it was given, as many words of it as the queue's
+-- tasks have: together its task
 abbrev pub Begins : Task → Played → Type 0
-Begins t s = (s .call ≡ begin 0 (Put (t .payload))) × (s .answer ≡ Numbered (t .number))
+Begins t s =
+    (n : ℕ) × (p : Payload) × (s .call ≡ begin 0 (Put p)) × (s .answer ≡ Numbered n)
+    × (firstWords (s .before .bench .words + 1) (task n p) ≡ t)
 
 -- it is finished by the step that ends it with an entry of kind 1
 abbrev pub Finishes : Task → Played → Type 0
 Finishes t s = (i : ℕ) × (s .answer ≡ Finished i t)
 
--- a pair is handed out by a step that answers an entry of kind 2; it belongs to the put that has both words
-abbrev pub Belongs : Task → Task → Type 0
-Belongs u t = (u .number ≡ t .number) × (u .payload ≡ t .payload)
-
+-- a whole task is handed out by a step that answers an entry of kind 2; it belongs to the put that has all its words
 abbrev pub HandsOut : Task → Played → Type 0
-HandsOut t s = (i : ℕ) × (u : Task) × (s .answer ≡ HandedOut i u) × Belongs u t
+HandsOut t s = (i : ℕ) × (s .answer ≡ HandedOut i t)
 
 -- worker i is answered EMPTY
 abbrev pub Empties : ℕ → Played → Type 0
@@ -92,7 +94,7 @@ AllOut T l j = (b k : ℕ) (t : Task) → Done T b k t → k ≤ l → (o : ℕ)
 
 -- the task stands whole in a slot of the window
 abbrev pub Stands : World → Task → Type 0
-Stands W t = (i : ℕ) × (i < windowSize W) × (windowWord W i 0 ≡ t .number) × (windowWord W i 1 ≡ t .payload)
+Stands W t = (i : ℕ) × (i < windowSize W) × (windowTask W i ≡ t)
 
 -- how many puts a part of the list finishes
 abbrev pub finishes : Answer → ℕ
@@ -129,7 +131,7 @@ FewPuts W cs =
 pub record Demand3 (W : World) (cs : List Call) : Type 0 where
   -- after the list, each finished put's task was handed out or stands whole in the queue
   pub kept : (b j : ℕ) (t : Task) → Done (played W cs) b j t → ((k : ℕ) × Out (played W cs) k t) ⊎ Stands (after W cs) t
-  -- each pair handed out belongs to a put finished before it
+  -- each task handed out belongs to a put finished before it
   pub belongs : (j : ℕ) (t : Task) → Out (played W cs) j t → FinishedBefore (played W cs) j t
   -- each EMPTY was answered only if every put finished by that attempt's line 1 had been handed out before that EMPTY
   pub none-left : (j i : ℕ) → At (played W cs) j (Empties i) → (l : ℕ) × Attempt (played W cs) i l j × AllOut (played W cs) l j

@@ -28,5 +28,5 @@ isSteal1 l = eqb (stage l) 4
 -- a compare that fails leaves its thief at line 1, and no other line does
 abbrev pub BackToLine1 : Type 0
 BackToLine1 =
-    (κ : Kind) (w : ℕ) (q : Queue) (m : List ℕ) (i : ℕ) (l : Line)
-    → isSteal1 (lineStep κ w q m i l .line) ≡ failsCompare κ (q .anchor) l
+    (κ : Kind) (w v : ℕ) (q : Queue) (m : List ℕ) (i : ℕ) (l : Line)
+    → isSteal1 (lineStep κ w v q m i l .line) ≡ failsCompare κ (q .anchor) l

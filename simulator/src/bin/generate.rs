@@ -15,6 +15,7 @@ use simulator::damage;
 use simulator::episodes as act;
 use simulator::random::Random;
 use simulator::script::Script;
+use simulator::text::MOST_WORDS;
 
 fn main() -> ExitCode {
     let values: Vec<Option<u64>> = std::env::args().skip(1).map(|text| text.parse().ok()).collect();
@@ -77,8 +78,9 @@ fn run(seed: u64, steps: Option<u64>) -> Vec<u8> {
         act::refusals(&mut script);
         return script.into_text();
     }
-    let Shape { kind, width, size, crew } = shape;
-    script.say(&format!("queue {kind} {width} {size} {crew} {words}"));
+    let sixth = sixth(&mut script.random, shape.payload_words);
+    let Shape { kind, width, size, crew, .. } = shape;
+    script.say(&format!("queue {kind} {width} {size} {crew} {words}{sixth}"));
 
     if style == Style::LogSoonFull {
         let left = script.random.between(5, 150);
@@ -133,14 +135,19 @@ fn shape(random: &mut Random, style: Style) -> (Shape, u32) {
         75..=84 => 8,
         _ => 1 << random.below(11),
     };
+    // Wider entries would end the log before the head is round.
+    let widths: &[u32] = if style == Style::HeadRound { &[1] } else { &[1, 1, 1, 2, 3, 4, 4] };
+    let payload_words = *random.pick(widths);
     // Room for so many arrays, often exactly or a word too little.
     let arrays = random.between(1, 5);
-    let room = (2 * size * ((1 << arrays) - 1)).min(4094);
+    let first = size * (payload_words + 1);
+    let most = 2047 * (payload_words + 1);
+    let room = (first * ((1 << arrays) - 1)).min(most);
     let words = match random.below(10) {
         0..=4 => room,
-        5..=6 => (room - 1).max(2 * size),
-        7 => 4094,
-        _ => random.between(2 * size, 4094),
+        5..=6 => (room - 1).max(first),
+        7 => *random.pick(&[most, most, MOST_WORDS]),
+        _ => random.between(first, MOST_WORDS),
     };
     let crew = match random.below(20) {
         0 if style != Style::HeadRound => 1,
@@ -149,7 +156,16 @@ fn shape(random: &mut Random, style: Style) -> (Shape, u32) {
         13 | 14 => 8,
         _ => random.between(4, 8),
     };
-    (Shape { kind, width, size, crew }, words)
+    (Shape { kind, width, size, crew, payload_words }, words)
+}
+
+/// The sixth number with a space before it, which may be left out if it is 1.
+fn sixth(random: &mut Random, payload_words: u32) -> String {
+    if payload_words == 1 && random.chance(70) {
+        String::new()
+    } else {
+        format!(" {payload_words}")
+    }
 }
 
 /// Lines that are refused because no queue is accepted yet.
@@ -158,36 +174,52 @@ fn before_the_queue(script: &mut Script, words: u32) {
         return;
     }
     for _ in 0..script.random.between(1, 12) {
-        let Shape { kind, width, size, crew } = script.shape;
+        let Shape { kind, width, size, crew, payload_words } = script.shape;
         let large = script.random.between(9, 5000);
-        match script.random.below(12) {
-            0 => script.say(&format!("queue {} {width} {size} {crew} {words}", large)),
-            1 => script.say(&format!("queue 0 {width} {size} {crew} {words}")),
-            2 => script.say(&format!("queue {kind} {} {size} {crew} {words}", large + 8)),
-            3 => script.say(&format!("queue {kind} 0 {size} {crew} {words}")),
-            4 => script.say(&format!("queue {kind} {width} {} {crew} {words}", 2 * large + 1)),
+        let sixth = sixth(&mut script.random, payload_words);
+        match script.random.below(14) {
+            0 => script.say(&format!("queue {large} {width} {size} {crew} {words}{sixth}")),
+            1 => script.say(&format!("queue 0 {width} {size} {crew} {words}{sixth}")),
+            2 => script.say(&format!("queue {kind} {} {size} {crew} {words}{sixth}", large + 8)),
+            3 => script.say(&format!("queue {kind} 0 {size} {crew} {words}{sixth}")),
+            4 => script.say(&format!("queue {kind} {width} {} {crew} {words}{sixth}", 2 * large + 1)),
             5 => {
                 let wrong = *script.random.pick(&[0, 2048, 4096, 2_147_483_648, u32::MAX]);
-                script.say(&format!("queue {kind} {width} {wrong} {crew} {words}"));
+                script.say(&format!("queue {kind} {width} {wrong} {crew} {words}{sixth}"));
             }
-            6 => script.say(&format!("queue {kind} {width} {size} 0 {words}")),
-            7 => script.say(&format!("queue {kind} {width} {size} {large} {words}")),
+            6 => script.say(&format!("queue {kind} {width} {size} 0 {words}{sixth}")),
+            7 => script.say(&format!("queue {kind} {width} {size} {large} {words}{sixth}")),
             8 => {
-                let few = script.random.below(2 * size);
-                script.say(&format!("queue {kind} {width} {size} {crew} {few}"));
+                let few = script.random.below(size * (payload_words + 1));
+                script.say(&format!("queue {kind} {width} {size} {crew} {few}{sixth}"));
             }
             9 => {
+                // No payload words of a bench, with enough words or too few.
+                let wrong = *script.random.pick(&["0", "5", "6", "16", "257", "4294967295"]);
+                let store = *script.random.pick(&[0, words, MOST_WORDS]);
+                script.say(&format!("queue {kind} {width} {size} {crew} {store} {wrong}"));
+            }
+            10 => {
+                // No number, one too many, or a store too long.
+                let wrong = *script.random.pick(&[
+                    "4294967296", "18446744073709551617", "01", "00", "+1", "-1", "x", "", "1 1", "1 ", " 1",
+                ]);
+                script.say(&format!("queue {kind} {width} {size} {crew} {words} {wrong}"));
+                script.say(&format!("queue {kind} {width} {size} {crew} {} {payload_words}", MOST_WORDS + 1));
+            }
+            11 => {
                 let line = *script.random.pick(&[
-                    "put 1", "take", "steal 1", "step 0 1", "step 0 0", "end", "steal 0",
+                    "put 1", "put 1 2 3 4", "put", "put 1 2 3 4 5", "take", "steal 1", "step 0 1", "step 0 0",
+                    "end", "steal 0",
                 ]);
                 script.say(line);
             }
-            10 => {
+            12 => {
                 // Several things wrong at once: the first of the table counts.
-                let values: Vec<u32> = (0..4).map(|_| script.random.below(20)).collect();
+                let values: Vec<u32> = (0..5).map(|_| script.random.below(20)).collect();
                 let line = format!(
-                    "queue {} {} {} {} 1",
-                    values[0], values[1], values[2], values[3]
+                    "queue {} {} {} {} 1 {}",
+                    values[0], values[1], values[2], values[3], values[4] / 2
                 );
                 // One word is short for any size, so this is never accepted.
                 script.say(&line);

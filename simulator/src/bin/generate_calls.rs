@@ -11,7 +11,7 @@
 use std::io::Write;
 use std::process::ExitCode;
 
-use simulator::bench::{Operation, Shape};
+use simulator::bench::Shape;
 use simulator::episodes as act;
 use simulator::random::Random;
 use simulator::script::{Looks, Script};
@@ -37,8 +37,9 @@ fn main() -> ExitCode {
 fn list(seed: u64, calls: Option<u64>) -> Vec<u8> {
     let mut random = Random::new(seed);
     let (first, store, log) = match random.below(100) {
-        // In a store this long it is the size alone that forbids a larger array.
-        0..=2 => (First::LargestArray, random.between(6144, 10_300), random.between(4100, 20_000)),
+        // With one or two payload words it can be the size alone that forbids a
+        // larger array in a store this long.
+        0..=2 => (First::LargestArray, random.between(6144, 10_300), random.between(7200, 20_000)),
         3 | 4 => (First::HeadRound, random.between(2, 60), random.between(16_400, 20_000)),
         _ => (First::Any, store_words(&mut random), log_words(&mut random)),
     };
@@ -57,7 +58,7 @@ fn list(seed: u64, calls: Option<u64>) -> Vec<u8> {
             act::past_the_largest_array(&mut script);
         }
         First::HeadRound => {
-            script.fresh(Shape { kind: 3, crew: 2, ..shape });
+            script.fresh(Shape { kind: 3, crew: 2, payload_words: 1, ..shape });
             while script.entries_left() > 0 {
                 act::head_up(&mut script);
             }
@@ -87,16 +88,18 @@ fn store_words(random: &mut Random) -> u32 {
         1..=9 => {
             let size = *random.pick(&[1, 1, 2, 4]);
             let arrays = random.between(1, 5);
-            (2 * size * ((1 << arrays) - 1) + random.below(4)).saturating_sub(1)
+            let each = random.between(2, 5);
+            (each * size * ((1 << arrays) - 1) + random.below(4)).saturating_sub(1)
         }
         10..=14 => random.between(2, 200),
         15 | 16 => random.between(200, 4093),
-        17 | 18 => random.between(4094, 4097),
-        _ => *random.pick(&[4098, 5000, 9999, 10_299, 10_300]),
+        17 => random.between(4094, 4097),
+        18 => *random.pick(&[6140, 6141, 6142, 8187, 8188, 8189]),
+        _ => *random.pick(&[9999, 10_234, 10_235, 10_236, 10_299, 10_300]),
     }
 }
 
-/// Of any length: the log counts words, and an entry has four.
+/// Of any length: the log counts words, and an entry has four to seven.
 fn log_words(random: &mut Random) -> u32 {
     match random.below(20) {
         0 => random.below(8),
@@ -182,8 +185,9 @@ fn shape(random: &mut Random, store: u32) -> Shape {
         60..=64 => 16,
         _ => random.between(1, 16),
     };
+    let payload_words = *random.pick(&[1, 1, 1, 2, 3, 4, 4]);
     // The exponent of the largest first array that fits.
-    let largest = (store / 2).max(1).ilog2().min(10);
+    let largest = (store / (payload_words + 1)).max(1).ilog2().min(10);
     let exponent = match random.below(10) {
         0..=6 => random.below(3).min(largest),
         7 => largest,
@@ -195,13 +199,13 @@ fn shape(random: &mut Random, store: u32) -> Shape {
         14 | 15 => 8,
         _ => random.between(4, 8),
     };
-    Shape { kind: random.between(1, 3), width, size: 1 << exponent, crew }
+    Shape { kind: random.between(1, 3), width, size: 1 << exponent, crew, payload_words }
 }
 
 /// The same with a number or more out of its range, or just within.
 fn damaged(random: &mut Random, mut shape: Shape) -> Shape {
     for _ in 0..*random.pick(&[1, 1, 1, 2, 4]) {
-        match random.below(5) {
+        match random.below(6) {
             0 => shape.kind = *random.pick(&[0, 4, 5, 257, u32::MAX]),
             1 => shape.width = *random.pick(&[0, 17, 32, 33, 257, u32::MAX]),
             2 => {
@@ -209,6 +213,7 @@ fn damaged(random: &mut Random, mut shape: Shape) -> Shape {
                 shape.size = *random.pick(&[0, 3, 1023, 1025, 2048, 1 << 31, u32::MAX, odd]);
             }
             3 => shape.crew = *random.pick(&[0, 9, 10, 256, 257, u32::MAX]),
+            4 => shape.payload_words = *random.pick(&[0, 5, 6, 257, u32::MAX - 1, u32::MAX]),
             // Too large for the store, as most stores are.
             _ => shape.size = *random.pick(&[16, 128, 1024]),
         }
@@ -226,12 +231,9 @@ fn strays(script: &mut Script) {
             _ => *script.random.pick(&[256, 257, 1 << 31, u32::MAX - 1, u32::MAX]),
         };
         match script.random.below(8) {
-            0 | 1 => {
-                let payload = script.payload();
-                script.begin(worker, Operation::Put { payload });
-            }
-            2 | 3 => script.begin(worker, Operation::Take),
-            4 | 5 => script.begin(worker, Operation::Steal),
+            0 | 1 => script.begin_put(worker),
+            2 | 3 => script.begin_take(worker),
+            4 | 5 => script.steal(worker),
             6 => {
                 let count = script.random.below(4);
                 script.step(worker, count);
@@ -253,7 +255,8 @@ fn the_end(script: &mut Script) {
             let line = *script.random.pick(&[
                 "", " ", "end", "put 1", "step 0", "step 0 1 1", "step 0 1 ", "step  0 1",
                 "step 0 4294967296", "step 0 18446744073709551617", "step 0 -1", "step 0 x",
-                "begin 0", "begin 0 put", "begin 0 put x", "begin 0 drop", "fresh 1 1 1",
+                "begin 0", "begin 0 put", "begin 0 put x", "begin 0 put 1 2 3 4 5", "begin 0 drop",
+                "fresh 1 1 1 1", "fresh 1 1 1 1 1 1",
                 "memory 2 4", "State", "front 0",
             ]);
             script.say(line);

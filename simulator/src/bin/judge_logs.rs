@@ -1,13 +1,13 @@
 //! Logs to judge, and their judgement.
 //!
 //!     judge_logs make SEED COUNT > CASES    random cases
-//!     judge_logs largest SEED > CASE        an accepted one, as long as it may be
+//!     judge_logs largest SEED WORDS > CASE  an accepted one, as long as it may be
 //!     judge_logs run < RUN > CASE           the log of a run of the bench's input
 //!     judge_logs judge < CASES              an answer a line
 //!     judge_logs bench TIMES < CASE         nanoseconds to judge the first case
 //!
-//! A case is the log's length and the list's, four bytes each, lowest first,
-//! and then the bytes of both.
+//! A case is an entry's payload words, the log's length and the list's, four
+//! bytes each, lowest first, and then the bytes of both.
 
 use std::hint::black_box;
 use std::io::{self, Read, Write};
@@ -24,12 +24,14 @@ fn main() -> ExitCode {
     let numbers: Vec<Option<u64>> = words.iter().skip(1).map(|text| text.parse().ok()).collect();
     let done = match (words.first().copied(), &numbers[..]) {
         (Some("make"), &[Some(seed), Some(count)]) => make(seed, count),
-        (Some("largest"), &[Some(seed)]) => write(&log_cases::largest(&mut Random::new(seed))),
+        (Some("largest"), &[Some(seed), Some(words @ 1..=4)]) => {
+            write(&log_cases::largest(&mut Random::new(seed), words as u32))
+        }
         (Some("run"), &[]) => input().and_then(|text| write(&log_cases::of_run(&text))),
         (Some("judge"), &[]) => judge(),
         (Some("bench"), &[Some(times)]) if times > 0 => bench(times),
         _ => {
-            eprintln!("usage: judge_logs make SEED COUNT | largest SEED | run | judge | bench TIMES");
+            eprintln!("usage: judge_logs make SEED COUNT | largest SEED WORDS | run | judge | bench TIMES");
             return ExitCode::from(64);
         }
     };
@@ -64,7 +66,7 @@ fn judge() -> io::Result<()> {
     let mut out = io::BufWriter::new(io::stdout().lock());
     while !from.is_empty() {
         let case = next(&mut from)?;
-        writeln!(out, "{}", judge_log(&case.log, &case.list))?;
+        writeln!(out, "{}", judge_log(case.words, &case.log, &case.list))?;
     }
     out.flush()
 }
@@ -74,7 +76,7 @@ fn bench(times: u64) -> io::Result<()> {
     let case = next(&mut &bytes[..])?;
     let start = Instant::now();
     for _ in 0..times {
-        black_box(judge_log(black_box(&case.log), black_box(&case.list)));
+        black_box(judge_log(case.words, black_box(&case.log), black_box(&case.list)));
     }
     println!("{}", start.elapsed().as_nanos() / u128::from(times));
     Ok(())

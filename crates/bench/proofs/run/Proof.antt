@@ -11,7 +11,7 @@ use Rattle.bench.proofs.run.Tie as tie
 
 abbrev Inv-loop : tie.InvT-loop
 Inv-loop buf₀ store₀ log₀ out₀ session₀ have₀ turns₀ buf store log out session have turns =
-    (have ≤ 61) × (length buf ≡ length buf₀) × (length store ≡ length store₀) × (length log ≡ length log₀) × (length out ≡ length out₀) × Reachable (programOf session store log)
+    (have ≤ 72) × (length buf ≡ length buf₀) × (length store ≡ length store₀) × (length log ≡ length log₀) × (length out ≡ length out₀) × Reachable (programOf session store log)
 
 abbrev μ-loop : tie.MeasureT-loop
 μ-loop buf₀ store₀ log₀ out₀ session₀ have₀ turns₀ buf store log out session have turns = turns

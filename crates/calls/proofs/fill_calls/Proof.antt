@@ -1,5 +1,5 @@
 use mathlib.Core.Path.{_≡_}
-use Prim.Native.Nat.{_≤_, _-_}
+use Prim.Native.Nat.{_+_, _≤_, _<_, _-_}
 use native.Mathlib.Omega.{arith}
 use lib.ListN.{length, length-set}
 use borrow.Author.Needs.{needs}
@@ -42,6 +42,36 @@ mul-calls-3 c = search needs
 slice-write-calls-3 : tie.Need-slice-write-calls-3 Inv-loop μ-loop
 slice-write-calls-3 c = simp length-set (omega arith)
 
+add-calls-3 : tie.Need-add-calls-3 Inv-loop μ-loop
+add-calls-3 c = search needs
+
+mul-calls-4 : tie.Need-mul-calls-4 Inv-loop μ-loop
+mul-calls-4 c = search needs
+
+slice-write-calls-4 : tie.Need-slice-write-calls-4 Inv-loop μ-loop
+slice-write-calls-4 c =
+    let h : c .before .loop .at + 3 < length (c .before .loop .calls) = omega (arith, c .loop-test .taken, c .before .loop .inv) in simp length-set h
+
+add-calls-4 : tie.Need-add-calls-4 Inv-loop μ-loop
+add-calls-4 c = search needs
+
+mul-calls-5 : tie.Need-mul-calls-5 Inv-loop μ-loop
+mul-calls-5 c = search needs
+
+slice-write-calls-5 : tie.Need-slice-write-calls-5 Inv-loop μ-loop
+slice-write-calls-5 c =
+    let h : c .before .loop .at + 4 < length (c .before .loop .calls) = omega (arith, c .loop-test .taken, c .before .loop .inv) in simp length-set h
+
+add-calls-5 : tie.Need-add-calls-5 Inv-loop μ-loop
+add-calls-5 c = search needs
+
+mul-calls-6 : tie.Need-mul-calls-6 Inv-loop μ-loop
+mul-calls-6 c = search needs
+
+slice-write-calls-6 : tie.Need-slice-write-calls-6 Inv-loop μ-loop
+slice-write-calls-6 c =
+    let h : c .before .loop .at + 5 < length (c .before .loop .calls) = omega (arith, c .loop-test .taken, c .before .loop .inv) in simp length-set h
+
 add-at : tie.Need-add-at Inv-loop μ-loop
 add-at c = search needs
 
@@ -73,6 +103,15 @@ fill-calls-spec =
     add-calls-2
     mul-calls-3
     slice-write-calls-3
+    add-calls-3
+    mul-calls-4
+    slice-write-calls-4
+    add-calls-4
+    mul-calls-5
+    slice-write-calls-5
+    add-calls-5
+    mul-calls-6
+    slice-write-calls-6
     add-at
     loop-less
     loop-again

@@ -19,7 +19,7 @@ array-share-prefix-answers c = search needs
 
 slice-aggregate-show-answers : tie.Need-slice-aggregate-show-answers
 slice-aggregate-show-answers c =
-    let at-play = c .before .before .before .before .before .before .before in
+    let at-play = c .before .before .before .before .before .before .before .before .before in
     sym (length-take-le _ _ (omega (arith, at-play .play .ensures .0, at-play .play .kept)))
 
 show-answers-requires : tie.Need-show-answers-requires

@@ -1,5 +1,7 @@
 use mathlib.Core.Path.{_≡_}
-use Prim.Native.Nat.{ℕ}
+use Prim.Native.Nat.{ℕ, _+_}
+use native.Mathlib.Omega.{arith}
+use native.Mathlib.Nat.{mul-div-le}
 use Rattle.model.specs.declared.Counts.{Counts}
 use Rattle.model.specs.World.{World}
 use Rattle.model.specs.Window.{windowSize}
@@ -9,10 +11,28 @@ use Rattle.counts.proofs.counts.Statement.{statement}
 use Rattle.counts.proofs.counts.Tie as tie
 
 -- the counts, one by one
-counted : (W : World) (f h d w l : ℕ) → f ≡ countBelow (isKind (W .log) 1) (entriesIn W) → h ≡ countBelow (isKind (W .log) 2) (entriesIn W) → d ≡ countBelow (outFirst (W .log)) (entriesIn W) → w ≡ windowSize W → l ≡ countBelow (isLost W (entriesIn W)) (entriesIn W) →
+counted : (W : World) (f h d w l : ℕ) → f ≡ countBelow (isKind (W .bench .words) (W .log) 1) (entriesIn W) → h ≡ countBelow (isKind (W .bench .words) (W .log) 2) (entriesIn W) → d ≡ countBelow (outFirst (W .bench .words) (W .log)) (entriesIn W) → w ≡ windowSize W → l ≡ countBelow (isLost W (entriesIn W)) (entriesIn W) →
     _≡_ {A = Counts} (record { finished = f; handouts = h; different = d; restarts = W .bench .restarts; window = w; lost = l }) (countsOf W)
 unfolding countsOf
 counted W f h d w l ef eh ed ew el = rw (ef, eh, ed, ew, el)
+
+cast-each : tie.Need-cast-each
+cast-each c = search needs
+
+add-each : tie.Need-add-each
+add-each c = search needs
+
+cast-all : tie.Need-cast-all
+cast-all c = search needs
+
+div-n : tie.Need-div-n
+div-n c = search needs
+
+cast-n : tie.Need-cast-n
+cast-n c =
+    let b = c .before .before .before .args .bench in
+    let m = mul-div-le (b .written) (3 + b .words) in
+    omega (arith, m)
 
 entries-of-requires : tie.Need-entries-of-requires
 entries-of-requires c κs = search needs
@@ -36,6 +56,11 @@ pub counts-spec : {M : Type 1} → statement M
 counts-spec =
     tie.close
     (tie.spec
+    cast-each
+    add-each
+    cast-all
+    div-n
+    cast-n
     entries-of-requires
     entries-of-requires-2
     different-out-requires

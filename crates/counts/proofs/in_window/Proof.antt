@@ -1,5 +1,6 @@
 use mathlib.Core.Path.{_≡_, refl, ap, _∙_}
-use Rattle.model.specs.Counts.{someBelow, sameTask}
+use Rattle.model.specs.Counts.{someBelow}
+use Rattle.model.specs.Tasks.{sameTask}
 use Rattle.model.specs.declared.Task.{Task}
 use Prim.Native.Nat.{_≤_, _-_}
 use native.Mathlib.Omega.{arith}
@@ -11,10 +12,10 @@ use Rattle.counts.proofs.in_window.Statement.{statement}
 use Rattle.counts.proofs.in_window.Tie as tie
 
 abbrev Inv-loop : tie.InvT-loop
-Inv-loop store task from₀ kind anchor array n start j₀ from j = (j ≤ n) × (someBelow (stands kind anchor array store task) j ≡ someBelow (stands kind anchor array store task) start)
+Inv-loop store task from₀ kind words anchor array n start j₀ from j = (j ≤ n) × (someBelow (stands kind words anchor array store task) j ≡ someBelow (stands kind words anchor array store task) start)
 
 abbrev μ-loop : tie.MeasureT-loop
-μ-loop store task from₀ kind anchor array n start j₀ from j = n - j
+μ-loop store task from₀ kind words anchor array n start j₀ from j = n - j
 
 current-requires : tie.Need-current-requires Inv-loop μ-loop
 current-requires c κs = search needs

@@ -20,7 +20,7 @@ task-out-requires c κs = search needs
 
 returns : tie.Need-returns
 returns c = let a = c .before .before .before .before .before .before .before .args in
-    true-or _ (c .before .task-out .ensures ∙ ap (λ (t : Task). someBelow (outWhole (a .log .now) t) (a .n)) (c .before .before .task-at .ensures)) (c .if2 .taken)
+    true-or _ (c .before .task-out .ensures ∙ ap (λ (t : Task). someBelow (outWhole (a .bench .words) (a .log .now) t) (a .n)) (c .before .before .task-at .ensures)) (c .if2 .taken)
     ∙ true-and (c .before .before .before .before .is-kind .ensures) (c .before .before .before .if1 .taken)
 
 in-window-requires : tie.Need-in-window-requires
@@ -28,7 +28,7 @@ in-window-requires c κs = search needs
 
 returns-2 : tie.Need-returns-2
 returns-2 c = let a = c .before .before .before .before .before .before .before .before .before .args in
-    false-or (c .before .before .before .task-out .ensures ∙ ap (λ (t : Task). someBelow (outWhole (a .log .now) t) (a .n)) (c .before .before .before .before .task-at .ensures)) (c .before .before .if2 .left)
+    false-or (c .before .before .before .task-out .ensures ∙ ap (λ (t : Task). someBelow (outWhole (a .bench .words) (a .log .now) t) (a .n)) (c .before .before .before .before .task-at .ensures)) (c .before .before .if2 .left)
     (c .in-window .ensures ∙ ap (λ (t : Task). someBelow (standsAt (lent (a .bench) (a .store .now) []) t) (windowSize (lent (a .bench) (a .store .now) []))) (c .before .before .before .before .task-at .ensures))
     ∙ true-and (c .before .before .before .before .before .before .is-kind .ensures) (c .before .before .before .before .before .if1 .taken)
 

@@ -1,5 +1,6 @@
 use mathlib.Core.Path.{_≡_, refl, ap, _∙_}
-use Rattle.model.specs.Counts.{someBelow, sameTask}
+use Rattle.model.specs.Counts.{someBelow}
+use Rattle.model.specs.Tasks.{sameTask}
 use Rattle.model.specs.declared.Task.{Task}
 use Prim.Native.Nat.{_-_}
 use native.Mathlib.Omega.{arith}
@@ -10,10 +11,10 @@ use Rattle.counts.proofs.stands_below.Statement.{statement}
 use Rattle.counts.proofs.stands_below.Tie as tie
 
 abbrev Inv-loop : tie.InvT-loop
-Inv-loop kind anchor array store task n j₀ j = someBelow (stands kind anchor array store task) n ≡ someBelow (stands kind anchor array store task) j
+Inv-loop kind words anchor array store task n j₀ j = someBelow (stands kind words anchor array store task) n ≡ someBelow (stands kind words anchor array store task) j
 
 abbrev μ-loop : tie.MeasureT-loop
-μ-loop kind anchor array store task n j₀ j = j
+μ-loop kind words anchor array store task n j₀ j = j
 
 loop-holds : tie.Need-loop-holds Inv-loop μ-loop
 loop-holds c = refl

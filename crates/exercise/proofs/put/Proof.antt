@@ -6,11 +6,14 @@ use Rattle.exercise.proofs.put.Statement.{statement}
 use Rattle.exercise.proofs.put.Tie as tie
 
 abbrev Inv-loop : tie.InvT-loop
-Inv-loop store₀ log₀ last₀ line₀ store log last line =
+Inv-loop lines store₀ log₀ last₀ line₀ store log last line =
     (length store ≡ length store₀) × (length log ≡ length log₀)
 
 abbrev μ-loop : tie.MeasureT-loop
-μ-loop store₀ log₀ last₀ line₀ store log last line = 5 - line
+μ-loop lines store₀ log₀ last₀ line₀ store log last line = lines - line
+
+payload-of-requires : tie.Need-payload-of-requires Inv-loop μ-loop
+payload-of-requires c κs = search needs
 
 begin-requires : tie.Need-begin-requires Inv-loop μ-loop
 begin-requires c κs = search needs
@@ -45,6 +48,7 @@ put-spec =
     (tie.spec
     Inv-loop
     μ-loop
+    payload-of-requires
     begin-requires
     loop-holds
     step-requires

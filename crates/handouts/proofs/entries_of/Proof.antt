@@ -8,10 +8,10 @@ use Rattle.handouts.proofs.entries_of.Statement.{statement}
 use Rattle.handouts.proofs.entries_of.Tie as tie
 
 abbrev Inv-loop : tie.InvT-loop
-Inv-loop log kind n count₀ j₀ count j = (j ≤ n) × (count ≡ countBelow (isKind log kind) j)
+Inv-loop words log kind n count₀ j₀ count j = (j ≤ n) × (count ≡ countBelow (isKind words log kind) j)
 
 abbrev μ-loop : tie.MeasureT-loop
-μ-loop log kind n count₀ j₀ count j = n - j
+μ-loop words log kind n count₀ j₀ count j = n - j
 
 loop-holds : tie.Need-loop-holds Inv-loop μ-loop
 loop-holds c = (omega arith, count-none _)
@@ -20,7 +20,7 @@ is-kind-requires : tie.Need-is-kind-requires Inv-loop μ-loop
 is-kind-requires c κs = search needs
 
 one-more-requires : tie.Need-one-more-requires Inv-loop μ-loop
-one-more-requires c κs = let l = c .before .before .loop in omega (arith, l .inv .1, count-le (isKind (c .before .before .before .before .args .log .now) (c .before .before .before .before .args .kind)) (l .j))
+one-more-requires c κs = let l = c .before .before .loop in omega (arith, l .inv .1, count-le (isKind (c .before .before .before .before .args .words) (c .before .before .before .before .args .log .now) (c .before .before .before .before .args .kind)) (l .j))
 
 add-j : tie.Need-add-j Inv-loop μ-loop
 add-j c = omega arith

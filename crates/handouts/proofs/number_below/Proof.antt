@@ -8,10 +8,10 @@ use Rattle.handouts.proofs.number_below.Statement.{statement}
 use Rattle.handouts.proofs.number_below.Tie as tie
 
 abbrev Inv-loop : tie.InvT-loop
-Inv-loop log number n j₀ j = someBelow (outAs log number) n ≡ someBelow (outAs log number) j
+Inv-loop words log number n j₀ j = someBelow (outAs words log number) n ≡ someBelow (outAs words log number) j
 
 abbrev μ-loop : tie.MeasureT-loop
-μ-loop log number n j₀ j = j
+μ-loop words log number n j₀ j = j
 
 loop-holds : tie.Need-loop-holds Inv-loop μ-loop
 loop-holds c = refl

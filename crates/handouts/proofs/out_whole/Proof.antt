@@ -1,6 +1,6 @@
 use mathlib.Core.Path.{ap, _∙_}
 use Rattle.model.specs.declared.Task.{Task}
-use Rattle.model.specs.Counts.{sameTask}
+use Rattle.model.specs.Tasks.{sameTask}
 use Rattle.handouts.proofs.Bools.{and-cong}
 use borrow.Author.Needs.{needs}
 use Rattle.handouts.proofs.out_whole.Statement.{statement}

@@ -1,36 +1,26 @@
+use mathlib.Core.Path.{_∙_}
+use native.Mathlib.Omega.{arith}
+use Rattle.handouts.proofs.Starts.{entry-task-is}
 use borrow.Author.Needs.{needs}
 use Rattle.handouts.proofs.task_at.Statement.{statement}
 use Rattle.handouts.proofs.task_at.Tie as tie
 
-mul-word-at : tie.Need-mul-word-at
-mul-word-at c = search needs
+entry-start-requires : tie.Need-entry-start-requires
+entry-start-requires c κs = search needs
 
-add-word-at : tie.Need-add-word-at
-add-word-at c = search needs
+add-task-from : tie.Need-add-task-from
+add-task-from c =
+    let s = c .entry-start .ensures .small in
+    omega (arith, s)
 
-word-at-requires : tie.Need-word-at-requires
-word-at-requires c κs = search needs
-
-mul-word-at-2 : tie.Need-mul-word-at-2
-mul-word-at-2 c = search needs
-
-add-word-at-2 : tie.Need-add-word-at-2
-add-word-at-2 c = search needs
-
-word-at-requires-2 : tie.Need-word-at-requires-2
-word-at-requires-2 c κs = search needs
+task-from-requires : tie.Need-task-from-requires
+task-from-requires c κs =
+    let s = c .entry-start .ensures .small in
+    omega (arith, s)
 
 returns : tie.Need-returns
-returns c = simp (c .before .word-at .ensures, c .word-at2 .ensures)
+returns c =
+    c .task-from .ensures ∙ entry-task-is (c .before .before .before .args .words) (c .before .before .before .args .log .now) (c .before .before .before .args .entry) _ (omega arith) (c .before .entry-start .ensures)
 
 pub task-at-spec : {M : Type 1} → statement M
-task-at-spec =
-    tie.close
-    (tie.spec
-    mul-word-at
-    add-word-at
-    word-at-requires
-    mul-word-at-2
-    add-word-at-2
-    word-at-requires-2
-    returns)
+task-at-spec = tie.close (tie.spec entry-start-requires add-task-from task-from-requires returns)

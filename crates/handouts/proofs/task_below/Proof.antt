@@ -8,10 +8,10 @@ use Rattle.handouts.proofs.task_below.Statement.{statement}
 use Rattle.handouts.proofs.task_below.Tie as tie
 
 abbrev Inv-loop : tie.InvT-loop
-Inv-loop log task n j₀ j = someBelow (outWhole log task) n ≡ someBelow (outWhole log task) j
+Inv-loop words log task n j₀ j = someBelow (outWhole words log task) n ≡ someBelow (outWhole words log task) j
 
 abbrev μ-loop : tie.MeasureT-loop
-μ-loop log task n j₀ j = j
+μ-loop words log task n j₀ j = j
 
 loop-holds : tie.Need-loop-holds Inv-loop μ-loop
 loop-holds c = refl

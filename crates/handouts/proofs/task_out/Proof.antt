@@ -11,7 +11,7 @@ seen-at-requires c κs = search needs
 
 returns : tie.Need-returns
 returns c = let a = c .before .before .before .args in
-    sym (none-stricter (outAs (a .log .now) (a .task .number)) (outWhole (a .log .now) (a .task)) (a .n) (λ k e. and-more _ _ _ e)
+    sym (none-stricter (outAs (a .words) (a .log .now) (a .task .number)) (outWhole (a .words) (a .log .now) (a .task)) (a .n) (λ k e. and-more _ _ _ e)
     (c .before .before .before .pre .none _ (sym (c .before .seen-at .ensures) ∙ c .if1 .taken)))
 
 sub-k : tie.Need-sub-k

@@ -15,7 +15,7 @@ returns : tie.Need-returns
 returns c = search needs
 
 returns-2 : tie.Need-returns-2
-returns-2 c = let a = c .before .args in sym (List·getD-eq-default (a .words .now) 0 {n = a .at} (omega arith))
+returns-2 c = let a = c .before .args in sym (List·getD-eq-default (a .memory .now) 0 {n = a .at} (omega arith))
 
 pub word-at-spec : {M : Type 1} → statement M
 word-at-spec = tie.close (tie.spec mul-result shared-slice-read-result returns returns-2)

@@ -5,6 +5,7 @@ use native.Mathlib.Omega.{arith}
 use borrow.Author.Tests.{not-false}
 use Rattle.model.proofs.Tests.{passed, refused, and-right}
 use Rattle.judgement.specs.Judgement.{wordsOf}
+use Rattle.judgement.proofs.Entries.{entry-ends}
 use Rattle.puts.proofs.Gathering.{rising-by}
 use Rattle.judge.proofs.Keeping.{kept-whole, firsts-fewer}
 use Rattle.judge.proofs.Whole.{not-in-order, not-all-justified, not-all-kept, all-accepted}
@@ -17,7 +18,7 @@ in-order-requires c κs = search needs
 returns : tie.Need-returns
 returns c =
     let start = c .before .before .before .before .before .before .before in
-    not-in-order (wordsOf (start .args .log .now)) (start .args .entries) (wordsOf (start .args .list .now)) (start .args .numbers) (refused (c .before .in-order .ensures) (c .if1 .taken))
+    not-in-order (start .args .words) (wordsOf (start .args .log .now)) (start .args .entries) (wordsOf (start .args .list .now)) (start .args .numbers) (refused (c .before .in-order .ensures) (c .if1 .taken))
 
 gather-requires : tie.Need-gather-requires
 gather-requires c κs = search needs
@@ -26,7 +27,7 @@ hand-outs-requires : tie.Need-hand-outs-requires
 hand-outs-requires c κs =
     let start = c .before .before .before .before .before .before .before .before .before .before .before .before .before in
     let f = c .before .before .before .before .gather .ensures .few in
-    ((omega arith, omega arith, omega (arith, f), omega (arith, f)), (c .before .before .before .before .gather .ensures, (rising-by (wordsOf (start .args .log .now)) (start .args .entries) _ _ (c .before .before .before .before .gather .ensures) (and-right _ _ (passed (c .before .before .before .before .before .before .before .in-order .ensures) (c .before .before .before .before .before .before .if1 .left))), start .pre .1)))
+    ((start .pre .0 .0, omega arith, omega (arith, f), omega (arith, f), start .pre .0 .6), (c .before .before .before .before .gather .ensures, (rising-by (start .args .words) (wordsOf (start .args .log .now)) (start .args .entries) _ _ (c .before .before .before .before .gather .ensures) (and-right _ _ (passed (c .before .before .before .before .before .before .before .in-order .ensures) (c .before .before .before .before .before .before .if1 .left))), start .pre .1)))
 
 same-length : tie.Need-same-length
 same-length c = search needs
@@ -37,13 +38,13 @@ same-length-2 c = search needs
 returns-2 : tie.Need-returns-2
 returns-2 c =
     let start = c .before .before .before .before .before .before .before .before .before .before .before .before .before .before .before .before .before .before in
-    not-all-justified (wordsOf (start .args .log .now)) (start .args .entries) (wordsOf (start .args .list .now)) (start .args .numbers) (refused (c .before .before .before .before .hand-outs .ensures .fine) (c .if2 .taken))
+    not-all-justified (start .args .words) (wordsOf (start .args .log .now)) (start .args .entries) (wordsOf (start .args .list .now)) (start .args .numbers) (refused (c .before .before .before .before .hand-outs .ensures .fine) (c .if2 .taken))
 
 note-hints-requires : tie.Need-note-hints-requires
 note-hints-requires c κs =
     let at-gather = c .before .before .before .before .before .before .before .before .before .before .before in
     let f = at-gather .gather .ensures .few in
-    ((omega (arith, f), omega (arith, f), c .before .before .before .before .before .before .before .before .before .before .before .before .before .before .before .before .before .before .before .before .pre .0 .5), λ k h. let p = at-gather .gather .ensures .placed k h in omega (arith, p))
+    ((omega (arith, f), omega (arith, f), c .before .before .before .before .before .before .before .before .before .before .before .before .before .before .before .before .before .before .before .before .pre .0 .5), λ k h. entry-ends _ _ _ _ (c .before .before .before .before .before .before .before .before .before .before .before .before .before .before .before .before .before .before .before .before .pre .0 .0) (at-gather .gather .ensures .placed k h))
 
 mark-listed-requires : tie.Need-mark-listed-requires
 mark-listed-requires c κs =
@@ -51,7 +52,7 @@ mark-listed-requires c κs =
     let start = c .before .before .before .before .before .before .before .before .before .before .before .before .before .before .before .before .before .before .before .before .before .before .before .before .before .before in
     let at-gather = c .before .before .before .before .before .before .before .before .before .before .before .before .before .before .before .before .before in
     let f = at-gather .gather .ensures .few in
-    (let a = start .pre .0 .3 in let b = start .pre .0 .4 in let g = at-before .puts .given in let h = c .before .before .before .before .before .before .before .before .before .before .before .seen .given in (start .pre .0 .2, start .pre .0 .0, omega (arith, f, a, g), omega (arith, f, b, h), c .before .before .before .before .before .note-hints .ensures), (at-gather .gather .ensures, (rising-by (wordsOf (start .args .log .now)) (start .args .entries) _ _ (at-gather .gather .ensures) (and-right _ _ (passed (c .before .before .before .before .before .before .before .before .before .before .before .before .before .before .before .before .before .before .before .before .in-order .ensures) (c .before .before .before .before .before .before .before .before .before .before .before .before .before .before .before .before .before .before .before .if1 .left))), c .before .before .before .before .before .before .before .before .before .before .before .before .hand-outs .ensures .marked (not-false _ (c .before .before .before .before .before .before .before .before .if2 .left)) (wordsOf (start .args .list .now)))))
+    (let a = start .pre .0 .3 in let b = start .pre .0 .4 in let g = at-before .puts .given in let h = c .before .before .before .before .before .before .before .before .before .before .before .seen .given in (start .pre .0 .2, start .pre .0 .0, omega (arith, f, a, g), omega (arith, f, b, h), c .before .before .before .before .before .note-hints .ensures), (at-gather .gather .ensures, (rising-by (start .args .words) (wordsOf (start .args .log .now)) (start .args .entries) _ _ (at-gather .gather .ensures) (and-right _ _ (passed (c .before .before .before .before .before .before .before .before .before .before .before .before .before .before .before .before .before .before .before .before .in-order .ensures) (c .before .before .before .before .before .before .before .before .before .before .before .before .before .before .before .before .before .before .before .if1 .left))), c .before .before .before .before .before .before .before .before .before .before .before .before .hand-outs .ensures .marked (not-false _ (c .before .before .before .before .before .before .before .before .if2 .left)) (wordsOf (start .args .list .now)))))
 
 all-marked-requires : tie.Need-all-marked-requires
 all-marked-requires c κs =
@@ -74,7 +75,7 @@ returns-3 : tie.Need-returns-3
 returns-3 c =
     let start = c .before .before .before .before .before .before .before .before .before .before .before .before .before .before .before .before .before .before .before .before .before .before .before .before .before .before .before .before .before .before .before .before in
     let at-mark-listed = c .before .before .before .before .before in
-    not-all-kept (wordsOf (start .args .log .now)) (start .args .entries) (wordsOf (start .args .list .now)) (start .args .numbers) (sym (kept-whole (wordsOf (start .args .log .now)) (start .args .entries) (wordsOf (start .args .list .now)) (start .args .numbers) _ _ (at-mark-listed .mark-listed .last .1 .1 .1 .1 .1 .1 .1 .0) (c .before .before .before .before .before .before .before .before .before .before .before .before .before .before .before .before .before .before .before .before .before .before .before .gather .ensures) (at-mark-listed .mark-listed .ensures) false (refused (c .before .all-marked .ensures) (c .if3 .taken))))
+    not-all-kept (start .args .words) (wordsOf (start .args .log .now)) (start .args .entries) (wordsOf (start .args .list .now)) (start .args .numbers) (sym (kept-whole (start .args .words) (wordsOf (start .args .log .now)) (start .args .entries) (wordsOf (start .args .list .now)) (start .args .numbers) _ _ (at-mark-listed .mark-listed .last .1 .1 .1 .1 .1 .1 .1 .1 .0) (c .before .before .before .before .before .before .before .before .before .before .before .before .before .before .before .before .before .before .before .before .before .before .before .gather .ensures) (at-mark-listed .mark-listed .ensures) false (refused (c .before .all-marked .ensures) (c .if3 .taken))))
 
 sub-repeats : tie.Need-sub-repeats
 sub-repeats c =
@@ -83,7 +84,7 @@ sub-repeats c =
     let at-if2 = c .before .before .before .before .before .before .before .before .before .before .before .before .before .before .before in
     let a = at-hand-outs .hand-outs .ensures .handouts (not-false _ (at-if2 .if2 .left)) in
     let b = at-hand-outs .hand-outs .ensures .different (not-false _ (at-if2 .if2 .left)) in
-    let f = firsts-fewer (wordsOf (start .args .log .now)) (start .args .entries) in
+    let f = firsts-fewer (start .args .words) (wordsOf (start .args .log .now)) (start .args .entries) in
     omega (arith, a, b, f)
 
 same-length-6 : tie.Need-same-length-6
@@ -101,8 +102,8 @@ returns-4 c =
     let at-hand-outs = c .before .before .before .before .before .before .before .before .before .before .before .before .before .before .before .before .before .before .before in
     let at-if2 = c .before .before .before .before .before .before .before .before .before .before .before .before .before .before .before in
     let at-mark-listed = c .before .before .before .before .before .before in
-    all-accepted (wordsOf (start .args .log .now)) (start .args .entries) (wordsOf (start .args .list .now)) (start .args .numbers) _ _ (passed (c .before .before .before .before .before .before .before .before .before .before .before .before .before .before .before .before .before .before .before .before .before .before .before .before .before .before .before .in-order .ensures) (c .before .before .before .before .before .before .before .before .before .before .before .before .before .before .before .before .before .before .before .before .before .before .before .before .before .before .if1 .left)) (passed (at-hand-outs .hand-outs .ensures .fine) (at-if2 .if2 .left))
-    (sym (kept-whole (wordsOf (start .args .log .now)) (start .args .entries) (wordsOf (start .args .list .now)) (start .args .numbers) _ _ (at-mark-listed .mark-listed .last .1 .1 .1 .1 .1 .1 .1 .0) (c .before .before .before .before .before .before .before .before .before .before .before .before .before .before .before .before .before .before .before .before .before .before .before .before .gather .ensures) (at-mark-listed .mark-listed .ensures) true (passed (c .before .before .all-marked .ensures) (c .before .if3 .left))))
+    all-accepted (start .args .words) (wordsOf (start .args .log .now)) (start .args .entries) (wordsOf (start .args .list .now)) (start .args .numbers) _ _ (passed (c .before .before .before .before .before .before .before .before .before .before .before .before .before .before .before .before .before .before .before .before .before .before .before .before .before .before .before .in-order .ensures) (c .before .before .before .before .before .before .before .before .before .before .before .before .before .before .before .before .before .before .before .before .before .before .before .before .before .before .if1 .left)) (passed (at-hand-outs .hand-outs .ensures .fine) (at-if2 .if2 .left))
+    (sym (kept-whole (start .args .words) (wordsOf (start .args .log .now)) (start .args .entries) (wordsOf (start .args .list .now)) (start .args .numbers) _ _ (at-mark-listed .mark-listed .last .1 .1 .1 .1 .1 .1 .1 .1 .0) (c .before .before .before .before .before .before .before .before .before .before .before .before .before .before .before .before .before .before .before .before .before .before .before .before .gather .ensures) (at-mark-listed .mark-listed .ensures) true (passed (c .before .before .all-marked .ensures) (c .before .if3 .left))))
     (at-hand-outs .hand-outs .ensures .handouts (not-false _ (at-if2 .if2 .left))) (at-hand-outs .hand-outs .ensures .different (not-false _ (at-if2 .if2 .left)))
 
 pub judge-entries-spec : {M : Type 1} → statement M

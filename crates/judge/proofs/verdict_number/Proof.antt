@@ -11,6 +11,9 @@ enum-told-2 c = search needs
 enum-told-3 : tie.Need-enum-told-3
 enum-told-3 c = search needs
 
+enum-told-4 : tie.Need-enum-told-4
+enum-told-4 c = search needs
+
 enum-known-verdict : tie.Need-enum-known-verdict
 enum-known-verdict c = search needs
 
@@ -39,7 +42,10 @@ returns-3 : tie.Need-returns-3
 returns-3 c = search needs
 
 returns-4 : tie.Need-returns-4
-returns-4 c =
+returns-4 c = search needs
+
+returns-5 : tie.Need-returns-5
+returns-5 c =
     simp (c .before .verdict .given .1)
 
 pub verdict-number-spec : {M : Type 1} → statement M
@@ -49,6 +55,7 @@ verdict-number-spec =
     enum-told
     enum-told-2
     enum-told-3
+    enum-told-4
     enum-known-verdict
     cast-result
     mul-result
@@ -58,4 +65,5 @@ verdict-number-spec =
     returns
     returns-2
     returns-3
-    returns-4)
+    returns-4
+    returns-5)

@@ -2,37 +2,34 @@ use mathlib.Core.Path.{_≡_, sym, subst}
 use Prim.Native.Nat.{ℕ, _+_, _-_, _≤_}
 use native.Mathlib.Omega.{arith}
 use Rattle.judgement.specs.Judgement.{wordsOf}
+use Rattle.judgement.proofs.Entries.{entry-ends}
 use Rattle.judgement.proofs.Order.{Floor, floor-start, floor-skip, floor-next, known-by, too-low, too-high, plain-by, numbered-by, not-known, not-rising, in-order-whole}
 use Rattle.judgement.proofs.in_order.Statement.{statement}
 use Rattle.judgement.proofs.in_order.Tie as tie
 
 abbrev Inv-loop : tie.InvT-loop
-Inv-loop log entries floor₀ j₀ floor j = (j ≤ entries) × Floor (wordsOf log) j floor
+Inv-loop words log entries floor₀ j₀ floor j = (j ≤ entries) × Floor words (wordsOf log) j floor
 
 abbrev μ-loop : tie.MeasureT-loop
-μ-loop log entries floor₀ j₀ floor j = entries - j
+μ-loop words log entries floor₀ j₀ floor j = entries - j
 
 loop-holds : tie.Need-loop-holds Inv-loop μ-loop
 loop-holds c =
-    (omega arith, floor-start (wordsOf (c .before .args .log .now)))
+    (omega arith, floor-start (c .before .args .words) (wordsOf (c .before .args .log .now)))
 
-mul-word : tie.Need-mul-word Inv-loop μ-loop
-mul-word c =
-    omega arith
-
-word-requires : tie.Need-word-requires Inv-loop μ-loop
-word-requires c κs =
-    omega arith
+kind-at-requires : tie.Need-kind-at-requires Inv-loop μ-loop
+kind-at-requires c κs =
+    entry-ends _ _ _ _ (c .before .before .before .pre) (c .loop-test .taken)
 
 returns : tie.Need-returns Inv-loop μ-loop
 returns c =
     let start = c .before .before .before .before .before in
-    not-known (wordsOf (start .args .log .now)) (start .args .entries) (c .before .before .before .loop .j) (omega arith) (too-low (wordsOf (start .args .log .now)) _ _ (c .before .word .ensures) (omega arith))
+    not-known (start .args .words) (wordsOf (start .args .log .now)) (start .args .entries) (c .before .before .before .loop .j) (omega arith) (too-low (start .args .words) (wordsOf (start .args .log .now)) _ _ (c .before .kind-at .ensures) (omega arith))
 
 returns-2 : tie.Need-returns-2 Inv-loop μ-loop
 returns-2 c =
     let start = c .before .before .before .before .before .before in
-    not-known (wordsOf (start .args .log .now)) (start .args .entries) (c .before .before .before .before .loop .j) (omega arith) (too-high (wordsOf (start .args .log .now)) _ _ (c .before .before .word .ensures) (omega arith))
+    not-known (start .args .words) (wordsOf (start .args .log .now)) (start .args .entries) (c .before .before .before .before .loop .j) (omega arith) (too-high (start .args .words) (wordsOf (start .args .log .now)) _ _ (c .before .before .kind-at .ensures) (omega arith))
 
 add-j : tie.Need-add-j Inv-loop μ-loop
 add-j c =
@@ -45,8 +42,8 @@ loop-less c =
 loop-again : tie.Need-loop-again Inv-loop μ-loop
 loop-again c =
     let start = c .before .before .before .before .before .before .before in
-    let t : c .before .before .before .word .result ≡ 2 = c .if3 .taken in
-    (omega arith, floor-skip (wordsOf (start .args .log .now)) _ _ (c .before .before .before .before .before .loop .inv .1) (known-by (wordsOf (start .args .log .now)) _ _ (c .before .before .before .word .ensures) (omega (arith, t)) (omega (arith, t))) (plain-by (wordsOf (start .args .log .now)) _ _ (c .before .before .before .word .ensures) (λ x. omega (arith, t, x)) (λ x. omega (arith, t, x))))
+    let t : c .before .before .before .kind-at .result ≡ 2 = c .if3 .taken in
+    (omega arith, floor-skip (start .args .words) (wordsOf (start .args .log .now)) _ _ (c .before .before .before .before .before .loop .inv .1) (known-by (start .args .words) (wordsOf (start .args .log .now)) _ _ (c .before .before .before .kind-at .ensures) (omega (arith, t)) (omega (arith, t))) (plain-by (start .args .words) (wordsOf (start .args .log .now)) _ _ (c .before .before .before .kind-at .ensures) (λ x. omega (arith, t, x)) (λ x. omega (arith, t, x))))
 
 add-j-2 : tie.Need-add-j-2 Inv-loop μ-loop
 add-j-2 c =
@@ -59,20 +56,12 @@ loop-less-2 c =
 loop-again-2 : tie.Need-loop-again-2 Inv-loop μ-loop
 loop-again-2 c =
     let start = c .before .before .before .before .before .before .before .before in
-    let t : c .before .before .before .before .word .result ≡ 3 = c .if4 .taken in
-    (omega arith, floor-skip (wordsOf (start .args .log .now)) _ _ (c .before .before .before .before .before .before .loop .inv .1) (known-by (wordsOf (start .args .log .now)) _ _ (c .before .before .before .before .word .ensures) (omega (arith, t)) (omega (arith, t))) (plain-by (wordsOf (start .args .log .now)) _ _ (c .before .before .before .before .word .ensures) (λ x. omega (arith, t, x)) (λ x. omega (arith, t, x))))
+    let t : c .before .before .before .before .kind-at .result ≡ 3 = c .if4 .taken in
+    (omega arith, floor-skip (start .args .words) (wordsOf (start .args .log .now)) _ _ (c .before .before .before .before .before .before .loop .inv .1) (known-by (start .args .words) (wordsOf (start .args .log .now)) _ _ (c .before .before .before .before .kind-at .ensures) (omega (arith, t)) (omega (arith, t))) (plain-by (start .args .words) (wordsOf (start .args .log .now)) _ _ (c .before .before .before .before .kind-at .ensures) (λ x. omega (arith, t, x)) (λ x. omega (arith, t, x))))
 
-mul-word-2 : tie.Need-mul-word-2 Inv-loop μ-loop
-mul-word-2 c =
-    omega arith
-
-add-word : tie.Need-add-word Inv-loop μ-loop
-add-word c =
-    omega arith
-
-word-requires-2 : tie.Need-word-requires-2 Inv-loop μ-loop
-word-requires-2 c κs =
-    omega arith
+number-at-requires : tie.Need-number-at-requires Inv-loop μ-loop
+number-at-requires c κs =
+    entry-ends _ _ _ _ (c .before .before .before .before .before .before .before .before .pre) (c .before .before .before .before .before .loop-test .taken)
 
 cast-number : tie.Need-cast-number Inv-loop μ-loop
 cast-number c =
@@ -81,9 +70,9 @@ cast-number c =
 returns-3 : tie.Need-returns-3 Inv-loop μ-loop
 returns-3 c =
     let start = c .before .before .before .before .before .before .before .before .before .before in
-    let r = c .before .word2 .ensures in
+    let r = c .before .number-at .ensures in
     let t = c .if5 .taken in
-    not-rising (wordsOf (start .args .log .now)) _ _ (c .before .before .before .before .before .before .before .before .loop .inv .1) (start .args .entries) (omega arith) (numbered-by (wordsOf (start .args .log .now)) _ _ (c .before .before .before .before .before .before .word .ensures) (omega arith) (omega arith) (c .before .before .before .if3 .left) (c .before .before .if4 .left)) (omega (arith, r, t))
+    not-rising (start .args .words) (wordsOf (start .args .log .now)) _ _ (c .before .before .before .before .before .before .before .before .loop .inv .1) (start .args .entries) (omega arith) (numbered-by (start .args .words) (wordsOf (start .args .log .now)) _ _ (c .before .before .before .before .before .before .kind-at .ensures) (omega arith) (omega arith) (c .before .before .before .if3 .left) (c .before .before .if4 .left)) (omega (arith, r, t))
 
 add-floor : tie.Need-add-floor Inv-loop μ-loop
 add-floor c =
@@ -102,13 +91,13 @@ loop-again-3 c =
     let start = c .before .before .before .before .before .before .before .before .before .before in
     let at-loop = c .before .before .before .before .before .before .before .before in
     let at-word = c .before .before .before .before .before .before in
-    let r = c .before .word2 .ensures in
+    let r = c .before .number-at .ensures in
     let t = c .if5 .left in
-    (omega arith, subst (λ (x : ℕ). Floor (wordsOf (start .args .log .now)) (at-loop .loop .j + 1) (x + 1)) (sym r) (floor-next (wordsOf (start .args .log .now)) _ _ (at-loop .loop .inv .1) (known-by (wordsOf (start .args .log .now)) _ _ (at-word .word .ensures) (omega arith) (omega arith)) (numbered-by (wordsOf (start .args .log .now)) _ _ (at-word .word .ensures) (omega arith) (omega arith) (c .before .before .before .if3 .left) (c .before .before .if4 .left)) (omega (arith, r, t))))
+    (omega arith, subst (λ (x : ℕ). Floor (start .args .words) (wordsOf (start .args .log .now)) (at-loop .loop .j + 1) (x + 1)) (sym r) (floor-next (start .args .words) (wordsOf (start .args .log .now)) _ _ (at-loop .loop .inv .1) (known-by (start .args .words) (wordsOf (start .args .log .now)) _ _ (at-word .kind-at .ensures) (omega arith) (omega arith)) (numbered-by (start .args .words) (wordsOf (start .args .log .now)) _ _ (at-word .kind-at .ensures) (omega arith) (omega arith) (c .before .before .before .if3 .left) (c .before .before .if4 .left)) (omega (arith, r, t))))
 
 returns-4 : tie.Need-returns-4 Inv-loop μ-loop
 returns-4 c =
-    in-order-whole (wordsOf (c .before .before .before .args .log .now)) (c .before .before .before .args .entries) _ _ (c .before .loop .inv .1) (c .before .loop .inv .0) (omega arith)
+    in-order-whole (c .before .before .before .args .words) (wordsOf (c .before .before .before .args .log .now)) (c .before .before .before .args .entries) _ _ (c .before .loop .inv .1) (c .before .loop .inv .0) (omega arith)
 
 pub in-order-spec : {M : Type 1} → statement M
 in-order-spec =
@@ -117,8 +106,7 @@ in-order-spec =
     Inv-loop
     μ-loop
     loop-holds
-    mul-word
-    word-requires
+    kind-at-requires
     returns
     returns-2
     add-j
@@ -127,9 +115,7 @@ in-order-spec =
     add-j-2
     loop-less-2
     loop-again-2
-    mul-word-2
-    add-word
-    word-requires-2
+    number-at-requires
     cast-number
     returns-3
     add-floor

@@ -15,7 +15,7 @@ returns : tie.Need-returns
 returns c q s =
     let a = c .before .before .args in
     let busy = eqb-false (stage (a .own .line)) 0 (c .before .before .pre .1 .1 .1) in
-    sym (outside (a .scope .kind) (a .scope .width) q (a .scope .crew) (a .worker) (a .own .line) busy (c .before .before .pre .1 .1 .0) (c .if1 .taken))
+    sym (outside (a .scope .kind) (a .scope .width) (a .scope .words) q (a .scope .crew) (a .worker) (a .own .line) busy (c .before .before .pre .1 .1 .0) (c .if1 .taken))
 
 stage-requires : tie.Need-stage-requires
 stage-requires c κs = search needs
@@ -30,8 +30,8 @@ returns-2 c q s =
     let busy = eqb-false (stage (a .own .line)) 0 (start .pre .1 .1 .1) in
     let hand = c .before .own-line .ensures ∙ ap (λ (x : ℕ). if eqb (a .worker) 0 then ltb x 4 else ltb 3 x) (c .before .before .stage .ensures) in
     sym
-    (inside (a .scope .kind) (a .scope .width) q (a .scope .crew) (a .worker) (a .own .line) busy (c .before .before .before .if1 .left)
-    ∙ fails (lineOk (a .scope .kind) (a .scope .width) q (a .own .line)) (refused hand (c .if2 .taken)))
+    (inside (a .scope .kind) (a .scope .width) (a .scope .words) q (a .scope .crew) (a .worker) (a .own .line) busy (c .before .before .before .if1 .left)
+    ∙ fails (lineOk (a .scope .kind) (a .scope .width) (a .scope .words) q (a .own .line)) (refused hand (c .if2 .taken)))
 
 line-ok-requires : tie.Need-line-ok-requires
 line-ok-requires c κs = search needs
@@ -44,7 +44,7 @@ returns-3 c q (p, d, t) =
     let hand = c .before .before .own-line .ensures ∙ ap (λ (x : ℕ). if eqb (a .worker) 0 then ltb x 4 else ltb 3 x) (c .before .before .before .stage .ensures) in
     c .line-ok .ensures q p d t
     ∙ sym
-    (inside (a .scope .kind) (a .scope .width) q (a .scope .crew) (a .worker) (a .own .line) busy (c .before .before .before .before .if1 .left)
+    (inside (a .scope .kind) (a .scope .width) (a .scope .words) q (a .scope .crew) (a .worker) (a .own .line) busy (c .before .before .before .before .if1 .left)
     ∙ holds (passed hand (c .before .if2 .left)))
 
 pub busy-ok-spec : {M : Type 1} → statement M

@@ -2,7 +2,7 @@ use mathlib.Core.Path.{sym, _∙_}
 use native.Mathlib.Omega.{arith}
 use borrow.Author.Needs.{needs}
 use borrow.Author.Tests.{not-true, not-false, lt-ltb, le-ltb, le-leb, lt-leb}
-use Rattle.model.proofs.Tests.{holds, fails}
+use Rattle.model.proofs.Tests.{holds, fails, and-swap}
 use Rattle.limits.proofs.Directory.{reaches}
 use Rattle.limits.proofs.directory_ok.Statement.{statement}
 use Rattle.limits.proofs.directory_ok.Tie as tie
@@ -28,7 +28,7 @@ returns-3 c =
 tidy-requires : tie.Need-tidy-requires
 tidy-requires c κs =
     let p = reaches _ _ _ (sym (c .before .claims-ok .ensures) ∙ not-false _ (c .if3 .left)) in
-    (omega arith, c .before .before .if2 .left)
+    (c .before .before .before .before .before .pre, (omega arith, c .before .before .if2 .left))
 
 returns-4 : tie.Need-returns-4
 returns-4 c =
@@ -37,7 +37,7 @@ returns-4 c =
     (holds (lt-ltb 0 (q .published) (omega arith))
     ∙ holds (le-leb _ _ (c .before .before .before .before .if2 .left))
     ∙ holds (sym (c .before .before .before .claims-ok .ensures) ∙ not-false _ (c .before .before .if3 .left))
-    ∙ fails _ (sym (c .before .tidy .ensures) ∙ not-true _ (c .if4 .taken)))
+    ∙ and-swap _ _ _ ∙ fails _ (sym (c .before .tidy .ensures) ∙ not-true _ (c .if4 .taken)))
 
 fits-requires : tie.Need-fits-requires
 fits-requires c κs =
@@ -52,7 +52,7 @@ returns-5 c =
     (holds (lt-ltb 0 (q .published) (omega arith))
     ∙ holds (le-leb _ _ (c .before .before .before .before .before .if2 .left))
     ∙ holds (sym (c .before .before .before .before .claims-ok .ensures) ∙ not-false _ (c .before .before .before .if3 .left))
-    ∙ holds (sym (c .before .before .tidy .ensures) ∙ not-false _ (c .before .if4 .left)))
+    ∙ and-swap _ _ _ ∙ holds (sym (c .before .before .tidy .ensures) ∙ not-false _ (c .before .if4 .left)))
 
 pub directory-ok-spec : {M : Type 1} → statement M
 directory-ok-spec =

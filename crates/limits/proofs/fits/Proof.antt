@@ -1,5 +1,5 @@
 use borrow.Author.Needs.{needs}
-use Rattle.model.specs.Memory.{offsetAt, sizeAt}
+use Rattle.model.specs.Memory.{offsetAt, lengthAt}
 use Rattle.limits.proofs.fits.Statement.{statement}
 use Rattle.limits.proofs.fits.Tie as tie
 
@@ -15,16 +15,13 @@ cast-end c = search needs
 cast-end-2 : tie.Need-cast-end-2
 cast-end-2 c = search needs
 
-mul-end : tie.Need-mul-end
-mul-end c = search needs
-
 add-end : tie.Need-add-end
 add-end c = search needs
 
 returns : tie.Need-returns
-unfolding offsetAt sizeAt
+unfolding offsetAt lengthAt
 returns c = simp (c .before .before .region-at .ensures)
 
 pub fits-spec : {M : Type 1} → statement M
 fits-spec =
-    tie.close (tie.spec sub-place region-at-requires cast-end cast-end-2 mul-end add-end returns)
+    tie.close (tie.spec sub-place region-at-requires cast-end cast-end-2 add-end returns)

@@ -1,17 +1,16 @@
+use Rattle.limits.proofs.Lengths.{half-of-all}
+use Rattle.model.proofs.Tests.{holds, fails}
 use borrow.Author.Tests.{eq-eqb, ne-eqb}
+use mathlib.Core.Path.{sym, _∙_}
 use borrow.Author.Needs.{needs}
-use Rattle.model.specs.Tests.{_and_}
 use Rattle.limits.proofs.follows.Statement.{statement}
 use Rattle.limits.proofs.follows.Tie as tie
 
-cast-tasks : tie.Need-cast-tasks
-cast-tasks c = search needs
+cast-long : tie.Need-cast-long
+cast-long c = search needs
 
 cast-end : tie.Need-cast-end
 cast-end c = search needs
-
-mul-end : tie.Need-mul-end
-mul-end c = search needs
 
 add-end : tie.Need-add-end
 add-end c = search needs
@@ -20,8 +19,7 @@ cast-if1 : tie.Need-cast-if1
 cast-if1 c = search needs
 
 returns : tie.Need-returns
-unfolding _and_
-returns c = simp (ne-eqb _ _ (c .if1 .taken))
+returns c = sym (fails _ (ne-eqb _ _ (c .if1 .taken)))
 
 cast-if2 : tie.Need-cast-if2
 cast-if2 c = search needs
@@ -29,33 +27,31 @@ cast-if2 c = search needs
 mul-if2 : tie.Need-mul-if2
 mul-if2 c = search needs
 
-mul-if2-2 : tie.Need-mul-if2-2
-mul-if2-2 c = search needs
-
 returns-2 : tie.Need-returns-2
-unfolding _and_
-returns-2 c = simp (eq-eqb _ _ (c .before .before .if1 .left), ne-eqb _ _ (c .if2 .taken))
+returns-2 c = sym (holds (eq-eqb _ _ (c .before .before .if1 .left)) ∙ fails _ (ne-eqb _ _ (c .if2 .taken)))
+
+add-result : tie.Need-add-result
+add-result c = search needs
 
 mul-result : tie.Need-mul-result
 mul-result c = search needs
 
 returns-3 : tie.Need-returns-3
-unfolding _and_
-returns-3 c = simp (eq-eqb _ _ (c .before .before .if1 .left), eq-eqb _ _ (c .if2 .left))
+returns-3 c = let a = c .before .before .before .before .before .before .before .args in
+    sym (holds (eq-eqb _ _ (c .before .before .before .if1 .left)) ∙ holds (eq-eqb _ _ (c .before .if2 .left)) ∙ half-of-all (a .words) (a .before .length))
 
 pub follows-spec : {M : Type 1} → statement M
 follows-spec =
     tie.close
     (tie.spec
-    cast-tasks
+    cast-long
     cast-end
-    mul-end
     add-end
     cast-if1
     returns
     cast-if2
     mul-if2
-    mul-if2-2
     returns-2
+    add-result
     mul-result
     returns-3)

@@ -9,17 +9,17 @@ use Rattle.model.specs.declared.Region.{Region}
 use Rattle.model.specs.Memory.{nowhere}
 use Rattle.model.specs.Limits.{tidy}
 use Rattle.limits.specs.Parts.{followsOk}
-use Rattle.model.proofs.Tests.{passed, refused}
-use Rattle.limits.proofs.Directory.{starts-tidy, next-tidy, never-tidy}
+use Rattle.model.proofs.Tests.{holds, fails, passed, refused, and-left, and-right}
+use Rattle.limits.proofs.Directory.{starts-tidy, next-tidy, never-starts, never-tidy, kept}
 use Rattle.limits.proofs.tidy.Statement.{statement}
 use Rattle.limits.proofs.tidy.Tie as tie
 
 abbrev Inv-loop : tie.InvT-loop
-Inv-loop claimed arrays before₀ last₀ before last =
-    (last < claimed) × (before ≡ getD arrays last nowhere) × (tidy arrays (suc last) ≡ true)
+Inv-loop words claimed arrays before₀ last₀ before last =
+    (last < claimed) × (before ≡ getD arrays last nowhere) × (tidy words arrays (suc last) ≡ true)
 
 abbrev μ-loop : tie.MeasureT-loop
-μ-loop claimed arrays before₀ last₀ before last = claimed - last
+μ-loop words claimed arrays before₀ last₀ before last = claimed - last
 
 cast-claimed : tie.Need-cast-claimed Inv-loop μ-loop
 cast-claimed c = search needs
@@ -32,21 +32,24 @@ starts-requires c κs = search needs
 
 returns : tie.Need-returns Inv-loop μ-loop
 returns c =
-    let q = c .before .before .before .args .t1 in
-    sym (never-tidy (q .arrays) 0 (q .claimed) (omega arith) (starts-tidy (q .arrays) false (refused (c .before .starts .ensures) (c .if1 .taken))))
+    let a = c .before .before .before .args in
+    sym (never-starts (a .words) (a .t2 .arrays) (a .t2 .initial) (a .t2 .claimed) (omega arith) (refused (c .before .starts .ensures) (c .if1 .taken)))
 
 returns-2 : tie.Need-returns-2 Inv-loop μ-loop
 returns-2 c =
-    let q = c .before .before .before .before .args .t1 in
-    let e : 1 ≡ q .claimed = omega arith in
+    let a = c .before .before .before .before .args in
+    let first = passed (c .before .before .starts .ensures) (c .before .if1 .left) in
+    let e : 1 ≡ a .t2 .claimed = omega arith in
     sym
-    (subst (λ (n : ℕ). tidy (q .arrays) n ≡ true) e
-    (starts-tidy (q .arrays) true (passed (c .before .before .starts .ensures) (c .before .if1 .left))))
+    (holds
+    (subst (λ (n : ℕ). tidy (a .words) (a .t2 .arrays) n ≡ true) e
+    (starts-tidy (a .words) (a .t2 .arrays) true (and-left _ _ first)))
+    ∙ kept (a .words) (a .t2) (and-right _ _ first))
 
 loop-holds : tie.Need-loop-holds Inv-loop μ-loop
 loop-holds c =
-    let q = c .before .before .before .before .before .args .t1 in
-    (omega arith, refl, starts-tidy (q .arrays) true (passed (c .before .before .before .starts .ensures) (c .before .before .if1 .left)))
+    let a = c .before .before .before .before .before .args in
+    (omega arith, refl, starts-tidy (a .words) (a .t2 .arrays) true (and-left _ _ (passed (c .before .before .before .starts .ensures) (c .before .before .if1 .left))))
 
 add-loop : tie.Need-add-loop Inv-loop μ-loop
 add-loop c = search needs
@@ -65,28 +68,31 @@ follows-requires c κs = search needs
 
 returns-3 : tie.Need-returns-3 Inv-loop μ-loop
 returns-3 c =
-    let q = c .before .before .before .before .before .before .before .before .before .before .args .t1 in
+    let q = c .before .before .before .before .before .before .before .before .before .before .args .t2 in let v = c .before .before .before .before .before .before .before .before .before .before .args .words in
     let k = c .before .before .before .before .loop .last in
-    let link = c .before .follows .ensures ∙ ap (λ (p : Region). followsOk p (getD (q .arrays) (k + 1) nowhere)) (c .before .before .before .before .loop .inv .1) in
+    let link = c .before .follows .ensures ∙ ap (λ (p : Region). followsOk v p (getD (q .arrays) (k + 1) nowhere)) (c .before .before .before .before .loop .inv .1) in
     sym
-    (never-tidy (q .arrays) (suc k) (q .claimed) (omega arith)
-    (next-tidy (q .arrays) false k (c .before .before .before .before .loop .inv .2) (rw add-one at (refused link (c .if3 .taken)))))
+    (fails _
+    (never-tidy v (q .arrays) (suc k) (q .claimed) (omega arith)
+    (next-tidy v (q .arrays) false k (c .before .before .before .before .loop .inv .2) (rw add-one at (refused link (c .if3 .taken))))))
 
 loop-less : tie.Need-loop-less Inv-loop μ-loop
 loop-less c = search needs
 
 loop-again : tie.Need-loop-again Inv-loop μ-loop
 loop-again c =
-    let q = c .before .before .before .before .before .before .before .before .before .before .args .t1 in
+    let q = c .before .before .before .before .before .before .before .before .before .before .args .t2 in let v = c .before .before .before .before .before .before .before .before .before .before .args .words in
     let k = c .before .before .before .before .loop .last in
-    let link = c .before .follows .ensures ∙ ap (λ (p : Region). followsOk p (getD (q .arrays) (k + 1) nowhere)) (c .before .before .before .before .loop .inv .1) in
-    (omega arith, refl, rw add-one (next-tidy (q .arrays) true k (c .before .before .before .before .loop .inv .2) (rw add-one at (passed link (c .if3 .left)))))
+    let link = c .before .follows .ensures ∙ ap (λ (p : Region). followsOk v p (getD (q .arrays) (k + 1) nowhere)) (c .before .before .before .before .loop .inv .1) in
+    (omega arith, refl, rw add-one (next-tidy v (q .arrays) true k (c .before .before .before .before .loop .inv .2) (rw add-one at (passed link (c .if3 .left)))))
 
 returns-4 : tie.Need-returns-4 Inv-loop μ-loop
 returns-4 c =
-    let q = c .before .before .before .before .before .before .before .args .t1 in
-    let e : suc (c .before .loop .last) ≡ q .claimed = omega arith in
-    sym (subst (λ (n : ℕ). tidy (q .arrays) n ≡ true) e (c .before .loop .inv .2))
+    let a = c .before .before .before .before .before .before .before .args in
+    let e : suc (c .before .loop .last) ≡ a .t2 .claimed = omega arith in
+    sym
+    (holds (subst (λ (n : ℕ). tidy (a .words) (a .t2 .arrays) n ≡ true) e (c .before .loop .inv .2))
+    ∙ kept (a .words) (a .t2) (and-right _ _ (passed (c .before .before .before .before .before .starts .ensures) (c .before .before .before .before .if1 .left))))
 
 pub tidy-spec : {M : Type 1} → statement M
 tidy-spec =

@@ -1,8 +1,12 @@
-use mathlib.Core.Path.{refl, sym, _∙_}
+use mathlib.Core.Bool.{true}
+use mathlib.Core.Path.{_≡_, refl, sym, _∙_}
+use Prim.Native.Nat.{ℕ, _-_}
+use borrow.Author.Needs.{needs}
 use Rattle.model.specs.Tests.{if_then_else_}
+use Rattle.model.specs.Lines.{fits}
+use Rattle.slots.specs.Bounds.{Sized}
 use Rattle.lines.specs.Actions.{queueBy, storeBy, answerBy, failsBy, Doable}
 use Rattle.lines.proofs.Room.{in-room}
-use borrow.Author.Needs.{needs}
 use Rattle.lines.proofs.claim.Statement.{statement}
 use Rattle.lines.proofs.claim.Tie as tie
 
@@ -12,31 +16,30 @@ has-room-requires c κs = search needs
 sub-here : tie.Need-sub-here
 sub-here c = search needs
 
-cast-end-of : tie.Need-cast-end-of
-cast-end-of c = search needs
+cast-at : tie.Need-cast-at
+cast-at c = search needs
 
 end-of-requires : tie.Need-end-of-requires
 end-of-requires c κs = search needs
 
-mul-words : tie.Need-mul-words
-mul-words c = search needs
-
-mul-words-2 : tie.Need-mul-words-2
-mul-words-2 c = search needs
+twice-as-long-requires : tie.Need-twice-as-long-requires
+twice-as-long-requires c κs = search needs
 
 returns : tie.Need-returns
 unfolding queueBy storeBy answerBy failsBy Doable if_then_else_
 returns c =
-    let start = c .before .before .before .before .before in
-    let room = sym (c .before .before .before .has-room .ensures) ∙ c .before .before .if1 .taken in
-    let size = start .pre .1 .1 .1 in (
-      simp (room, size, c .end-of .ensures),
-      (in-room (start .args .queue) (start .args .store .now) (start .pre .1 .1 .0) room size (c .end-of .ensures), refl),
+    let start = c .before .before .before .before .before .before in
+    let q = start .args .queue in
+    let m = start .args .store .now in
+    let has = c .before .before .before .before .has-room .ensures in
+    let room : (v : ℕ) → Sized v q (q .published - 1) → fits v q m ≡ true = λ v S. sym (has v S) ∙ c .before .before .before .if1 .taken in (
+      λ v S. simp (room v S, c .twice-as-long .ensures, c .before .end-of .ensures),
+      (λ v S f. in-room v q m f (room v S) (c .twice-as-long .ensures) (c .before .end-of .ensures), refl),
     )
 
 returns-2 : tie.Need-returns-2
 unfolding queueBy storeBy answerBy failsBy Doable if_then_else_
-returns-2 c = (simp (sym (c .before .has-room .ensures) ∙ c .if1 .left), (refl, refl))
+returns-2 c = (λ v S. simp (sym (c .before .has-room .ensures v S) ∙ c .if1 .left), (λ v S f. refl, refl))
 
 pub claim-spec : {M : Type 1} → statement M
 claim-spec =
@@ -44,9 +47,8 @@ claim-spec =
     (tie.spec
     has-room-requires
     sub-here
-    cast-end-of
+    cast-at
     end-of-requires
-    mul-words
-    mul-words-2
+    twice-as-long-requires
     returns
     returns-2)

@@ -16,13 +16,13 @@ returns : tie.Need-returns
 unfolding queueBy storeBy answerBy failsBy Doable if_then_else_
 returns c =
     let same = sym (c .before .before .is-same .ensures) ∙ c .before .if1 .taken in
-    (λ m. simp (same, c .after-steal .ensures), (λ n. refl, sym (ap not same)))
+    (λ v m. simp (same, c .after-steal .ensures), (λ v n. refl, sym (ap not same)))
 
 returns-2 : tie.Need-returns-2
 unfolding queueBy storeBy answerBy failsBy Doable if_then_else_
 returns-2 c =
     let same = sym (c .before .is-same .ensures) ∙ c .if1 .left in
-    (λ m. simp same, (λ n. tt, sym (ap not same)))
+    (λ v m. simp same, (λ v n. tt, sym (ap not same)))
 
 pub compare-spec : {M : Type 1} → statement M
 compare-spec = tie.close (tie.spec is-same-requires after-steal-requires returns returns-2)

@@ -10,11 +10,11 @@ is-empty-requires c κs = search needs
 
 returns : tie.Need-returns
 unfolding queueBy storeBy answerBy failsBy Doable if_then_else_
-returns c = (λ q m l. simp (sym (c .before .is-empty .ensures) ∙ c .if1 .taken), (λ q n. refl, refl))
+returns c = (λ v q m l. simp (sym (c .before .is-empty .ensures) ∙ c .if1 .taken), (λ v q n. refl, refl))
 
 returns-2 : tie.Need-returns-2
 unfolding queueBy storeBy answerBy failsBy Doable if_then_else_
-returns-2 c = (λ q m l. simp (sym (c .before .is-empty .ensures) ∙ c .if1 .left), (λ q n. tt, refl))
+returns-2 c = (λ v q m l. simp (sym (c .before .is-empty .ensures) ∙ c .if1 .left), (λ v q n. tt, refl))
 
 pub stop-empty-spec : {M : Type 1} → statement M
 stop-empty-spec = tie.close (tie.spec is-empty-requires returns returns-2)

@@ -6,12 +6,11 @@ use Prim.Native.Nat.{_+_, _-_, _≤_, min}
 use lib.ListN.{length, take, drop, length-drop}
 use lib.Seq.{length-take-le}
 use Rattle.model.specs.declared.Answer.the-variants.{GoesOn, Refused}
-use Rattle.model.specs.World.{Outcome}
 use Rattle.model.specs.Calls.{lent}
 use Rattle.model.specs.Listing.{isRefused, stepsOf}
 use Rattle.theorems.specs.Reached.{Reached}
 use Rattle.state.specs.declared.Returned.{Returned}
-use Rattle.machine.proofs.Stepping.{steppable, made-not-refused, settles, refuses, replaces}
+use Rattle.machine.proofs.Stepping.{steppable, made-not-refused, settles, refuses, restarts, replaces}
 use Rattle.listing.specs.Listing as spec
 use Rattle.replies.specs.Sessions.{worldOf, programOf}
 use Rattle.replies.specs.Choices.{RefusedAtOnce}
@@ -92,7 +91,7 @@ show-requires c κs =
     let at-if1 = c .before .before .before .before .before .before .before .before .before .before .before .before in
     let l = at-lines .lines in
     let s = sessionOf (l .live) (l .words) (l .bench) in
-    refusal-room (c .before .before .stop .given .0 .0) _ _ (let z : l .wrote + 72 ≤ length (l .out) = omega (arith, l .inv .0 .fits, l .inv .3, at-if1 .if1 .left) in z)
+    refusal-room (l .bench .words) (c .before .before .stop .given .0 .0) _ _ (let z : l .wrote + 136 ≤ length (l .out) = omega (arith, l .inv .0 .fits, l .inv .3, at-if1 .if1 .left) in z)
 
 lines-less : tie.Need-lines-less Inv-loop μ-loop Inv-lines μ-lines
 lines-less c =
@@ -111,11 +110,11 @@ lines-again c =
     let l = at-lines .lines in
     let s = sessionOf (l .live) (l .words) (l .bench) in
     let at-once = subst (RefusedAtOnce (l .live) (worldOf s (l .store) (l .log)) (at-parse .parse .result)) (at-stop .stop .given .1) (c .before .before .before .before .before .before .before .refused-at-once .ensures (take (l .words) (l .store)) (l .log) (valid-of s (l .store) (l .log) (l .inv .0 .reach))) in (
-      standing-on _ _ s (l .store) (l .log) (l .out) (l .used) (l .wrote) _ _ _ _ _ _ (l .inv .0) (at-line-end .line-end .ensures) (at-if2 .if2 .left) (let z : l .wrote + 72 ≤ length (l .out) = omega (arith, l .inv .0 .fits, l .inv .3, at-if1 .if1 .left) in z) (at-parse .parse .ensures)
+      standing-on _ _ s (l .store) (l .log) (l .out) (l .used) (l .wrote) _ _ _ _ _ _ (l .inv .0) (at-line-end .line-end .ensures) (at-if2 .if2 .left) (let z : l .wrote + 136 ≤ length (l .out) = omega (arith, l .inv .0 .fits, l .inv .3, at-if1 .if1 .left) in z) (at-parse .parse .ensures)
           (at-once-by s (l .store) (l .log) (at-parse .parse .result) (at-stop .stop .given .0 .0) _ _ _ _ at-once (c .before .before .show .ensures)) (refl),
       l .inv .1,
       l .inv .2,
-      c .before .before .show .kept .1 .0 ∙ l .inv .3,
+      c .before .before .show .kept .1 .1 .0 ∙ l .inv .3,
       l .inv .4,
     )
 
@@ -129,7 +128,7 @@ play-requires c κs =
     let at-ask = c .before .before .before .before .before .before .before .before in
     let l = at-lines .lines in
     let s = sessionOf (l .live) (l .words) (l .bench) in
-    ((let z : l .wrote + 72 ≤ length (l .out) = omega (arith, l .inv .0 .fits, l .inv .3, at-if1 .if1 .left) in z), sym (at-ask .ask .ensures) ∙ c .before .before .before .before .before .before .enum-told .given .1)
+    ((let z : l .wrote + 136 ≤ length (l .out) = omega (arith, l .inv .0 .fits, l .inv .3, at-if1 .if1 .left) in z), sym (at-ask .ask .ensures) ∙ c .before .before .before .before .before .before .enum-told .given .1)
 
 lines-less-2 : tie.Need-lines-less-2 Inv-loop μ-loop Inv-lines μ-lines
 lines-less-2 c =
@@ -147,7 +146,7 @@ lines-again-2 c =
     let at-play = c .before .before .before .before .before .before .before .before in
     let l = at-lines .lines in
     let s = sessionOf (l .live) (l .words) (l .bench) in (
-      standing-on _ _ s (l .store) (l .log) (l .out) (l .used) (l .wrote) _ _ _ _ _ _ (l .inv .0) (at-line-end .line-end .ensures) (at-if2 .if2 .left) (let z : l .wrote + 72 ≤ length (l .out) = omega (arith, l .inv .0 .fits, l .inv .3, at-if1 .if1 .left) in z) (at-parse .parse .ensures)
+      standing-on _ _ s (l .store) (l .log) (l .out) (l .used) (l .wrote) _ _ _ _ _ _ (l .inv .0) (at-line-end .line-end .ensures) (at-if2 .if2 .left) (let z : l .wrote + 136 ≤ length (l .out) = omega (arith, l .inv .0 .fits, l .inv .3, at-if1 .if1 .left) in z) (at-parse .parse .ensures)
           (at-play .play .ensures) (c .if3 .left),
       at-play .play .kept .1 .1 .0 ∙ l .inv .1,
       at-play .play .kept .1 .1 .1 .0 ∙ l .inv .2,
@@ -187,7 +186,7 @@ lines-again-3 c =
     let l = at-lines .lines in
     let s = sessionOf (l .live) (l .words) (l .bench) in
     let k = c .before .loop in (
-      standing-on _ _ s (l .store) (l .log) (l .out) (l .used) (l .wrote) _ _ _ _ _ _ (l .inv .0) (at-line-end .line-end .ensures) (at-if2 .if2 .left) (let z : l .wrote + 72 ≤ length (l .out) = omega (arith, l .inv .0 .fits, l .inv .3, at-if1 .if1 .left) in z) (at-parse .parse .ensures)
+      standing-on _ _ s (l .store) (l .log) (l .out) (l .used) (l .wrote) _ _ _ _ _ _ (l .inv .0) (at-line-end .line-end .ensures) (at-if2 .if2 .left) (let z : l .wrote + 136 ≤ length (l .out) = omega (arith, l .inv .0 .fits, l .inv .3, at-if1 .if1 .left) in z) (at-parse .parse .ensures)
           (steps-by s _ _ _ _ _ _ _ _ _ _ _ (sym (at-ask .ask .ensures) ∙ c .before .before .before .before .before .before .asked .given .1) (stepping-over _ _ _ _ _ _ (k .left) _ _ _ _ (k .inv .0) (omega (arith, c .loop-test .left)))) (refl),
       k .inv .2 ∙ l .inv .1,
       k .inv .3 ∙ l .inv .2,
@@ -248,11 +247,11 @@ show-requires-2 c κs =
     let to = at-step .step-in .result .line in
     let made = at-step .step-in .result .made in
     let step =
-    stepped-front b (l .words) _ (k .store) (k .log) _ _ i place to made e (at-step .step-in .kept .1 .1 .1 .1 .1 .1 .1 .0) (k .inv .1)
+    stepped-front b (l .words) _ (k .store) (k .log) _ _ i place to made e (at-step .step-in .kept .1 .1 .1 .1 .1 .1 .1 .1 .0) (k .inv .1)
     (at-step .step-in .ensures .1 (b .used) (b .restarts) place (b .workers) (at-place-of .place-of .ensures .1) refl) in
     let by = refuses b place to made step _ (c .before .before .made .given .1) in
-    stepping-room _ _ _ _ _ _ (k .left) _ _ _ _ (k .inv .0) _ (let z : l .wrote + 72 ≤ length (l .out) = omega (arith, l .inv .0 .fits, l .inv .3, at-if1 .if1 .left) in z) (c .before .before .before .before .before .before .before .before .before .before .before .before .before .before .loop-test .taken)
-    (ap (λ (d : Outcome). d .answer) by)
+    stepping-room _ _ _ _ _ _ (k .left) _ _ _ _ (k .inv .0) _ (let z : l .wrote + 136 ≤ length (l .out) = omega (arith, l .inv .0 .fits, l .inv .3, at-if1 .if1 .left) in z) (c .before .before .before .before .before .before .before .before .before .before .before .before .before .before .loop-test .taken)
+    by
 
 lines-less-4 : tie.Need-lines-less-4 Inv-loop μ-loop Inv-lines μ-lines
 lines-less-4 c =
@@ -282,32 +281,41 @@ lines-again-4 c =
     let to = at-step .step-in .result .line in
     let made = at-step .step-in .result .made in
     let step =
-    stepped-front b (l .words) _ (k .store) (k .log) _ _ i place to made e (at-step .step-in .kept .1 .1 .1 .1 .1 .1 .1 .0) (k .inv .1)
+    stepped-front b (l .words) _ (k .store) (k .log) _ _ i place to made e (at-step .step-in .kept .1 .1 .1 .1 .1 .1 .1 .1 .0) (k .inv .1)
     (at-step .step-in .ensures .1 (b .used) (b .restarts) place (b .workers) (at-place-of .place-of .ensures .1) refl) in
     let s = sessionOf (l .live) (l .words) (l .bench) in
     let t = sessionOf (l .live) (l .words) b in
     let why = c .before .before .before .before .before .made .given .0 .0 in
     let by = refuses b place to made step why (c .before .before .before .before .before .made .given .1) in (
-      standing-on _ _ s (l .store) (l .log) (l .out) (l .used) (l .wrote) _ _ _ _ _ _ (l .inv .0) (at-line-end .line-end .ensures) (at-if2 .if2 .left) (let z : l .wrote + 72 ≤ length (l .out) = omega (arith, l .inv .0 .fits, l .inv .3, at-if1 .if1 .left) in z) (at-parse .parse .ensures)
+      standing-on _ _ s (l .store) (l .log) (l .out) (l .used) (l .wrote) _ _ _ _ _ _ (l .inv .0) (at-line-end .line-end .ensures) (at-if2 .if2 .left) (let z : l .wrote + 136 ≤ length (l .out) = omega (arith, l .inv .0 .fits, l .inv .3, at-if1 .if1 .left) in z) (at-parse .parse .ensures)
           (steps-by s _ _ _ _ _ _ _ _ _ _ _ (sym (at-ask .ask .ensures) ∙ at-asked .asked .given .1) (stepping-stops _ _ _ _ _ _ (k .left) _ _ _ _ (k .inv .0) (c .before .before .before .before .before .before .before .before .before .before .before .before .before .before .before .before .before .loop-test .taken) t (Refused why) _ _ by (k .inv .0 .live) _ _ (c .before .before .show2 .ensures) refl)) refl,
-      back-length (at-span .span .result) (k .store) (at-step .step-in .last .1 .1 .1 .1 .1 .1 .1 .0) (at-step .step-in .kept .1 .1 .1 .1 .1 .1 .1 .0) ∙ k .inv .2 ∙ l .inv .1,
-      at-step .step-in .kept .1 .1 .1 .1 .1 .1 .1 .1 .0 ∙ k .inv .3 ∙ l .inv .2,
-      c .before .before .show2 .kept .1 .0 ∙ k .inv .4 ∙ l .inv .3,
+      back-length (at-span .span .result) (k .store) (at-step .step-in .last .1 .1 .1 .1 .1 .1 .1 .1 .0) (at-step .step-in .kept .1 .1 .1 .1 .1 .1 .1 .1 .0) ∙ k .inv .2 ∙ l .inv .1,
+      at-step .step-in .kept .1 .1 .1 .1 .1 .1 .1 .1 .1 .0 ∙ k .inv .3 ∙ l .inv .2,
+      c .before .before .show2 .kept .1 .1 .0 ∙ k .inv .4 ∙ l .inv .3,
       l .inv .4,
     )
 
-settled-requires : tie.Need-settled-requires Inv-loop μ-loop Inv-lines μ-lines
-settled-requires c κs =
-    let at-place-of = c .before .before .before .before .before .before .before .before .before .before .before .before .before .before .before in
-    (omega (arith, at-place-of .place-of .ensures .0), c .before .before .before .before .before .before .step-in .ensures .0)
+enum-told-4 : tie.Need-enum-told-4 Inv-loop μ-loop Inv-lines μ-lines
+enum-told-4 c = search needs
 
-show-requires-3 : tie.Need-show-requires-3 Inv-loop μ-loop Inv-lines μ-lines
-show-requires-3 c κs =
+one-more-requires : tie.Need-one-more-requires Inv-loop μ-loop Inv-lines μ-lines
+one-more-requires c κs = search needs
+
+mul-t74 : tie.Need-mul-t74 Inv-loop μ-loop Inv-lines μ-lines
+mul-t74 c = search needs
+
+element-set-from-bench : tie.Need-element-set-from-bench Inv-loop μ-loop Inv-lines μ-lines
+element-set-from-bench c = omega (arith, c .before .before .before .before .before .before .before .before .before .before .before .before .before .before .before .before .before .before .place-of .ensures .0)
+
+loop-less : tie.Need-loop-less Inv-loop μ-loop Inv-lines μ-lines
+loop-less c = omega (arith, c .before .before .before .before .before .before .before .before .before .before .before .before .before .before .loop-test .taken)
+
+loop-again : tie.Need-loop-again Inv-loop μ-loop Inv-lines μ-lines
+loop-again c =
     let at-loop = c .before .before .before .before .before .before .before .before .before .before .before .before .before .before .before in
     let at-span = at-loop .before in
     let at-place-of = at-loop .before .before .before in
     let at-asked = at-loop .before .before .before .before .before in
-    let at-if1 = at-loop .before .before .before .before .before .before .before .before .before .before .before .before in
     let at-lines = at-loop .before .before .before .before .before .before .before .before .before .before .before .before .before .before in
     let l = at-lines .lines in
     let k = at-loop .loop in
@@ -319,25 +327,33 @@ show-requires-3 c κs =
     let to = at-step .step-in .result .line in
     let made = at-step .step-in .result .made in
     let step =
-    stepped-front b (l .words) _ (k .store) (k .log) _ _ i place to made e (at-step .step-in .kept .1 .1 .1 .1 .1 .1 .1 .0) (k .inv .1)
+    stepped-front b (l .words) _ (k .store) (k .log) _ _ i place to made e (at-step .step-in .kept .1 .1 .1 .1 .1 .1 .1 .1 .0) (k .inv .1)
     (at-step .step-in .ensures .1 (b .used) (b .restarts) place (b .workers) (at-place-of .place-of .ensures .1) refl) in
-    let by = settles b place to made step (c .before .before .settled .ensures) in
-    stepping-room _ _ _ _ _ _ (k .left) _ _ _ _ (k .inv .0) _ (let z : l .wrote + 72 ≤ length (l .out) = omega (arith, l .inv .0 .fits, l .inv .3, at-if1 .if1 .left) in z) (c .before .before .before .before .before .before .before .before .before .before .before .before .before .before .loop-test .taken)
-    (ap (λ (d : Outcome). d .answer) by)
+    let t = sessionOf (l .live) (l .words) b in
+    let by = restarts b place to made step (c .before .enum-told4 .given .1) (c .one-more .ensures) in (
+      stepping-on _ _ _ _ _ _ (k .left) _ _ _ _ (k .inv .0) (c .before .before .before .before .before .before .before .before .before .before .before .before .before .before .loop-test .taken) _ GoesOn _ _ by (k .inv .0 .live) _ _ (shows-none (k .out) (k .wrote)) refl,
+      reached-step (worldOf t (k .store) (k .log)) _ _ _ by (k .inv .1),
+      back-length (at-span .span .result) (k .store) (at-step .step-in .last .1 .1 .1 .1 .1 .1 .1 .1 .0) (at-step .step-in .kept .1 .1 .1 .1 .1 .1 .1 .1 .0) ∙ k .inv .2,
+      at-step .step-in .kept .1 .1 .1 .1 .1 .1 .1 .1 .1 .0 ∙ k .inv .3,
+      k .inv .4,
+    )
 
-loop-less : tie.Need-loop-less Inv-loop μ-loop Inv-lines μ-lines
-loop-less c = omega (arith, c .before .before .before .before .before .before .before .before .before .before .before .before .before .before .before .before .before .loop-test .taken)
+settled-requires : tie.Need-settled-requires Inv-loop μ-loop Inv-lines μ-lines
+settled-requires c κs =
+    let at-place-of = c .before .before .before .before .before .before .before .before .before .before .before .before .before .before .before .before in
+    (omega (arith, at-place-of .place-of .ensures .0), c .before .before .before .before .before .before .before .step-in .ensures .0)
 
-loop-again : tie.Need-loop-again Inv-loop μ-loop Inv-lines μ-lines
-loop-again c =
-    let at-loop = c .before .before .before .before .before .before .before .before .before .before .before .before .before .before .before .before .before .before in
+show-requires-3 : tie.Need-show-requires-3 Inv-loop μ-loop Inv-lines μ-lines
+show-requires-3 c κs =
+    let at-loop = c .before .before .before .before .before .before .before .before .before .before .before .before .before .before .before .before in
     let at-span = at-loop .before in
     let at-place-of = at-loop .before .before .before in
     let at-asked = at-loop .before .before .before .before .before in
+    let at-if1 = at-loop .before .before .before .before .before .before .before .before .before .before .before .before in
     let at-lines = at-loop .before .before .before .before .before .before .before .before .before .before .before .before .before .before in
     let l = at-lines .lines in
     let k = at-loop .loop in
-    let at-step = c .before .before .before .before .before .before .before .before .before .before .before .before in
+    let at-step = c .before .before .before .before .before .before .before .before .before .before in
     let e = at-span .span .ensures ∙ ap (min (l .words)) (sym (k .inv .2)) in
     let b = k .bench in
     let i = at-asked .asked .given .0 .0 in
@@ -345,31 +361,57 @@ loop-again c =
     let to = at-step .step-in .result .line in
     let made = at-step .step-in .result .made in
     let step =
-    stepped-front b (l .words) _ (k .store) (k .log) _ _ i place to made e (at-step .step-in .kept .1 .1 .1 .1 .1 .1 .1 .0) (k .inv .1)
+    stepped-front b (l .words) _ (k .store) (k .log) _ _ i place to made e (at-step .step-in .kept .1 .1 .1 .1 .1 .1 .1 .1 .0) (k .inv .1)
+    (at-step .step-in .ensures .1 (b .used) (b .restarts) place (b .workers) (at-place-of .place-of .ensures .1) refl) in
+    let by = settles b place to made step (c .before .before .settled .ensures) in
+    stepping-room _ _ _ _ _ _ (k .left) _ _ _ _ (k .inv .0) _ (let z : l .wrote + 136 ≤ length (l .out) = omega (arith, l .inv .0 .fits, l .inv .3, at-if1 .if1 .left) in z) (c .before .before .before .before .before .before .before .before .before .before .before .before .before .before .before .loop-test .taken)
+    by
+
+loop-less-2 : tie.Need-loop-less-2 Inv-loop μ-loop Inv-lines μ-lines
+loop-less-2 c = omega (arith, c .before .before .before .before .before .before .before .before .before .before .before .before .before .before .before .before .before .before .loop-test .taken)
+
+loop-again-2 : tie.Need-loop-again-2 Inv-loop μ-loop Inv-lines μ-lines
+loop-again-2 c =
+    let at-loop = c .before .before .before .before .before .before .before .before .before .before .before .before .before .before .before .before .before .before .before in
+    let at-span = at-loop .before in
+    let at-place-of = at-loop .before .before .before in
+    let at-asked = at-loop .before .before .before .before .before in
+    let at-lines = at-loop .before .before .before .before .before .before .before .before .before .before .before .before .before .before in
+    let l = at-lines .lines in
+    let k = at-loop .loop in
+    let at-step = c .before .before .before .before .before .before .before .before .before .before .before .before .before in
+    let e = at-span .span .ensures ∙ ap (min (l .words)) (sym (k .inv .2)) in
+    let b = k .bench in
+    let i = at-asked .asked .given .0 .0 in
+    let place = at-place-of .place-of .result in
+    let to = at-step .step-in .result .line in
+    let made = at-step .step-in .result .made in
+    let step =
+    stepped-front b (l .words) _ (k .store) (k .log) _ _ i place to made e (at-step .step-in .kept .1 .1 .1 .1 .1 .1 .1 .1 .0) (k .inv .1)
     (at-step .step-in .ensures .1 (b .used) (b .restarts) place (b .workers) (at-place-of .place-of .ensures .1) refl) in
     let t = sessionOf (l .live) (l .words) b in
     let done = c .before .before .before .before .before .settled .result in
     let by = settles b place to made step (c .before .before .before .before .before .settled .ensures) in
     let answer = ap (λ (r : Returned). isRefused (r .answer)) (c .before .before .before .before .before .settled .ensures) in
-    let stands = answer ∙ made-not-refused (b .queue) (b .written) made (at-step .step-in .ensures .0) (c .before .before .before .before .before .before .match4 .keys2) in (
-      stepping-on _ _ _ _ _ _ (k .left) _ _ _ _ (k .inv .0) (c .before .before .before .before .before .before .before .before .before .before .before .before .before .before .before .before .before .loop-test .taken) (sessionOf (l .live) (l .words) (done .bench)) (done .answer) _ _ by (k .inv .0 .live) _ _ (c .before .before .show3 .ensures) stands,
+    let stands = answer ∙ made-not-refused (b .words) (b .queue) (b .written) made (at-step .step-in .ensures .0) (c .before .before .before .before .before .before .before .match4 .keys2) in (
+      stepping-on _ _ _ _ _ _ (k .left) _ _ _ _ (k .inv .0) (c .before .before .before .before .before .before .before .before .before .before .before .before .before .before .before .before .before .before .loop-test .taken) (sessionOf (l .live) (l .words) (done .bench)) (done .answer) _ _ by (k .inv .0 .live) _ _ (c .before .before .show3 .ensures) stands,
       reached-step (worldOf t (k .store) (k .log)) _ _ _ by (k .inv .1),
-      back-length (at-span .span .result) (k .store) (at-step .step-in .last .1 .1 .1 .1 .1 .1 .1 .0) (at-step .step-in .kept .1 .1 .1 .1 .1 .1 .1 .0) ∙ k .inv .2,
-      at-step .step-in .kept .1 .1 .1 .1 .1 .1 .1 .1 .0 ∙ k .inv .3,
-      c .before .before .show3 .kept .1 .0 ∙ k .inv .4,
+      back-length (at-span .span .result) (k .store) (at-step .step-in .last .1 .1 .1 .1 .1 .1 .1 .1 .0) (at-step .step-in .kept .1 .1 .1 .1 .1 .1 .1 .1 .0) ∙ k .inv .2,
+      at-step .step-in .kept .1 .1 .1 .1 .1 .1 .1 .1 .1 .0 ∙ k .inv .3,
+      c .before .before .show3 .kept .1 .1 .0 ∙ k .inv .4,
     )
 
-mul-t55 : tie.Need-mul-t55 Inv-loop μ-loop Inv-lines μ-lines
-mul-t55 c = search needs
+mul-t56 : tie.Need-mul-t56 Inv-loop μ-loop Inv-lines μ-lines
+mul-t56 c = search needs
 
-element-set-from-bench : tie.Need-element-set-from-bench Inv-loop μ-loop Inv-lines μ-lines
-element-set-from-bench c = omega (arith, c .before .before .before .before .before .before .before .before .before .before .before .before .before .before .before .place-of .ensures .0)
+element-set-from-bench-2 : tie.Need-element-set-from-bench-2 Inv-loop μ-loop Inv-lines μ-lines
+element-set-from-bench-2 c = omega (arith, c .before .before .before .before .before .before .before .before .before .before .before .before .before .before .before .place-of .ensures .0)
 
-loop-less-2 : tie.Need-loop-less-2 Inv-loop μ-loop Inv-lines μ-lines
-loop-less-2 c = omega (arith, c .before .before .before .before .before .before .before .before .before .before .before .loop-test .taken)
+loop-less-3 : tie.Need-loop-less-3 Inv-loop μ-loop Inv-lines μ-lines
+loop-less-3 c = omega (arith, c .before .before .before .before .before .before .before .before .before .before .before .loop-test .taken)
 
-loop-again-2 : tie.Need-loop-again-2 Inv-loop μ-loop Inv-lines μ-lines
-loop-again-2 c =
+loop-again-3 : tie.Need-loop-again-3 Inv-loop μ-loop Inv-lines μ-lines
+loop-again-3 c =
     let at-loop = c .before .before .before .before .before .before .before .before .before .before .before .before in
     let at-span = at-loop .before in
     let at-place-of = at-loop .before .before .before in
@@ -385,14 +427,14 @@ loop-again-2 c =
     let to = at-step .step-in .result .line in
     let made = at-step .step-in .result .made in
     let step =
-    stepped-front b (l .words) _ (k .store) (k .log) _ _ i place to made e (at-step .step-in .kept .1 .1 .1 .1 .1 .1 .1 .0) (k .inv .1)
+    stepped-front b (l .words) _ (k .store) (k .log) _ _ i place to made e (at-step .step-in .kept .1 .1 .1 .1 .1 .1 .1 .1 .0) (k .inv .1)
     (at-step .step-in .ensures .1 (b .used) (b .restarts) place (b .workers) (at-place-of .place-of .ensures .1) refl) in
     let t = sessionOf (l .live) (l .words) b in
     let by = replaces b place to made step (c .enum-told3 .given .1) in (
       stepping-on _ _ _ _ _ _ (k .left) _ _ _ _ (k .inv .0) (c .before .before .before .before .before .before .before .before .before .before .before .loop-test .taken) _ GoesOn _ _ by (k .inv .0 .live) _ _ (shows-none (k .out) (k .wrote)) refl,
       reached-step (worldOf t (k .store) (k .log)) _ _ _ by (k .inv .1),
-      back-length (at-span .span .result) (k .store) (at-step .step-in .last .1 .1 .1 .1 .1 .1 .1 .0) (at-step .step-in .kept .1 .1 .1 .1 .1 .1 .1 .0) ∙ k .inv .2,
-      at-step .step-in .kept .1 .1 .1 .1 .1 .1 .1 .1 .0 ∙ k .inv .3,
+      back-length (at-span .span .result) (k .store) (at-step .step-in .last .1 .1 .1 .1 .1 .1 .1 .1 .0) (at-step .step-in .kept .1 .1 .1 .1 .1 .1 .1 .1 .0) ∙ k .inv .2,
+      at-step .step-in .kept .1 .1 .1 .1 .1 .1 .1 .1 .1 .0 ∙ k .inv .3,
       k .inv .4,
     )
 
@@ -468,7 +510,7 @@ returns-4 c =
     let at-play = c .before .before .before .before .before .before .before .before in
     let l = at-lines .lines in
     let s = sessionOf (l .live) (l .words) (l .bench) in (
-      standing-over _ _ s (l .store) (l .log) (l .out) (l .used) (l .wrote) _ _ _ _ _ _ (l .inv .0) (at-line-end .line-end .ensures) (at-if2 .if2 .left) (let z : l .wrote + 72 ≤ length (l .out) = omega (arith, l .inv .0 .fits, l .inv .3, at-if1 .if1 .left) in z) (at-parse .parse .ensures)
+      standing-over _ _ s (l .store) (l .log) (l .out) (l .used) (l .wrote) _ _ _ _ _ _ (l .inv .0) (at-line-end .line-end .ensures) (at-if2 .if2 .left) (let z : l .wrote + 136 ≤ length (l .out) = omega (arith, l .inv .0 .fits, l .inv .3, at-if1 .if1 .left) in z) (at-parse .parse .ensures)
           (at-play .play .ensures) (c .if3 .taken),
       reach-over (at-play .play .result .session) (at-play .play .last .1 .1 .0) (at-play .play .last .1 .1 .1 .0),
     )
@@ -517,14 +559,20 @@ consume-spec =
     show-requires-2
     lines-less-4
     lines-again-4
-    settled-requires
-    show-requires-3
+    enum-told-4
+    one-more-requires
+    mul-t74
+    element-set-from-bench
     loop-less
     loop-again
-    mul-t55
-    element-set-from-bench
+    settled-requires
+    show-requires-3
     loop-less-2
     loop-again-2
+    mul-t56
+    element-set-from-bench-2
+    loop-less-3
+    loop-again-3
     same-length
     same-length-2
     same-length-3

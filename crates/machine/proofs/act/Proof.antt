@@ -1,7 +1,6 @@
 use borrow.Author.Needs.{needs}
 use mathlib.Core.Path.{sym, _∙_}
 use native.Mathlib.Omega.{arith}
-use lib.ListN.{length-set}
 use Rattle.lines.specs.Actions.{storeBy}
 use Rattle.machine.specs.Steps.{actedBy, logAfter, Writable}
 use Rattle.machine.proofs.Logged.{stops, stops-full, ends, ends-full}
@@ -19,34 +18,18 @@ enum-known-action c = search needs
 
 mul-store : tie.Need-mul-store
 unfolding Writable
-mul-store c = let h = rw (c .before .action .given .1) at (c .before .before .before .before .before .pre) in omega (arith, h)
+mul-store c = let h = rw (c .before .action .given .1) at (c .before .before .before .before .before .pre .1) in omega (arith, h)
 
 slice-write-store : tie.Need-slice-write-store
 unfolding Writable
-slice-write-store c = rw (c .before .action .given .1) at (c .before .before .before .before .before .pre)
+slice-write-store c = rw (c .before .action .given .1) at (c .before .before .before .before .before .pre .1)
 
 enum-known-action-2 : tie.Need-enum-known-action-2
 enum-known-action-2 c = search needs
 
-add-next : tie.Need-add-next
+write-task-requires : tie.Need-write-task-requires
 unfolding Writable
-add-next c = let h = rw (c .before .action2 .given .1) at (c .before .before .before .before .before .pre) in omega (arith, h)
-
-mul-store-2 : tie.Need-mul-store-2
-unfolding Writable
-mul-store-2 c = let h = rw (c .before .action2 .given .1) at (c .before .before .before .before .before .pre) in omega (arith, h)
-
-slice-write-store-2 : tie.Need-slice-write-store-2
-unfolding Writable
-slice-write-store-2 c = let h = rw (c .before .action2 .given .1) at (c .before .before .before .before .before .pre) in omega (arith, h)
-
-mul-store-3 : tie.Need-mul-store-3
-unfolding Writable
-mul-store-3 c = let h = rw (c .before .action2 .given .1) at (c .before .before .before .before .before .pre) in omega (arith, h)
-
-slice-write-store-3 : tie.Need-slice-write-store-3
-unfolding Writable
-slice-write-store-3 c = let h = rw (c .before .action2 .given .1) at (c .before .before .before .before .before .pre) in simp length-set h
+write-task-requires c κs = (c .before .before .before .before .before .before .pre .0, rw (c .before .before .action2 .given .1) at (c .before .before .before .before .before .before .pre .1))
 
 enum-known-action-3 : tie.Need-enum-known-action-3
 enum-known-action-3 c = search needs
@@ -59,7 +42,7 @@ cast-zero-2 c = search needs
 
 zero-requires : tie.Need-zero-requires
 unfolding Writable
-zero-requires c κs = rw (c .before .before .action3 .given .1) at (c .before .before .before .before .before .before .pre)
+zero-requires c κs = rw (c .before .before .action3 .given .1) at (c .before .before .before .before .before .before .pre .1)
 
 enum-told-3 : tie.Need-enum-told-3
 enum-told-3 c = search needs
@@ -96,7 +79,7 @@ same-length-2 c = search needs
 
 returns-4 : tie.Need-returns-4
 unfolding actedBy logAfter storeBy
-returns-4 c = (simp (c .before .action2 .given .1), (simp (c .before .action2 .given .1), simp (c .before .action2 .given .1)))
+returns-4 c = let e = c .before .before .before .before .before .action2 .given .1 in (simp e, (c .before .before .write-task .ensures ∙ sym (simp e), simp e))
 
 same-length-3 : tie.Need-same-length-3
 same-length-3 c = search needs
@@ -118,7 +101,7 @@ returns-7 c =
     let a = c .before .before .before .before .before .before .before .before .before .before .args in
     let e = c .before .before .before .before .before .before .action4 .given .1 in
     let logged = c .before .before .before .log-answer .ensures in
-    (stops (a .written) (a .log .now) (logged .0) e (c .if1 .taken), (simp e, logged .1 ∙ sym (simp e)))
+    (stops (a .words) (a .written) (a .log .now) (logged .0) e (c .if1 .taken), (simp e, logged .1 ∙ sym (simp e)))
 
 same-length-5 : tie.Need-same-length-5
 same-length-5 c = search needs
@@ -129,7 +112,7 @@ returns-8 c =
     let a = c .before .before .before .before .before .before .before .before .before .before .args in
     let e = c .before .before .before .before .before .before .action4 .given .1 in
     let logged = c .before .before .before .log-answer .ensures in
-    (stops-full (a .written) (a .log .now) (logged .0) e (c .if1 .left), (simp e, logged .1 ∙ sym (simp e)))
+    (stops-full (a .words) (a .written) (a .log .now) (logged .0) e (c .if1 .left), (simp e, logged .1 ∙ sym (simp e)))
 
 same-length-6 : tie.Need-same-length-6
 same-length-6 c = search needs
@@ -140,7 +123,7 @@ returns-9 c =
     let a = c .before .before .before .before .before .before .before .before .before .before .args in
     let e = c .before .before .before .before .before .before .action5 .given .1 in
     let logged = c .before .before .before .log-answer2 .ensures in
-    (ends (a .written) (a .log .now) (logged .0) e (c .if2 .taken), (simp e, logged .1 ∙ sym (simp e)))
+    (ends (a .words) (a .written) (a .log .now) (logged .0) e (c .if2 .taken), (simp e, logged .1 ∙ sym (simp e)))
 
 same-length-7 : tie.Need-same-length-7
 same-length-7 c = search needs
@@ -151,7 +134,7 @@ returns-10 c =
     let a = c .before .before .before .before .before .before .before .before .before .before .args in
     let e = c .before .before .before .before .before .before .action5 .given .1 in
     let logged = c .before .before .before .log-answer2 .ensures in
-    (ends-full (a .written) (a .log .now) (logged .0) e (c .if2 .left), (simp e, logged .1 ∙ sym (simp e)))
+    (ends-full (a .words) (a .written) (a .log .now) (logged .0) e (c .if2 .left), (simp e, logged .1 ∙ sym (simp e)))
 
 pub act-spec : {M : Type 1} → statement M
 act-spec =
@@ -163,11 +146,7 @@ act-spec =
     mul-store
     slice-write-store
     enum-known-action-2
-    add-next
-    mul-store-2
-    slice-write-store-2
-    mul-store-3
-    slice-write-store-3
+    write-task-requires
     enum-known-action-3
     cast-zero
     cast-zero-2

@@ -50,7 +50,11 @@ enum-known-made-3 c = search needs
 
 add-length : tie.Need-add-length
 unfolding Fits
-add-length c = let h = rw (c .before .made3 .given .1) at (c .before .before .before .before .pre .1) in omega (arith, h)
+add-length c = let h = rw (c .before .before .made3 .given .1) at (c .before .before .before .before .before .pre .1) in omega (arith, h)
+
+add-length-2 : tie.Need-add-length-2
+unfolding Fits
+add-length-2 c = let h = rw (c .before .before .made3 .given .1) at (c .before .before .before .before .before .pre .1) in omega (arith, h)
 
 replaced-requires-5 : tie.Need-replaced-requires-5
 replaced-requires-5 c κs = search needs
@@ -61,9 +65,13 @@ enum-known-made-4 c = search needs
 with-anchor-requires : tie.Need-with-anchor-requires
 with-anchor-requires c κs = search needs
 
-add-length-2 : tie.Need-add-length-2
+add-length-3 : tie.Need-add-length-3
 unfolding Fits
-add-length-2 c = let h = rw (c .before .before .made4 .given .1) at (c .before .before .before .before .before .pre .1) in omega (arith, h)
+add-length-3 c = let h = rw (c .before .before .before .made4 .given .1) at (c .before .before .before .before .before .before .pre .1) in omega (arith, h)
+
+add-length-4 : tie.Need-add-length-4
+unfolding Fits
+add-length-4 c = let h = rw (c .before .before .before .made4 .given .1) at (c .before .before .before .before .before .before .pre .1) in omega (arith, h)
 
 replaced-requires-6 : tie.Need-replaced-requires-6
 replaced-requires-6 c κs = search needs
@@ -90,11 +98,11 @@ returns-5 c = simp (c .before .before .enum-told3 .given .1, c .replaced4 .ensur
 
 returns-6 : tie.Need-returns-6
 unfolding benchAfter answerAfter
-returns-6 c = simp (c .before .before .made3 .given .1, c .replaced5 .ensures)
+returns-6 c = simp (c .before .before .before .made3 .given .1, c .replaced5 .ensures)
 
 returns-7 : tie.Need-returns-7
 unfolding benchAfter answerAfter
-returns-7 c = simp (c .before .before .before .made4 .given .1, c .replaced6 .ensures, c .before .with-anchor .ensures)
+returns-7 c = simp (c .before .before .before .before .made4 .given .1, c .replaced6 .ensures, c .before .before .with-anchor .ensures)
 
 pub settled-spec : {M : Type 1} → statement M
 settled-spec =
@@ -115,10 +123,12 @@ settled-spec =
     replaced-requires-4
     enum-known-made-3
     add-length
+    add-length-2
     replaced-requires-5
     enum-known-made-4
     with-anchor-requires
-    add-length-2
+    add-length-3
+    add-length-4
     replaced-requires-6
     returns
     returns-2

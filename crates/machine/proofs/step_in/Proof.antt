@@ -28,7 +28,7 @@ returns-2 c =
     let h = c .before .before .if1 .left in (
       tt,
       λ u n k ws at e.
-          idle-worker (benchOf (a .kind) (a .width) (a .crew) (a .queue) (a .written) u n ws) (a .worker) (a .line) _ _
+          idle-worker (benchOf (a .kind) (a .width) (a .words) (a .crew) (a .queue) (a .written) u n ws) (a .worker) (a .line) _ _
           (ap (lineAt ws) (sym (at (omega (arith, h, start .pre .crew)))) ∙ e) h (sym (c .before .is-idle .ensures) ∙ c .if2 .taken),
     )
 
@@ -45,7 +45,7 @@ decide-requires c κs =
 act-requires : tie.Need-act-requires
 act-requires c κs =
     let start = c .before .before .before .before .before .before .before .before .before .before .before in
-    writable (start .args .queue) (length (start .args .store .now)) _ (c .before .before .decide .ensures .1 .0)
+    (start .pre .ground .wide, writable (start .args .words) (start .args .queue) (length (start .args .store .now)) _ (c .before .before .decide .ensures .1 .0))
 
 same-length : tie.Need-same-length
 same-length c = search needs
@@ -68,12 +68,12 @@ returns-3 c =
     let safe = at-decide .decide .ensures .1 .0 in
     let h = at-idle .before .if1 .left in
     let made = at-act .act .ensures .0 in (
-      subst (Fits (a .queue) (a .written)) (sym made) (fits (a .queue) (a .written) (length m) l d (start .pre .ground .listed) safe),
+      subst (Fits (a .words) (a .queue) (a .written)) (sym made) (fits (a .words) (a .queue) (a .written) (length m) l d (start .pre .ground .listed) safe),
       λ u n k ws at e.
-          let b = benchOf (a .kind) (a .width) (a .crew) (a .queue) (a .written) u n ws in
+          let b = benchOf (a .kind) (a .width) (a .words) (a .crew) (a .queue) (a .written) u n ws in
           let is = at (omega (arith, h, start .pre .crew)) in
           same-moved b k x made (at-act .act .ensures .1 .0) (at-act .act .ensures .1 .1)
-          ∙ ap (λ (j : ℕ). movedBy b j x (actedBy (a .written) l d) (storeBy m d) (logAfter (a .written) l d)) is
+          ∙ ap (λ (j : ℕ). movedBy b j x (actedBy (a .words) (a .written) l d) (storeBy (a .words) m d) (logAfter (a .words) (a .written) l d)) is
           ∙ line-done b (a .worker) (a .line) m l (ap (lineAt ws) (sym is) ∙ e) h x d
           (sym (at-idle .is-idle .ensures) ∙ at-next-line .before .before .if2 .left) safe (at-next-line .next-line .ensures)
           (at-decide .decide .ensures .0) (at-decide .decide .ensures .1 .1),

@@ -8,6 +8,7 @@ use borrow.Author.Tests.{eq-eqb, ne-eqb}
 use Rattle.model.specs.Counts.{isKind, outFirst}
 use Rattle.model.proofs.Below.{count-le}
 use Rattle.judgement.specs.Judgement.{wordsOf, allBelow, justified}
+use Rattle.judgement.proofs.Entries.{entry-ends}
 use Rattle.puts.specs.Puts.{RepeatsPut}
 use Rattle.puts.proofs.Gathering.{clash}
 use Rattle.marks.proofs.Marking.{Told, told-start, told-skip, told-again, told-first, not-justified, outs-told}
@@ -15,22 +16,18 @@ use Rattle.marks.proofs.hand_outs.Statement.{statement}
 use Rattle.marks.proofs.hand_outs.Tie as tie
 
 abbrev Inv-loop : tie.InvT-loop
-Inv-loop log entries puts count seen₀ handouts₀ different₀ j₀ seen handouts different j = (j ≤ entries) × (length seen ≡ length seen₀) × Told (wordsOf log) puts count j handouts different seen
+Inv-loop words log entries puts count seen₀ handouts₀ different₀ j₀ seen handouts different j = (j ≤ entries) × (length seen ≡ length seen₀) × Told words (wordsOf log) puts count j handouts different seen
 
 abbrev μ-loop : tie.MeasureT-loop
-μ-loop log entries puts count seen₀ handouts₀ different₀ j₀ seen handouts different j = entries - j
+μ-loop words log entries puts count seen₀ handouts₀ different₀ j₀ seen handouts different j = entries - j
 
 loop-holds : tie.Need-loop-holds Inv-loop μ-loop
 loop-holds c =
-    (omega arith, refl, told-start (wordsOf (c .before .before .before .args .log .now)) _ _ _ (c .before .before .before .pre .1 .1 .1))
+    (omega arith, refl, told-start (c .before .before .before .args .words) (wordsOf (c .before .before .before .args .log .now)) _ _ _ (c .before .before .before .pre .1 .1 .1))
 
-mul-word : tie.Need-mul-word Inv-loop μ-loop
-mul-word c =
-    omega arith
-
-word-requires : tie.Need-word-requires Inv-loop μ-loop
-word-requires c κs =
-    omega arith
+kind-at-requires : tie.Need-kind-at-requires Inv-loop μ-loop
+kind-at-requires c κs =
+    entry-ends _ _ _ _ (c .before .before .before .before .before .pre .0 .0) (c .loop-test .taken)
 
 add-j : tie.Need-add-j Inv-loop μ-loop
 add-j c =
@@ -43,12 +40,12 @@ loop-less c =
 loop-again : tie.Need-loop-again Inv-loop μ-loop
 loop-again c =
     let start = c .before .before .before .before .before .before .before in
-    (omega arith, c .before .before .before .loop .inv .1, told-skip (wordsOf (start .args .log .now)) (start .args .entries) (start .args .puts .now) (start .args .count) (start .pre .1 .0) (start .pre .1 .1 .0) _ _ _ _ (c .before .before .before .loop .inv .2) (ap (λ (x : ℕ). eqb x 2) (sym (c .before .word .ensures)) ∙ ne-eqb _ 2 (c .if1 .taken)))
+    (omega arith, c .before .before .before .loop .inv .1, told-skip (start .args .words) (wordsOf (start .args .log .now)) (start .args .entries) (start .args .puts .now) (start .args .count) (start .pre .1 .0) (start .pre .1 .1 .0) _ _ _ _ (c .before .before .before .loop .inv .2) (ap (λ (x : ℕ). eqb x 2) (sym (c .before .kind-at .ensures)) ∙ ne-eqb _ 2 (c .if1 .taken)))
 
 repeated-requires : tie.Need-repeated-requires Inv-loop μ-loop
 repeated-requires c κs =
     let start = c .before .before .before .before .before .before .before in
-    ((omega arith, omega arith, start .pre .0 .2, omega arith), (start .pre .1 .0, start .pre .1 .1 .0))
+    ((start .pre .0 .0, omega arith, start .pre .0 .2, omega arith, start .pre .0 .4), (start .pre .1 .0, start .pre .1 .1 .0))
 
 same-length : tie.Need-same-length Inv-loop μ-loop
 same-length c =
@@ -58,14 +55,14 @@ returns : tie.Need-returns Inv-loop μ-loop
 returns c =
     let start = c .before .before .before .before .before .before .before .before .before in
     let at-loop = c .before .before .before .before .before in
-    let d : false ≡ allBelow (justified (wordsOf (start .args .log .now))) (start .args .entries) = not-justified (wordsOf (start .args .log .now)) (start .args .entries) (start .args .puts .now) (start .args .count) (start .pre .1 .0) (start .pre .1 .1 .0) (at-loop .loop .j) (omega arith) (ap (λ (x : ℕ). eqb x 2) (sym (c .before .before .before .word .ensures)) ∙ eq-eqb _ 2 (c .before .before .if1 .left)) (subst (λ (x : ℕ). RepeatsPut (wordsOf (start .args .log .now)) (start .args .puts .now) (start .args .count) (at-loop .loop .j) x) (c .if2 .taken) (c .before .repeated .ensures)) in
+    let d : false ≡ allBelow (justified (start .args .words) (wordsOf (start .args .log .now))) (start .args .entries) = not-justified (start .args .words) (wordsOf (start .args .log .now)) (start .args .entries) (start .args .puts .now) (start .args .count) (start .pre .1 .0) (start .pre .1 .1 .0) (at-loop .loop .j) (omega arith) (ap (λ (x : ℕ). eqb x 2) (sym (c .before .before .before .kind-at .ensures)) ∙ eq-eqb _ 2 (c .before .before .if1 .left)) (subst (λ (x : ℕ). RepeatsPut (start .args .words) (wordsOf (start .args .log .now)) (start .args .puts .now) (start .args .count) (at-loop .loop .j) x) (c .if2 .taken) (c .before .repeated .ensures)) in
     record { fine = d; handouts = λ e. absurd (clash (sym e)); different = λ e. absurd (clash (sym e)); marked = λ e. absurd (clash (sym e)) }
 
 add-handouts : tie.Need-add-handouts Inv-loop μ-loop
 add-handouts c =
     let at-loop = c .before .before .before .before .before in
     let e = at-loop .loop .inv .2 .outs-are in
-    let m = count-le (isKind (wordsOf (c .before .before .before .before .before .before .before .before .before .args .log .now)) 2) (at-loop .loop .j) in
+    let m = count-le (isKind (c .before .before .before .before .before .before .before .before .before .args .words) (wordsOf (c .before .before .before .before .before .before .before .before .before .args .log .now)) 2) (at-loop .loop .j) in
     omega (arith, e, m)
 
 add-j-2 : tie.Need-add-j-2 Inv-loop μ-loop
@@ -95,7 +92,7 @@ loop-again-2 c =
     let start = c .before .before .before .before .before .before .before .before .before .before .before in
     let at-loop = c .before .before .before .before .before .before .before in
     let b : c .before .before .before .repeated .result < start .args .count = (let w = c .before .before .before .repeated .ensures .within in let d = c .before .before .if2 .left in omega (arith, w, d)) in
-    (omega arith, at-loop .loop .inv .1, told-again (wordsOf (start .args .log .now)) (start .args .entries) (start .args .puts .now) (start .args .count) (start .pre .1 .0) (start .pre .1 .1 .0) _ _ _ _ (at-loop .loop .inv .2) (c .before .before .before .repeated .result) (omega arith) (ap (λ (x : ℕ). eqb x 2) (sym (c .before .before .before .before .before .word .ensures)) ∙ eq-eqb _ 2 (c .before .before .before .before .if1 .left)) (c .before .before .before .repeated .ensures) b (ne-eqb _ 0 (c .if3 .taken)))
+    (omega arith, at-loop .loop .inv .1, told-again (start .args .words) (wordsOf (start .args .log .now)) (start .args .entries) (start .args .puts .now) (start .args .count) (start .pre .1 .0) (start .pre .1 .1 .0) _ _ _ _ (at-loop .loop .inv .2) (c .before .before .before .repeated .result) (omega arith) (ap (λ (x : ℕ). eqb x 2) (sym (c .before .before .before .before .before .kind-at .ensures)) ∙ eq-eqb _ 2 (c .before .before .before .before .if1 .left)) (c .before .before .before .repeated .ensures) b (ne-eqb _ 0 (c .if3 .taken)))
 
 mul-seen : tie.Need-mul-seen Inv-loop μ-loop
 mul-seen c =
@@ -115,7 +112,7 @@ add-different : tie.Need-add-different Inv-loop μ-loop
 add-different c =
     let at-loop = c .before .before .before .before .before .before .before in
     let e = at-loop .loop .inv .2 .firsts-are in
-    let m = count-le (outFirst (wordsOf (c .before .before .before .before .before .before .before .before .before .before .before .args .log .now))) (at-loop .loop .j) in
+    let m = count-le (outFirst (c .before .before .before .before .before .before .before .before .before .before .before .args .words) (wordsOf (c .before .before .before .before .before .before .before .before .before .before .before .args .log .now))) (at-loop .loop .j) in
     omega (arith, e, m)
 
 loop-less-3 : tie.Need-loop-less-3 Inv-loop μ-loop
@@ -128,7 +125,7 @@ loop-again-3 c =
     let at-loop = c .before .before .before .before .before .before .before in
     let b : c .before .before .before .repeated .result < start .args .count = (let w = c .before .before .before .repeated .ensures .within in let d = c .before .before .if2 .left in omega (arith, w, d)) in
     let q = at-loop .loop .inv .1 in
-    (omega arith, length-set (at-loop .loop .seen) (c .before .before .before .repeated .result) 1 ∙ q, told-first (wordsOf (start .args .log .now)) (start .args .entries) (start .args .puts .now) (start .args .count) (start .pre .1 .0) (start .pre .1 .1 .0) _ _ _ _ (at-loop .loop .inv .2) (c .before .before .before .repeated .result) (omega arith) (ap (λ (x : ℕ). eqb x 2) (sym (c .before .before .before .before .before .word .ensures)) ∙ eq-eqb _ 2 (c .before .before .before .before .if1 .left)) (c .before .before .before .repeated .ensures) b (eq-eqb _ 0 (c .if3 .left)) (omega (arith, b, q)))
+    (omega arith, length-set (at-loop .loop .seen) (c .before .before .before .repeated .result) 1 ∙ q, told-first (start .args .words) (wordsOf (start .args .log .now)) (start .args .entries) (start .args .puts .now) (start .args .count) (start .pre .1 .0) (start .pre .1 .1 .0) _ _ _ _ (at-loop .loop .inv .2) (c .before .before .before .repeated .result) (omega arith) (ap (λ (x : ℕ). eqb x 2) (sym (c .before .before .before .before .before .kind-at .ensures)) ∙ eq-eqb _ 2 (c .before .before .before .before .if1 .left)) (c .before .before .before .repeated .ensures) b (eq-eqb _ 0 (c .if3 .left)) (omega (arith, b, q)))
 
 same-length-2 : tie.Need-same-length-2 Inv-loop μ-loop
 same-length-2 c =
@@ -137,7 +134,7 @@ same-length-2 c =
 returns-2 : tie.Need-returns-2 Inv-loop μ-loop
 returns-2 c =
     let start = c .before .before .before .before .before in
-    outs-told (wordsOf (start .args .log .now)) (start .args .entries) (start .args .puts .now) (start .args .count) (c .before .loop .j) _ _ _ (omega arith) (c .before .loop .inv .2)
+    outs-told (start .args .words) (wordsOf (start .args .log .now)) (start .args .entries) (start .args .puts .now) (start .args .count) (c .before .loop .j) _ _ _ (omega arith) (c .before .loop .inv .2)
 
 pub hand-outs-spec : {M : Type 1} → statement M
 hand-outs-spec =
@@ -146,8 +143,7 @@ hand-outs-spec =
     Inv-loop
     μ-loop
     loop-holds
-    mul-word
-    word-requires
+    kind-at-requires
     add-j
     loop-less
     loop-again

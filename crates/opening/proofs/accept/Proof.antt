@@ -8,6 +8,9 @@ enum-known-operation c = search needs
 add-number : tie.Need-add-number
 add-number c = search needs
 
+cut-requires : tie.Need-cut-requires
+cut-requires c κs = search needs
+
 opens-requires : tie.Need-opens-requires
 opens-requires c κs = search needs
 
@@ -24,7 +27,7 @@ opens-requires-3 : tie.Need-opens-requires-3
 opens-requires-3 c κs = search needs
 
 returns : tie.Need-returns
-returns c = λ m l. simp (c .before .before .operation .given .1, c .opens .ensures)
+returns c = λ m l. simp (c .before .before .before .operation .given .1, c .before .cut .ensures, c .opens .ensures)
 
 returns-2 : tie.Need-returns-2
 returns-2 c = λ m l. simp (c .before .enum-told .given .1, c .opens2 .ensures)
@@ -38,6 +41,7 @@ accept-spec =
     (tie.spec
     enum-known-operation
     add-number
+    cut-requires
     opens-requires
     enum-told
     opens-requires-2

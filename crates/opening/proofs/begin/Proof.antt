@@ -45,7 +45,7 @@ accept-requires c κs =
     let v = passed (c .before .before .before .before .valid .ensures) (c .before .before .before .if1 .left) in
     let b = bounds-of W v in
     let s = subst (BeginStops W (start .args .worker) (start .args .operation)) (c .enum-told .given .1) (c .before .before .begin-stop .ensures _ _ v) in
-    (omega (arith, s .0), b .used)
+    (omega (arith, s .0), (b .used, b .wide))
 
 returns-3 : tie.Need-returns-3
 returns-3 c =

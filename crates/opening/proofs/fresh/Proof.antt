@@ -1,11 +1,13 @@
+use Rattle.state.proofs.Long.{most-words}
+use borrow.Author.Tests.{le-leb, lt-leb, leb-true}
+use native.Mathlib.Omega.{arith}
 use mathlib.Core.Path.{refl, sym, ap, _∙_}
-use borrow.Author.Tests.{le-leb, lt-leb}
 use borrow.Author.Needs.{needs}
 use Rattle.model.specs.Calls.{blank, freshOf}
 use Rattle.model.specs.declared.Kind.{Kind}
 use Rattle.model.specs.declared.Bench.{Bench}
 use Rattle.model.specs.declared.Answer.the-variants.{Accepted}
-use Rattle.model.proofs.Tests.{if-true, if-false, passed, refused}
+use Rattle.model.proofs.Tests.{if-true, if-false, passed, refused, and-right}
 use Rattle.admission.proofs.Sizes.{size-in}
 use Rattle.state.specs.declared.Returned.{Returned}
 use Rattle.state.specs.Outcomes.{returned}
@@ -21,9 +23,7 @@ unmade-requires c κs = search needs
 
 returns : tie.Need-returns
 unfolding freshOf
-returns c = λ l.
-    ap (λ (r : Returned). returned r (c .before .before .before .before .args .store .now) l) (c .unmade .ensures)
-    ∙ sym (if-false _ (refused (c .before .before .kind-ok .ensures) (c .before .if1 .taken)))
+returns c = λ l. ap (λ (r : Returned). returned r (c .before .before .before .before .args .store .now) l) (c .unmade .ensures) ∙ sym (if-false _ (refused (c .before .before .kind-ok .ensures) (c .before .if1 .taken)))
 
 width-ok-requires : tie.Need-width-ok-requires
 width-ok-requires c κs = search needs
@@ -33,11 +33,7 @@ unmade-requires-2 c κs = search needs
 
 returns-2 : tie.Need-returns-2
 unfolding freshOf
-returns-2 c = λ l.
-    ap (λ (r : Returned). returned r (c .before .before .before .before .before .before .args .store .now) l) (c .unmade2 .ensures)
-    ∙ sym
-    (if-true _ (passed (c .before .before .before .before .kind-ok .ensures) (c .before .before .before .if1 .left))
-    ∙ if-false _ (refused (c .before .before .width-ok .ensures) (c .before .if2 .taken)))
+returns-2 c = λ l. ap (λ (r : Returned). returned r (c .before .before .before .before .before .before .args .store .now) l) (c .unmade2 .ensures) ∙ sym (if-true _ (passed (c .before .before .before .before .kind-ok .ensures) (c .before .before .before .if1 .left)) ∙ if-false _ (refused (c .before .before .width-ok .ensures) (c .before .if2 .taken)))
 
 is-size-requires : tie.Need-is-size-requires
 is-size-requires c κs = search needs
@@ -47,12 +43,7 @@ unmade-requires-3 c κs = search needs
 
 returns-3 : tie.Need-returns-3
 unfolding freshOf
-returns-3 c = λ l.
-    ap (λ (r : Returned). returned r (c .before .before .before .before .before .before .before .before .args .store .now) l) (c .unmade3 .ensures)
-    ∙ sym
-    (if-true _ (passed (c .before .before .before .before .before .before .kind-ok .ensures) (c .before .before .before .before .before .if1 .left))
-    ∙ if-true _ (passed (c .before .before .before .before .width-ok .ensures) (c .before .before .before .if2 .left))
-    ∙ if-false _ (refused (c .before .before .is-size .ensures) (c .before .if3 .taken)))
+returns-3 c = λ l. ap (λ (r : Returned). returned r (c .before .before .before .before .before .before .before .before .args .store .now) l) (c .unmade3 .ensures) ∙ sym (if-true _ (passed (c .before .before .before .before .before .before .kind-ok .ensures) (c .before .before .before .before .before .if1 .left)) ∙ if-true _ (passed (c .before .before .before .before .width-ok .ensures) (c .before .before .before .if2 .left)) ∙ if-false _ (refused (c .before .before .is-size .ensures) (c .before .if3 .taken)))
 
 crew-ok-requires : tie.Need-crew-ok-requires
 crew-ok-requires c κs = search needs
@@ -62,33 +53,36 @@ unmade-requires-4 c κs = search needs
 
 returns-4 : tie.Need-returns-4
 unfolding freshOf
-returns-4 c = λ l.
-    ap (λ (r : Returned). returned r (c .before .before .before .before .before .before .before .before .before .before .args .store .now) l) (c .unmade4 .ensures)
-    ∙ sym
-    (if-true _ (passed (c .before .before .before .before .before .before .before .before .kind-ok .ensures) (c .before .before .before .before .before .before .before .if1 .left))
-    ∙ if-true _ (passed (c .before .before .before .before .before .before .width-ok .ensures) (c .before .before .before .before .before .if2 .left))
-    ∙ if-true _ (passed (c .before .before .before .before .is-size .ensures) (c .before .before .before .if3 .left))
-    ∙ if-false _ (refused (c .before .before .crew-ok .ensures) (c .before .if4 .taken)))
+returns-4 c = λ l. ap (λ (r : Returned). returned r (c .before .before .before .before .before .before .before .before .before .before .args .store .now) l) (c .unmade4 .ensures) ∙ sym (if-true _ (passed (c .before .before .before .before .before .before .before .before .kind-ok .ensures) (c .before .before .before .before .before .before .before .if1 .left)) ∙ if-true _ (passed (c .before .before .before .before .before .before .width-ok .ensures) (c .before .before .before .before .before .if2 .left)) ∙ if-true _ (passed (c .before .before .before .before .is-size .ensures) (c .before .before .before .if3 .left)) ∙ if-false _ (refused (c .before .before .crew-ok .ensures) (c .before .if4 .taken)))
 
-cast-words : tie.Need-cast-words
-cast-words c = search needs
-
-mul-words : tie.Need-mul-words
-mul-words c = search needs
+words-ok-requires : tie.Need-words-ok-requires
+words-ok-requires c κs = search needs
 
 unmade-requires-5 : tie.Need-unmade-requires-5
 unmade-requires-5 c κs = search needs
 
 returns-5 : tie.Need-returns-5
 unfolding freshOf
-returns-5 c = λ l.
-    ap (λ (r : Returned). returned r (c .before .before .before .before .before .before .before .before .before .before .before .args .store .now) l) (c .unmade5 .ensures)
-    ∙ sym
-    (if-true _ (passed (c .before .before .before .before .before .before .before .before .before .kind-ok .ensures) (c .before .before .before .before .before .before .before .before .if1 .left))
-    ∙ if-true _ (passed (c .before .before .before .before .before .before .before .width-ok .ensures) (c .before .before .before .before .before .before .if2 .left))
-    ∙ if-true _ (passed (c .before .before .before .before .before .is-size .ensures) (c .before .before .before .before .if3 .left))
-    ∙ if-true _ (passed (c .before .before .before .crew-ok .ensures) (c .before .before .if4 .left))
-    ∙ if-false _ (lt-leb _ _ (c .before .if5 .taken)))
+returns-5 c = λ l. ap (λ (r : Returned). returned r (c .before .before .before .before .before .before .before .before .before .before .before .before .args .store .now) l) (c .unmade5 .ensures) ∙ sym (if-true _ (passed (c .before .before .before .before .before .before .before .before .before .before .kind-ok .ensures) (c .before .before .before .before .before .before .before .before .before .if1 .left)) ∙ if-true _ (passed (c .before .before .before .before .before .before .before .before .width-ok .ensures) (c .before .before .before .before .before .before .before .if2 .left)) ∙ if-true _ (passed (c .before .before .before .before .before .before .is-size .ensures) (c .before .before .before .before .before .if3 .left)) ∙ if-true _ (passed (c .before .before .before .before .crew-ok .ensures) (c .before .before .before .if4 .left)) ∙ if-false _ (refused (c .before .before .words-ok .ensures) (c .before .if5 .taken)))
+
+cast-each : tie.Need-cast-each
+cast-each c = search needs
+
+add-each : tie.Need-add-each
+add-each c = search needs
+
+cast-long : tie.Need-cast-long
+cast-long c = search needs
+
+mul-long : tie.Need-mul-long
+mul-long c = let a = c .before .before .before .before .before .before .before .before .before .before .before .args in omega (arith, most-words (a .setup .words) (a .setup .size) (leb-true _ _ (and-right _ _ (passed (c .before .words-ok .ensures) (c .if5 .left)))) (size-in _ (passed (c .before .before .before .before .before .is-size .ensures) (c .before .before .before .before .if3 .left))))
+
+unmade-requires-6 : tie.Need-unmade-requires-6
+unmade-requires-6 c κs = search needs
+
+returns-6 : tie.Need-returns-6
+unfolding freshOf
+returns-6 c = λ l. ap (λ (r : Returned). returned r (c .before .before .before .before .before .before .before .before .before .before .before .before .before .args .store .now) l) (c .unmade6 .ensures) ∙ sym (if-true _ (passed (c .before .before .before .before .before .before .before .before .before .before .before .kind-ok .ensures) (c .before .before .before .before .before .before .before .before .before .before .if1 .left)) ∙ if-true _ (passed (c .before .before .before .before .before .before .before .before .before .width-ok .ensures) (c .before .before .before .before .before .before .before .before .if2 .left)) ∙ if-true _ (passed (c .before .before .before .before .before .before .before .is-size .ensures) (c .before .before .before .before .before .before .if3 .left)) ∙ if-true _ (passed (c .before .before .before .before .before .crew-ok .ensures) (c .before .before .before .before .if4 .left)) ∙ if-true _ (passed (c .before .before .before .words-ok .ensures) (c .before .before .if5 .left)) ∙ if-false _ (lt-leb _ _ (c .before .if6 .taken)))
 
 zero-requires : tie.Need-zero-requires
 zero-requires c κs = search needs
@@ -97,27 +91,21 @@ kind-of-requires : tie.Need-kind-of-requires
 kind-of-requires c κs = search needs
 
 made-requires : tie.Need-made-requires
-made-requires c κs = size-in _ (passed (c .before .before .before .before .before .before .before .before .before .is-size .ensures) (c .before .before .before .before .before .before .before .before .if3 .left))
+made-requires c κs = (size-in _ (passed (c .before .before .before .before .before .before .before .before .before .before .before .is-size .ensures) (c .before .before .before .before .before .before .before .before .before .before .if3 .left)), leb-true _ _ (and-right _ _ (passed (c .before .before .before .before .before .before .before .words-ok .ensures) (c .before .before .before .before .before .before .if5 .left))))
 
 same-length : tie.Need-same-length
 same-length c = search needs
 
-returns-6 : tie.Need-returns-6
+returns-7 : tie.Need-returns-7
 unfolding freshOf
-returns-6 c =
-    let start = c .before .before .before .before .before .before .before .before .before .before .before .before .before .before .before .before in
+returns-7 c = let start = c .before .before .before .before .before .before .before .before .before .before .before .before .before .before .before .before .before .before in
     λ l.
     same-returned
     (ap (λ (b : Bench). record { bench = b; answer = Accepted })
-    (c .made .ensures ∙ ap (λ (κ : Kind). blank κ (start .args .setup .width) (start .args .setup .size) (start .args .setup .crew)) (c .before .kind-of .ensures)))
+    (c .made .ensures ∙ ap (λ (κ : Kind). blank κ (start .args .setup .width) (start .args .setup .size) (start .args .setup .crew) (start .args .setup .words)) (c .before .kind-of .ensures)))
     (c .before .before .before .before .zero .ensures)
     refl
-    ∙ sym
-    (if-true _ (passed (c .before .before .before .before .before .before .before .before .before .before .before .before .before .before .kind-ok .ensures) (c .before .before .before .before .before .before .before .before .before .before .before .before .before .if1 .left))
-    ∙ if-true _ (passed (c .before .before .before .before .before .before .before .before .before .before .before .before .width-ok .ensures) (c .before .before .before .before .before .before .before .before .before .before .before .if2 .left))
-    ∙ if-true _ (passed (c .before .before .before .before .before .before .before .before .before .before .is-size .ensures) (c .before .before .before .before .before .before .before .before .before .if3 .left))
-    ∙ if-true _ (passed (c .before .before .before .before .before .before .before .before .crew-ok .ensures) (c .before .before .before .before .before .before .before .if4 .left))
-    ∙ if-true _ (le-leb _ _ (c .before .before .before .before .before .before .if5 .left)))
+    ∙ sym (if-true _ (passed (c .before .before .before .before .before .before .before .before .before .before .before .before .before .before .before .before .kind-ok .ensures) (c .before .before .before .before .before .before .before .before .before .before .before .before .before .before .before .if1 .left)) ∙ if-true _ (passed (c .before .before .before .before .before .before .before .before .before .before .before .before .before .before .width-ok .ensures) (c .before .before .before .before .before .before .before .before .before .before .before .before .before .if2 .left)) ∙ if-true _ (passed (c .before .before .before .before .before .before .before .before .before .before .before .before .is-size .ensures) (c .before .before .before .before .before .before .before .before .before .before .before .if3 .left)) ∙ if-true _ (passed (c .before .before .before .before .before .before .before .before .before .before .crew-ok .ensures) (c .before .before .before .before .before .before .before .before .before .if4 .left)) ∙ if-true _ (passed (c .before .before .before .before .before .before .before .before .words-ok .ensures) (c .before .before .before .before .before .before .before .if5 .left)) ∙ if-true _ (le-leb _ _ (c .before .before .before .before .before .before .if6 .left)))
 
 pub fresh-spec : {M : Type 1} → statement M
 fresh-spec =
@@ -135,12 +123,17 @@ fresh-spec =
     crew-ok-requires
     unmade-requires-4
     returns-4
-    cast-words
-    mul-words
+    words-ok-requires
     unmade-requires-5
     returns-5
+    cast-each
+    add-each
+    cast-long
+    mul-long
+    unmade-requires-6
+    returns-6
     zero-requires
     kind-of-requires
     made-requires
     same-length
-    returns-6)
+    returns-7)

@@ -1,7 +1,6 @@
 use mathlib.Core.Path.{ap}
-use mathlib.Core.List.{[], _∷_}
 use borrow.Author.Needs.{needs}
-use Rattle.model.specs.Answers.{Entry}
+use Rattle.model.specs.Answers.{entryWords}
 use Rattle.plays.proofs.entered.Statement.{statement}
 use Rattle.plays.proofs.entered.Tie as tie
 
@@ -9,7 +8,7 @@ entry-of-requires : tie.Need-entry-of-requires
 entry-of-requires c κs = search needs
 
 returns : tie.Need-returns
-returns c = ap (λ (e : Entry). e .kind ∷ e .worker ∷ e .number ∷ e .payload ∷ []) (c .entry-of .ensures)
+returns c = ap (entryWords 4) (c .before .before .entry-of .ensures)
 
 pub entered-spec : {M : Type 1} → statement M
 entered-spec = tie.close (tie.spec entry-of-requires returns)

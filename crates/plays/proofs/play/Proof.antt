@@ -34,6 +34,45 @@ loop-holds c = search needs
 mul-at : tie.Need-mul-at Inv-loop μ-loop
 mul-at c = search needs
 
+mul-to : tie.Need-mul-to Inv-loop μ-loop
+mul-to c = search needs
+
+add-first : tie.Need-add-first Inv-loop μ-loop
+add-first c = search needs
+
+mul-first : tie.Need-mul-first Inv-loop μ-loop
+mul-first c = search needs
+
+shared-slice-read-first : tie.Need-shared-slice-read-first Inv-loop μ-loop
+shared-slice-read-first c = search needs
+
+add-second : tie.Need-add-second Inv-loop μ-loop
+add-second c = search needs
+
+mul-second : tie.Need-mul-second Inv-loop μ-loop
+mul-second c = search needs
+
+shared-slice-read-second : tie.Need-shared-slice-read-second Inv-loop μ-loop
+shared-slice-read-second c = search needs
+
+add-third : tie.Need-add-third Inv-loop μ-loop
+add-third c = search needs
+
+mul-third : tie.Need-mul-third Inv-loop μ-loop
+mul-third c = search needs
+
+shared-slice-read-third : tie.Need-shared-slice-read-third Inv-loop μ-loop
+shared-slice-read-third c = search needs
+
+add-fourth : tie.Need-add-fourth Inv-loop μ-loop
+add-fourth c = search needs
+
+mul-fourth : tie.Need-mul-fourth Inv-loop μ-loop
+mul-fourth c = search needs
+
+shared-slice-read-fourth : tie.Need-shared-slice-read-fourth Inv-loop μ-loop
+shared-slice-read-fourth c = search needs
+
 mul-call : tie.Need-mul-call Inv-loop μ-loop
 mul-call c = search needs
 
@@ -49,20 +88,8 @@ mul-call-2 c = search needs
 shared-slice-read-call-2 : tie.Need-shared-slice-read-call-2 Inv-loop μ-loop
 shared-slice-read-call-2 c = search needs
 
-add-call-2 : tie.Need-add-call-2 Inv-loop μ-loop
-add-call-2 c = search needs
-
-mul-call-3 : tie.Need-mul-call-3 Inv-loop μ-loop
-mul-call-3 c = search needs
-
-shared-slice-read-call-3 : tie.Need-shared-slice-read-call-3 Inv-loop μ-loop
-shared-slice-read-call-3 c = search needs
-
 call-requires : tie.Need-call-requires Inv-loop μ-loop
 call-requires c κs = search needs
-
-mul-write : tie.Need-mul-write Inv-loop μ-loop
-mul-write c = search needs
 
 words-of-requires : tie.Need-words-of-requires Inv-loop μ-loop
 words-of-requires c κs = search needs
@@ -81,9 +108,9 @@ loop-again c =
     let at-write = c .before .before .before in
     let at-words-of = c .before .before .before .before in
     let at-call = c .before .before .before .before .before .before .before .before .before .before in
-    let at-loop-test = c .before .before .before .before .before .before .before .before .before .before .before .before .before .before .before .before in
-    let at-loop = c .before .before .before .before .before .before .before .before .before .before .before .before .before .before .before .before .before in
-    let at-start = c .before .before .before .before .before .before .before .before .before .before .before .before .before .before .before .before .before .before .before .before .before .before .before in
+    let at-loop-test = c .before .before .before .before .before .before .before .before .before .before .before .before .before .before .before .before .before .before .before in
+    let at-loop = c .before .before .before .before .before .before .before .before .before .before .before .before .before .before .before .before .before .before .before .before in
+    let at-start = c .before .before .before .before .before .before .before .before .before .before .before .before .before .before .before .before .before .before .before .before .before .before .before .before .before .before in
     let l = at-loop .loop in
     let v = l .inv in
     let s = at-start .args .calls .now in (
@@ -116,16 +143,25 @@ play-spec =
     least-requires
     loop-holds
     mul-at
+    mul-to
+    add-first
+    mul-first
+    shared-slice-read-first
+    add-second
+    mul-second
+    shared-slice-read-second
+    add-third
+    mul-third
+    shared-slice-read-third
+    add-fourth
+    mul-fourth
+    shared-slice-read-fourth
     mul-call
     shared-slice-read-call
     add-call
     mul-call-2
     shared-slice-read-call-2
-    add-call-2
-    mul-call-3
-    shared-slice-read-call-3
     call-requires
-    mul-write
     words-of-requires
     write-requires
     add-made

@@ -5,28 +5,25 @@ use lib.Dec.{eqb}
 use lib.ListN.{length, length-set}
 use borrow.Author.Tests.{eq-eqb, ne-eqb}
 use Rattle.judgement.specs.Judgement.{wordsOf}
+use Rattle.judgement.proofs.Entries.{entry-ends}
 use Rattle.puts.specs.Puts.{Gathered}
 use Rattle.puts.proofs.Gathering.{gathered-start, gathered-skip, gathered-put}
 use Rattle.puts.proofs.gather.Statement.{statement}
 use Rattle.puts.proofs.gather.Tie as tie
 
 abbrev Inv-loop : tie.InvT-loop
-Inv-loop log entries puts₀ count₀ j₀ puts count j = (j ≤ entries) × (length puts ≡ length puts₀) × Gathered (wordsOf log) j puts count
+Inv-loop words log entries puts₀ count₀ j₀ puts count j = (j ≤ entries) × (length puts ≡ length puts₀) × Gathered words (wordsOf log) j puts count
 
 abbrev μ-loop : tie.MeasureT-loop
-μ-loop log entries puts₀ count₀ j₀ puts count j = entries - j
+μ-loop words log entries puts₀ count₀ j₀ puts count j = entries - j
 
 loop-holds : tie.Need-loop-holds Inv-loop μ-loop
 loop-holds c =
-    (omega arith, refl, gathered-start (wordsOf (c .before .before .args .log .now)) _)
+    (omega arith, refl, gathered-start (c .before .before .args .words) (wordsOf (c .before .before .args .log .now)) _)
 
-mul-word : tie.Need-mul-word Inv-loop μ-loop
-mul-word c =
-    omega arith
-
-word-requires : tie.Need-word-requires Inv-loop μ-loop
-word-requires c κs =
-    omega arith
+kind-at-requires : tie.Need-kind-at-requires Inv-loop μ-loop
+kind-at-requires c κs =
+    entry-ends _ _ _ _ (c .before .before .before .before .pre .0) (c .loop-test .taken)
 
 add-j : tie.Need-add-j Inv-loop μ-loop
 add-j c =
@@ -38,7 +35,7 @@ loop-less c =
 
 loop-again : tie.Need-loop-again Inv-loop μ-loop
 loop-again c =
-    (omega arith, c .before .before .before .loop .inv .1, gathered-skip (wordsOf (c .before .before .before .before .before .before .args .log .now)) _ _ _ (c .before .before .before .loop .inv .2) (ap (λ (x : ℕ). eqb x 1) (sym (c .before .word .ensures)) ∙ ne-eqb _ 1 (c .if1 .taken)))
+    (omega arith, c .before .before .before .loop .inv .1, gathered-skip (c .before .before .before .before .before .before .args .words) (wordsOf (c .before .before .before .before .before .before .args .log .now)) _ _ _ (c .before .before .before .loop .inv .2) (ap (λ (x : ℕ). eqb x 1) (sym (c .before .kind-at .ensures)) ∙ ne-eqb _ 1 (c .if1 .taken)))
 
 cast-puts : tie.Need-cast-puts Inv-loop μ-loop
 cast-puts c =
@@ -73,7 +70,7 @@ loop-again-2 : tie.Need-loop-again-2 Inv-loop μ-loop
 loop-again-2 c =
     let f = c .before .before .before .loop .inv .2 .few in
     let e = c .before .before .before .loop .inv .1 in
-    (omega arith, length-set (c .before .before .before .loop .puts) (c .before .before .before .loop .count) (c .before .before .before .loop .j) ∙ e, gathered-put (wordsOf (c .before .before .before .before .before .before .args .log .now)) _ _ _ (c .before .before .before .loop .inv .2) (ap (λ (x : ℕ). eqb x 1) (sym (c .before .word .ensures)) ∙ eq-eqb _ 1 (c .if1 .left)) (omega (arith, f, e)))
+    (omega arith, length-set (c .before .before .before .loop .puts) (c .before .before .before .loop .count) (c .before .before .before .loop .j) ∙ e, gathered-put (c .before .before .before .before .before .before .args .words) (wordsOf (c .before .before .before .before .before .before .args .log .now)) _ _ _ (c .before .before .before .loop .inv .2) (ap (λ (x : ℕ). eqb x 1) (sym (c .before .kind-at .ensures)) ∙ eq-eqb _ 1 (c .if1 .left)) (omega (arith, f, e)))
 
 same-length : tie.Need-same-length Inv-loop μ-loop
 same-length c =
@@ -81,7 +78,7 @@ same-length c =
 
 returns : tie.Need-returns Inv-loop μ-loop
 returns c =
-    subst (λ (n : ℕ). Gathered (wordsOf (c .before .before .before .before .args .log .now)) n (c .before .loop .puts) (c .before .loop .count)) {x = c .before .loop .j} {y = c .before .before .before .before .args .entries} (omega arith) (c .before .loop .inv .2)
+    subst (λ (n : ℕ). Gathered (c .before .before .before .before .args .words) (wordsOf (c .before .before .before .before .args .log .now)) n (c .before .loop .puts) (c .before .loop .count)) {x = c .before .loop .j} {y = c .before .before .before .before .args .entries} (omega arith) (c .before .loop .inv .2)
 
 pub gather-spec : {M : Type 1} → statement M
 gather-spec =
@@ -90,8 +87,7 @@ gather-spec =
     Inv-loop
     μ-loop
     loop-holds
-    mul-word
-    word-requires
+    kind-at-requires
     add-j
     loop-less
     loop-again

@@ -1,5 +1,6 @@
 use borrow.Author.Needs.{needs}
 use mathlib.Core.Path.{sym, _∙_}
+use native.Mathlib.Omega.{arith}
 use Rattle.puts.proofs.Halving.{at-place}
 use Rattle.puts.proofs.look_up.Statement.{statement}
 use Rattle.puts.proofs.look_up.Tie as tie
@@ -22,13 +23,18 @@ mul-number-at c = search needs
 shared-slice-read-number-at : tie.Need-shared-slice-read-number-at
 shared-slice-read-number-at c = search needs
 
+cast-number-at : tie.Need-cast-number-at
+cast-number-at c =
+    let p = c .before .before .before .before .before .before .before .pre .1 .0 _ (c .before .if1 .taken) in
+    omega (arith, p)
+
 number-at-requires : tie.Need-number-at-requires
 number-at-requires c κs =
     c .before .before .before .before .before .before .before .pre .1 .0 _ (c .before .if1 .taken)
 
 returns : tie.Need-returns
 returns c =
-    at-place _ _ _ _ _ (c .before .before .before .if1 .taken) (sym (c .before .number-at .ensures) ∙ c .if2 .taken)
+    at-place _ _ _ _ _ _ (c .before .before .before .if1 .taken) (sym (c .before .number-at .ensures) ∙ c .if2 .taken)
 
 find-requires : tie.Need-find-requires
 find-requires c κs = search needs
@@ -46,6 +52,7 @@ look-up-spec =
     index-requires
     mul-number-at
     shared-slice-read-number-at
+    cast-number-at
     number-at-requires
     returns
     find-requires

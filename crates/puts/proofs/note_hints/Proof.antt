@@ -6,10 +6,10 @@ use Rattle.puts.proofs.note_hints.Statement.{statement}
 use Rattle.puts.proofs.note_hints.Tie as tie
 
 abbrev Inv-loop : tie.InvT-loop
-Inv-loop log puts count hints₀ k₀ hints k = length hints ≡ length hints₀
+Inv-loop words log puts count hints₀ k₀ hints k = length hints ≡ length hints₀
 
 abbrev μ-loop : tie.MeasureT-loop
-μ-loop log puts count hints₀ k₀ hints k = count - k
+μ-loop words log puts count hints₀ k₀ hints k = count - k
 
 loop-holds : tie.Need-loop-holds Inv-loop μ-loop
 loop-holds c =
@@ -22,6 +22,11 @@ mul-number-at c =
 shared-slice-read-number-at : tie.Need-shared-slice-read-number-at Inv-loop μ-loop
 shared-slice-read-number-at c =
     omega arith
+
+cast-number-at : tie.Need-cast-number-at Inv-loop μ-loop
+cast-number-at c =
+    let p = c .before .before .before .before .before .before .pre .1 _ (c .before .loop-test .taken) in
+    omega (arith, p)
 
 number-at-requires : tie.Need-number-at-requires Inv-loop μ-loop
 number-at-requires c κs =
@@ -74,6 +79,7 @@ note-hints-spec =
     loop-holds
     mul-number-at
     shared-slice-read-number-at
+    cast-number-at
     number-at-requires
     cast-at
     cast-hints

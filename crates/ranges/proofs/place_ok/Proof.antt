@@ -10,7 +10,7 @@ use Rattle.ranges.proofs.place_ok.Statement.{statement}
 use Rattle.ranges.proofs.place_ok.Tie as tie
 
 returns : tie.Need-returns
-returns c q p d = sym (fails _ (le-ltb (c .before .args .place) (q .published) (omega (arith, p, c .if1 .taken))))
+returns c v q p d = sym (fails _ (le-ltb (c .before .args .place) (q .published) (omega (arith, p, c .if1 .taken))))
 
 shl-slot-ok : tie.Need-shl-slot-ok
 shl-slot-ok c = search needs
@@ -19,7 +19,7 @@ slot-ok-requires : tie.Need-slot-ok-requires
 slot-ok-requires c κs = search needs
 
 returns-2 : tie.Need-returns-2
-returns-2 c q p d =
+returns-2 c v q p d =
     let a = c .before .before .args in
     let h : a .place < q .published = omega (arith, p, c .before .if1 .left) in
     let (doubled, small) = d (a .place) h in

@@ -9,20 +9,20 @@ use Rattle.replies.proofs.play_live.Tie as tie
 enum-known-command : tie.Need-enum-known-command
 enum-known-command c = search needs
 
-begin-requires : tie.Need-begin-requires
-begin-requires c κs = search needs
+put-requires : tie.Need-put-requires
+put-requires c κs = search needs
 
 enum-told : tie.Need-enum-told
 enum-told c = search needs
 
-begin-requires-2 : tie.Need-begin-requires-2
-begin-requires-2 c κs = search needs
+begin-requires : tie.Need-begin-requires
+begin-requires c κs = search needs
 
 enum-known-command-2 : tie.Need-enum-known-command-2
 enum-known-command-2 c = search needs
 
-begin-requires-3 : tie.Need-begin-requires-3
-begin-requires-3 c κs = search needs
+begin-requires-2 : tie.Need-begin-requires-2
+begin-requires-2 c κs = search needs
 
 enum-told-2 : tie.Need-enum-told-2
 enum-told-2 c = search needs
@@ -44,7 +44,7 @@ same-length-3 c = search needs
 
 returns : tie.Need-returns
 unfolding respond
-returns c = rw (c .before .before .before .before .before .before .before .command .given .1) (c .before .before .begin .ensures)
+returns c = rw (c .before .before .before .before .before .before .before .command .given .1) (c .before .before .put .ensures)
 
 same-length-4 : tie.Need-same-length-4
 same-length-4 c = search needs
@@ -57,7 +57,7 @@ same-length-6 c = search needs
 
 returns-2 : tie.Need-returns-2
 unfolding respond
-returns-2 c = rw (c .before .before .before .before .before .before .enum-told .given .1) (c .before .before .begin2 .ensures)
+returns-2 c = rw (c .before .before .before .before .before .before .enum-told .given .1) (c .before .before .begin .ensures)
 
 same-length-7 : tie.Need-same-length-7
 same-length-7 c = search needs
@@ -70,7 +70,7 @@ same-length-9 c = search needs
 
 returns-3 : tie.Need-returns-3
 unfolding respond
-returns-3 c = rw (c .before .before .before .before .before .before .before .command2 .given .1) (c .before .before .begin3 .ensures)
+returns-3 c = rw (c .before .before .before .before .before .before .before .command2 .given .1) (c .before .before .begin2 .ensures)
 
 same-length-10 : tie.Need-same-length-10
 same-length-10 c = search needs
@@ -100,11 +100,11 @@ play-live-spec =
     tie.close
     (tie.spec
     enum-known-command
-    begin-requires
+    put-requires
     enum-told
-    begin-requires-2
+    begin-requires
     enum-known-command-2
-    begin-requires-3
+    begin-requires-2
     enum-told-2
     total-requires
     refuse-requires

@@ -30,32 +30,29 @@ print-requires c κs = shows-room _ _ _ refl _ _ (rw (c .before .before .before 
 enum-known-answer-2 : tie.Need-enum-known-answer-2
 enum-known-answer-2 c = search needs
 
+print-out-requires : tie.Need-print-out-requires
+unfolding shown
+print-out-requires c κs = shows-room _ _ _ refl _ _ (rw (c .before .before .answer2 .given .1) at (c .before .before .before .before .before .pre))
+
+enum-known-answer-3 : tie.Need-enum-known-answer-3
+enum-known-answer-3 c = search needs
+
 slice-aggregate-print-2 : tie.Need-slice-aggregate-print-2
 slice-aggregate-print-2 c = search needs
 
 print-requires-2 : tie.Need-print-requires-2
 unfolding shown
-print-requires-2 c κs = shows-room _ _ _ refl _ _ (rw (c .before .before .before .answer2 .given .1) at (c .before .before .before .before .before .before .pre))
+print-requires-2 c κs = shows-room _ _ _ refl _ _ (rw (c .before .before .before .answer3 .given .1) at (c .before .before .before .before .before .before .pre))
 
-enum-known-answer-3 : tie.Need-enum-known-answer-3
-enum-known-answer-3 c = search needs
+enum-known-answer-4 : tie.Need-enum-known-answer-4
+enum-known-answer-4 c = search needs
 
 slice-aggregate-print-3 : tie.Need-slice-aggregate-print-3
 slice-aggregate-print-3 c = search needs
 
 print-requires-3 : tie.Need-print-requires-3
 unfolding shown
-print-requires-3 c κs = shows-room _ _ _ refl _ _ (rw (c .before .before .before .answer3 .given .1) at (c .before .before .before .before .before .before .pre))
-
-enum-known-answer-4 : tie.Need-enum-known-answer-4
-enum-known-answer-4 c = search needs
-
-slice-aggregate-print-4 : tie.Need-slice-aggregate-print-4
-slice-aggregate-print-4 c = search needs
-
-print-requires-4 : tie.Need-print-requires-4
-unfolding shown
-print-requires-4 c κs = shows-room _ _ _ refl _ _ (rw (c .before .before .before .answer4 .given .1) at (c .before .before .before .before .before .before .pre))
+print-requires-3 c κs = shows-room _ _ _ refl _ _ (rw (c .before .before .before .answer4 .given .1) at (c .before .before .before .before .before .before .pre))
 
 enum-known-answer-5 : tie.Need-enum-known-answer-5
 enum-known-answer-5 c = search needs
@@ -63,12 +60,12 @@ enum-known-answer-5 c = search needs
 number-of-requires : tie.Need-number-of-requires
 number-of-requires c κs = search needs
 
-slice-aggregate-print-5 : tie.Need-slice-aggregate-print-5
-slice-aggregate-print-5 c = search needs
+slice-aggregate-print-4 : tie.Need-slice-aggregate-print-4
+slice-aggregate-print-4 c = search needs
 
-print-requires-5 : tie.Need-print-requires-5
+print-requires-4 : tie.Need-print-requires-4
 unfolding shown
-print-requires-5 c κs = shows-room _ _ _ (ap (λ (n : ℕ). lineOf 82 (n ∷ [])) (sym (c .before .before .number-of .ensures))) _ _ (rw (c .before .before .before .before .answer5 .given .1) at (c .before .before .before .before .before .before .before .pre))
+print-requires-4 c κs = shows-room _ _ _ (ap (λ (n : ℕ). lineOf 82 (n ∷ [])) (sym (c .before .before .number-of .ensures))) _ _ (rw (c .before .before .before .before .answer5 .given .1) at (c .before .before .before .before .before .before .before .pre))
 
 returns : tie.Need-returns
 returns c = rw (c .enum-told .given .1) (shows-none _ _)
@@ -91,28 +88,28 @@ same-length-2 c = search needs
 
 returns-5 : tie.Need-returns-5
 unfolding shown
-returns-5 c = rw (c .before .before .before .before .before .before .answer2 .given .1) (shows-one _ _ _ refl _ _ _ _ (c .before .before .print2 .ensures))
+returns-5 c = rw (c .before .before .before .before .before .answer2 .given .1) (shows-one _ _ _ refl _ _ _ _ (c .before .before .print-out .ensures))
 
 same-length-3 : tie.Need-same-length-3
 same-length-3 c = search needs
 
 returns-6 : tie.Need-returns-6
 unfolding shown
-returns-6 c = rw (c .before .before .before .before .before .before .answer3 .given .1) (shows-one _ _ _ refl _ _ _ _ (c .before .before .print3 .ensures))
+returns-6 c = rw (c .before .before .before .before .before .before .answer3 .given .1) (shows-one _ _ _ refl _ _ _ _ (c .before .before .print2 .ensures))
 
 same-length-4 : tie.Need-same-length-4
 same-length-4 c = search needs
 
 returns-7 : tie.Need-returns-7
 unfolding shown
-returns-7 c = rw (c .before .before .before .before .before .before .answer4 .given .1) (shows-one _ _ _ refl _ _ _ _ (c .before .before .print4 .ensures))
+returns-7 c = rw (c .before .before .before .before .before .before .answer4 .given .1) (shows-one _ _ _ refl _ _ _ _ (c .before .before .print3 .ensures))
 
 same-length-5 : tie.Need-same-length-5
 same-length-5 c = search needs
 
 returns-8 : tie.Need-returns-8
 unfolding shown
-returns-8 c = rw (c .before .before .before .before .before .before .before .answer5 .given .1) (shows-one _ _ _ (ap (λ (n : ℕ). lineOf 82 (n ∷ [])) (sym (c .before .before .before .before .before .number-of .ensures))) _ _ _ _ (c .before .before .print5 .ensures))
+returns-8 c = rw (c .before .before .before .before .before .before .before .answer5 .given .1) (shows-one _ _ _ (ap (λ (n : ℕ). lineOf 82 (n ∷ [])) (sym (c .before .before .before .before .before .number-of .ensures))) _ _ _ _ (c .before .before .print4 .ensures))
 
 pub show-spec : {M : Type 1} → statement M
 show-spec =
@@ -125,18 +122,17 @@ show-spec =
     slice-aggregate-print
     print-requires
     enum-known-answer-2
+    print-out-requires
+    enum-known-answer-3
     slice-aggregate-print-2
     print-requires-2
-    enum-known-answer-3
+    enum-known-answer-4
     slice-aggregate-print-3
     print-requires-3
-    enum-known-answer-4
-    slice-aggregate-print-4
-    print-requires-4
     enum-known-answer-5
     number-of-requires
-    slice-aggregate-print-5
-    print-requires-5
+    slice-aggregate-print-4
+    print-requires-4
     returns
     returns-2
     returns-3

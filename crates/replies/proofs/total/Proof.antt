@@ -20,7 +20,7 @@ slice-aggregate-print : tie.Need-slice-aggregate-print
 slice-aggregate-print c = search needs
 
 print-requires : tie.Need-print-requires
-print-requires c κs = line-fits _ _ _ _ (c .before .before .before .before .before .before .before .before .before .pre) (omega arith)
+print-requires c κs = let p = c .before .before .before .before .before .before .before .before .before .pre in line-fits _ _ _ _ (omega (arith, p)) (omega arith)
 
 same-length : tie.Need-same-length
 same-length c = search needs

@@ -1,3 +1,4 @@
+use mathlib.Core.Path.{sym, _∙_}
 use borrow.Author.Tests.{le-leb, lt-leb}
 use borrow.Author.Needs.{needs}
 use Rattle.model.specs.Tests.{if_then_else_, _and_}
@@ -16,11 +17,8 @@ size-at-requires c κs = search needs
 end-of-requires : tie.Need-end-of-requires
 end-of-requires c κs = search needs
 
-mul-end : tie.Need-mul-end
-mul-end c = search needs
-
-mul-end-2 : tie.Need-mul-end-2
-mul-end-2 c = search needs
+twice-as-long-requires : tie.Need-twice-as-long-requires
+twice-as-long-requires c κs = search needs
 
 add-end : tie.Need-add-end
 add-end c = search needs
@@ -33,13 +31,15 @@ mul-if1 c = search needs
 
 returns : tie.Need-returns
 unfolding _and_ if_then_else_
-returns c =
-    let size = c .before .before .size-at .ensures in
-    simp (size, c .before .end-of .ensures, le-leb _ _ (rw size at (c .if1 .taken)))
+returns c v S =
+    let size = c .before .before .before .size-at .ensures ∙ sym (S .0) in
+    simp (c .before .before .end-of .ensures, c .before .twice-as-long .ensures, le-leb _ _ (rw size at (c .if1 .taken)))
 
 returns-2 : tie.Need-returns-2
 unfolding _and_ if_then_else_
-returns-2 c = let size = c .before .before .size-at .ensures in simp (size, lt-leb _ _ (rw size at (c .if1 .left)))
+returns-2 c v S =
+    let size = c .before .before .before .size-at .ensures ∙ sym (S .0) in
+    simp (size, lt-leb _ _ (rw size at (c .if1 .left)))
 
 pub has-room-spec : {M : Type 1} → statement M
 has-room-spec =
@@ -49,8 +49,7 @@ has-room-spec =
     cast-at
     size-at-requires
     end-of-requires
-    mul-end
-    mul-end-2
+    twice-as-long-requires
     add-end
     cast-end
     mul-if1

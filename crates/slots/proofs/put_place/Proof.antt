@@ -6,7 +6,7 @@ put-index-requires : tie.Need-put-index-requires
 put-index-requires c κs = search needs
 
 place-requires : tie.Need-place-requires
-place-requires c κs = let p = c .before .pre in rw (c .put-index .ensures) (p .0, (p .1 .1 .0, p .1 .1 .1))
+place-requires c κs = let p = c .before .pre in rw (c .put-index .ensures) (p .0, (p .1 .0, (p .1 .1 .1 .0, p .1 .1 .1 .1)))
 
 returns : tie.Need-returns
 returns c = simp (c .before .put-index .ensures, c .place .ensures)

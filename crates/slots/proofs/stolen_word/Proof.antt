@@ -6,7 +6,9 @@ steal-index-requires : tie.Need-steal-index-requires
 steal-index-requires c κs = search needs
 
 read-word-requires : tie.Need-read-word-requires
-read-word-requires c κs = let p = c .before .before .pre in rw (c .steal-index .ensures) (p .0, (p .1 .1 .0, (p .1 .1 .1 .0, p .1 .1 .1 .1)))
+read-word-requires c κs =
+    let p = c .before .before .pre in
+    rw (c .steal-index .ensures) (p .0, (p .1 .0, (p .1 .1 .1 .0, (p .1 .1 .1 .1 .0, p .1 .1 .1 .1 .1))))
 
 returns : tie.Need-returns
 returns c = simp (c .before .steal-index .ensures, c .read-word .ensures)

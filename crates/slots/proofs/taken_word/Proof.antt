@@ -6,7 +6,9 @@ take-index-requires : tie.Need-take-index-requires
 take-index-requires c κs = search needs
 
 read-word-requires : tie.Need-read-word-requires
-read-word-requires c κs = let p = c .before .before .pre in rw (c .take-index .ensures) (p .0, (p .1 .1 .1 .0, (p .1 .1 .1 .1 .0, p .1 .1 .1 .1 .1)))
+read-word-requires c κs =
+    let p = c .before .before .pre in
+    rw (c .take-index .ensures) (p .0, (p .1 .0, (p .1 .1 .1 .1 .0, (p .1 .1 .1 .1 .1 .0, p .1 .1 .1 .1 .1 .1))))
 
 returns : tie.Need-returns
 returns c = simp (c .before .take-index .ensures, c .read-word .ensures)

@@ -2,11 +2,11 @@ use native.Mathlib.Omega.{arith}
 use Prim.Native.Nat.{_≤_}
 use mathlib.Core.Path.{_≡_, sym}
 use lib.ListN.{length}
-use lib.Seq.{getD-take}
+use lib.Seq.{getD-take, length-take-le}
 use borrow.Author.Tests.{le-leb, lt-leb}
 use Rattle.model.specs.Tests.{if_then_else_, _and_}
 use Rattle.text.specs.Commands.{formed}
-use Rattle.text.proofs.Fields.{count-is, count-not}
+use Rattle.text.proofs.Fields.{count-is, count-not, count-from, count-under, count-to, count-over}
 use borrow.Author.Needs.{needs}
 use Rattle.text.proofs.form.Statement.{statement}
 use Rattle.text.proofs.form.Tie as tie
@@ -19,22 +19,22 @@ enum-told-2 c = search needs
 
 returns : tie.Need-returns
 unfolding formed _and_ if_then_else_
-returns c = let a = c .before .before .before .args in let five : length (a .t3) ≡ 5 = search needs in let h : a .n ≤ length (a .t3) = omega arith in
-    sym (rw (c .before .enum-told2 .given .1, count-not (a .t3) (a .n) 5 h (c .if1 .taken)))
+returns c = let a = c .before .before .before .args in let six : length (a .t3) ≡ 6 = search needs in let h : a .n ≤ length (a .t3) = omega arith in
+    sym (rw (c .before .enum-told2 .given .1, count-under (a .t3) (a .n) 5 h (omega arith)))
 
-array-read-words : tie.Need-array-read-words
-array-read-words c = search needs
+array-read-store : tie.Need-array-read-store
+array-read-store c = search needs
 
 returns-2 : tie.Need-returns-2
 unfolding formed _and_ if_then_else_
-returns-2 c = let a = c .before .before .before .before .args in let five : length (a .t3) ≡ 5 = search needs in let h : a .n ≤ length (a .t3) = omega arith in
-    sym (rw (c .before .before .enum-told2 .given .1, count-is (a .t3) (a .n) 5 h (c .before .if1 .left), getD-take (a .n) (a .t3) 4 0 (omega arith), lt-leb _ _ (c .if2 .taken)))
+returns-2 c = let a = c .before .before .before .before .args in let six : length (a .t3) ≡ 6 = search needs in let h : a .n ≤ length (a .t3) = omega arith in
+    sym (rw (c .before .before .enum-told2 .given .1, count-from (a .t3) (a .n) 5 h (omega arith), count-to (a .t3) (a .n) 6 h (omega arith), getD-take (a .n) (a .t3) 4 0 (omega arith), lt-leb _ _ (c .if2 .taken)))
 
-array-read-t11 : tie.Need-array-read-t11
-array-read-t11 c = search needs
+value-at-requires : tie.Need-value-at-requires
+value-at-requires c κs = search needs
 
-array-read-t16 : tie.Need-array-read-t16
-array-read-t16 c = search needs
+array-read-t13 : tie.Need-array-read-t13
+array-read-t13 c = search needs
 
 array-read-t19 : tie.Need-array-read-t19
 array-read-t19 c = search needs
@@ -42,96 +42,116 @@ array-read-t19 c = search needs
 array-read-t22 : tie.Need-array-read-t22
 array-read-t22 c = search needs
 
+array-read-t25 : tie.Need-array-read-t25
+array-read-t25 c = search needs
+
 enum-told-3 : tie.Need-enum-told-3
 enum-told-3 c = search needs
 
 returns-3 : tie.Need-returns-3
 unfolding formed _and_ if_then_else_
-returns-3 c = let a = c .before .before .before .args in let five : length (a .t3) ≡ 5 = search needs in let h : a .n ≤ length (a .t3) = omega arith in
-    sym (rw (c .before .enum-told3 .given .1, count-not (a .t3) (a .n) 1 h (c .if3 .taken)))
+returns-3 c = let a = c .before .before .before .args in let six : length (a .t3) ≡ 6 = search needs in let h : a .n ≤ length (a .t3) = omega arith in
+    sym (rw (c .before .enum-told3 .given .1, count-under (a .t3) (a .n) 1 h (omega arith)))
 
-array-read-t26 : tie.Need-array-read-t26
-array-read-t26 c = search needs
+returns-4 : tie.Need-returns-4
+unfolding formed _and_ if_then_else_
+returns-4 c = let a = c .before .before .before .before .args in let six : length (a .t3) ≡ 6 = search needs in let h : a .n ≤ length (a .t3) = omega arith in
+    sym (rw (c .before .before .enum-told3 .given .1, count-from (a .t3) (a .n) 1 h (omega arith), count-over (a .t3) (a .n) 4 h (omega arith)))
+
+value-at-requires-2 : tie.Need-value-at-requires-2
+value-at-requires-2 c κs = search needs
+
+value-at-requires-3 : tie.Need-value-at-requires-3
+value-at-requires-3 c κs = search needs
+
+value-at-requires-4 : tie.Need-value-at-requires-4
+value-at-requires-4 c κs = search needs
+
+value-at-requires-5 : tie.Need-value-at-requires-5
+value-at-requires-5 c κs = search needs
+
+cast-t27 : tie.Need-cast-t27
+cast-t27 c = search needs
 
 enum-told-4 : tie.Need-enum-told-4
 enum-told-4 c = search needs
 
-returns-4 : tie.Need-returns-4
+returns-5 : tie.Need-returns-5
 unfolding formed _and_ if_then_else_
-returns-4 c = let a = c .before .before .before .args in let five : length (a .t3) ≡ 5 = search needs in let h : a .n ≤ length (a .t3) = omega arith in
-    sym (rw (c .before .enum-told4 .given .1, count-not (a .t3) (a .n) 0 h (c .if4 .taken)))
+returns-5 c = let a = c .before .before .before .args in let six : length (a .t3) ≡ 6 = search needs in let h : a .n ≤ length (a .t3) = omega arith in
+    sym (rw (c .before .enum-told4 .given .1, count-not (a .t3) (a .n) 0 h (c .if5 .taken)))
 
 enum-told-5 : tie.Need-enum-told-5
 enum-told-5 c = search needs
 
-returns-5 : tie.Need-returns-5
+returns-6 : tie.Need-returns-6
 unfolding formed _and_ if_then_else_
-returns-5 c = let a = c .before .before .before .args in let five : length (a .t3) ≡ 5 = search needs in let h : a .n ≤ length (a .t3) = omega arith in
-    sym (rw (c .before .enum-told5 .given .1, count-not (a .t3) (a .n) 1 h (c .if5 .taken)))
+returns-6 c = let a = c .before .before .before .args in let six : length (a .t3) ≡ 6 = search needs in let h : a .n ≤ length (a .t3) = omega arith in
+    sym (rw (c .before .enum-told5 .given .1, count-not (a .t3) (a .n) 1 h (c .if6 .taken)))
 
-array-read-t31 : tie.Need-array-read-t31
-array-read-t31 c = search needs
+array-read-t39 : tie.Need-array-read-t39
+array-read-t39 c = search needs
 
 enum-told-6 : tie.Need-enum-told-6
 enum-told-6 c = search needs
 
-returns-6 : tie.Need-returns-6
+returns-7 : tie.Need-returns-7
 unfolding formed _and_ if_then_else_
-returns-6 c = let a = c .before .before .before .args in let five : length (a .t3) ≡ 5 = search needs in let h : a .n ≤ length (a .t3) = omega arith in
-    sym (rw (c .before .enum-told6 .given .1, count-not (a .t3) (a .n) 2 h (c .if6 .taken)))
+returns-7 c = let a = c .before .before .before .args in let six : length (a .t3) ≡ 6 = search needs in let h : a .n ≤ length (a .t3) = omega arith in
+    sym (rw (c .before .enum-told6 .given .1, count-not (a .t3) (a .n) 2 h (c .if7 .taken)))
 
 array-read-times : tie.Need-array-read-times
 array-read-times c = search needs
 
-returns-7 : tie.Need-returns-7
+returns-8 : tie.Need-returns-8
 unfolding formed _and_ if_then_else_
-returns-7 c = let a = c .before .before .before .before .args in let five : length (a .t3) ≡ 5 = search needs in let h : a .n ≤ length (a .t3) = omega arith in
-    sym (rw (c .before .before .enum-told6 .given .1, count-is (a .t3) (a .n) 2 h (c .before .if6 .left), getD-take (a .n) (a .t3) 1 0 (omega arith), lt-leb _ _ (c .if7 .taken)))
+returns-8 c = let a = c .before .before .before .before .args in let six : length (a .t3) ≡ 6 = search needs in let h : a .n ≤ length (a .t3) = omega arith in
+    sym (rw (c .before .before .enum-told6 .given .1, count-is (a .t3) (a .n) 2 h (c .before .if7 .left), getD-take (a .n) (a .t3) 1 0 (omega arith), lt-leb _ _ (c .if8 .taken)))
 
-array-read-t35 : tie.Need-array-read-t35
-array-read-t35 c = search needs
+array-read-t43 : tie.Need-array-read-t43
+array-read-t43 c = search needs
 
 enum-told-7 : tie.Need-enum-told-7
 enum-told-7 c = search needs
 
-returns-8 : tie.Need-returns-8
-unfolding formed _and_ if_then_else_
-returns-8 c = let a = c .before .before .before .args in let five : length (a .t3) ≡ 5 = search needs in let h : a .n ≤ length (a .t3) = omega arith in
-    sym (rw (c .before .enum-told7 .given .1, count-not (a .t3) (a .n) 0 h (c .if8 .taken)))
-
 returns-9 : tie.Need-returns-9
-unfolding formed
-returns-9 c = sym (rw (c .enum-told .given .1))
+unfolding formed _and_ if_then_else_
+returns-9 c = let a = c .before .before .before .args in let six : length (a .t3) ≡ 6 = search needs in let h : a .n ≤ length (a .t3) = omega arith in
+    sym (rw (c .before .enum-told7 .given .1, count-not (a .t3) (a .n) 0 h (c .if9 .taken)))
 
 returns-10 : tie.Need-returns-10
-unfolding formed _and_ if_then_else_
-returns-10 c = let a = c .before .before .before .before .args in let five : length (a .t3) ≡ 5 = search needs in let h : a .n ≤ length (a .t3) = omega arith in
-    sym (rw (c .before .before .enum-told2 .given .1, count-is (a .t3) (a .n) 5 h (c .before .if1 .left), getD-take (a .n) (a .t3) 0 0 (omega arith), getD-take (a .n) (a .t3) 1 0 (omega arith), getD-take (a .n) (a .t3) 2 0 (omega arith), getD-take (a .n) (a .t3) 3 0 (omega arith), getD-take (a .n) (a .t3) 4 0 (omega arith), le-leb _ _ (c .if2 .left)))
+unfolding formed
+returns-10 c = sym (rw (c .enum-told .given .1))
 
 returns-11 : tie.Need-returns-11
 unfolding formed _and_ if_then_else_
-returns-11 c = let a = c .before .before .before .args in let five : length (a .t3) ≡ 5 = search needs in let h : a .n ≤ length (a .t3) = omega arith in
-    sym (rw (c .before .enum-told3 .given .1, count-is (a .t3) (a .n) 1 h (c .if3 .left), getD-take (a .n) (a .t3) 0 0 (omega arith)))
+returns-11 c = let a = c .before .before .before .before .before .args in let six : length (a .t3) ≡ 6 = search needs in let h : a .n ≤ length (a .t3) = omega arith in
+    sym (rw (c .before .before .before .enum-told2 .given .1, count-from (a .t3) (a .n) 5 h (omega arith), count-to (a .t3) (a .n) 6 h (omega arith), getD-take (a .n) (a .t3) 0 0 (omega arith), getD-take (a .n) (a .t3) 1 0 (omega arith), getD-take (a .n) (a .t3) 2 0 (omega arith), getD-take (a .n) (a .t3) 3 0 (omega arith), getD-take (a .n) (a .t3) 4 0 (omega arith), le-leb _ _ (c .before .if2 .left), c .value-at .ensures))
 
 returns-12 : tie.Need-returns-12
 unfolding formed _and_ if_then_else_
-returns-12 c = let a = c .before .before .before .args in let five : length (a .t3) ≡ 5 = search needs in let h : a .n ≤ length (a .t3) = omega arith in
-    sym (rw (c .before .enum-told4 .given .1, count-is (a .t3) (a .n) 0 h (c .if4 .left)))
+returns-12 c = let a = c .before .before .before .before .before .before .before .before .args in let six : length (a .t3) ≡ 6 = search needs in let h : a .n ≤ length (a .t3) = omega arith in
+    sym (rw (c .before .before .before .before .before .before .enum-told3 .given .1, count-from (a .t3) (a .n) 1 h (omega arith), count-to (a .t3) (a .n) 4 h (omega arith), c .value-at5 .ensures, c .before .value-at4 .ensures, c .before .before .value-at3 .ensures, c .before .before .before .value-at2 .ensures, length-take-le (a .n) (a .t3) h))
 
 returns-13 : tie.Need-returns-13
 unfolding formed _and_ if_then_else_
-returns-13 c = let a = c .before .before .before .args in let five : length (a .t3) ≡ 5 = search needs in let h : a .n ≤ length (a .t3) = omega arith in
-    sym (rw (c .before .enum-told5 .given .1, count-is (a .t3) (a .n) 1 h (c .if5 .left), getD-take (a .n) (a .t3) 0 0 (omega arith)))
+returns-13 c = let a = c .before .before .before .args in let six : length (a .t3) ≡ 6 = search needs in let h : a .n ≤ length (a .t3) = omega arith in
+    sym (rw (c .before .enum-told4 .given .1, count-is (a .t3) (a .n) 0 h (c .if5 .left)))
 
 returns-14 : tie.Need-returns-14
 unfolding formed _and_ if_then_else_
-returns-14 c = let a = c .before .before .before .before .args in let five : length (a .t3) ≡ 5 = search needs in let h : a .n ≤ length (a .t3) = omega arith in
-    sym (rw (c .before .before .enum-told6 .given .1, count-is (a .t3) (a .n) 2 h (c .before .if6 .left), getD-take (a .n) (a .t3) 0 0 (omega arith), getD-take (a .n) (a .t3) 1 0 (omega arith), le-leb _ _ (c .if7 .left)))
+returns-14 c = let a = c .before .before .before .args in let six : length (a .t3) ≡ 6 = search needs in let h : a .n ≤ length (a .t3) = omega arith in
+    sym (rw (c .before .enum-told5 .given .1, count-is (a .t3) (a .n) 1 h (c .if6 .left), getD-take (a .n) (a .t3) 0 0 (omega arith)))
 
 returns-15 : tie.Need-returns-15
 unfolding formed _and_ if_then_else_
-returns-15 c = let a = c .before .before .before .args in let five : length (a .t3) ≡ 5 = search needs in let h : a .n ≤ length (a .t3) = omega arith in
-    sym (rw (c .before .enum-told7 .given .1, count-is (a .t3) (a .n) 0 h (c .if8 .left)))
+returns-15 c = let a = c .before .before .before .before .args in let six : length (a .t3) ≡ 6 = search needs in let h : a .n ≤ length (a .t3) = omega arith in
+    sym (rw (c .before .before .enum-told6 .given .1, count-is (a .t3) (a .n) 2 h (c .before .if7 .left), getD-take (a .n) (a .t3) 0 0 (omega arith), getD-take (a .n) (a .t3) 1 0 (omega arith), le-leb _ _ (c .if8 .left)))
+
+returns-16 : tie.Need-returns-16
+unfolding formed _and_ if_then_else_
+returns-16 c = let a = c .before .before .before .args in let six : length (a .t3) ≡ 6 = search needs in let h : a .n ≤ length (a .t3) = omega arith in
+    sym (rw (c .before .enum-told7 .given .1, count-is (a .t3) (a .n) 0 h (c .if9 .left)))
 
 pub form-spec : {M : Type 1} → statement M
 form-spec =
@@ -140,31 +160,37 @@ form-spec =
     enum-told
     enum-told-2
     returns
-    array-read-words
+    array-read-store
     returns-2
-    array-read-t11
-    array-read-t16
+    value-at-requires
+    array-read-t13
     array-read-t19
     array-read-t22
+    array-read-t25
     enum-told-3
     returns-3
-    array-read-t26
-    enum-told-4
     returns-4
-    enum-told-5
+    value-at-requires-2
+    value-at-requires-3
+    value-at-requires-4
+    value-at-requires-5
+    cast-t27
+    enum-told-4
     returns-5
-    array-read-t31
-    enum-told-6
+    enum-told-5
     returns-6
-    array-read-times
+    array-read-t39
+    enum-told-6
     returns-7
-    array-read-t35
-    enum-told-7
+    array-read-times
     returns-8
+    array-read-t43
+    enum-told-7
     returns-9
     returns-10
     returns-11
     returns-12
     returns-13
     returns-14
-    returns-15)
+    returns-15
+    returns-16)

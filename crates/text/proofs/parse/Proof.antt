@@ -16,7 +16,7 @@ use Rattle.text.proofs.parse.Statement.{statement}
 use Rattle.text.proofs.parse.Tie as tie
 
 abbrev Inv-loop : tie.InvT-loop
-Inv-loop line at₀ key v₀ n₀ at v n = (at ≤ length line) × (n ≤ 5) × (length v ≡ 5) × (Read line at (take n v))
+Inv-loop line at₀ key v₀ n₀ at v n = (at ≤ length line) × (n ≤ 6) × (length v ≡ 6) × (Read line at (take n v))
 
 abbrev μ-loop : tie.MeasureT-loop
 μ-loop line at₀ key v₀ n₀ at v n = length line - at

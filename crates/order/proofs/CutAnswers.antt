@@ -1,0 +1,100 @@
+-- The tasks of a list's answers have no words past the payload's: what a line answers is a task that its worker holds whole.
+use mathlib.Core.Path.{_≡_, refl, _∙_, subst}
+use mathlib.Core.Bool.{Bool, true, false}
+use mathlib.Core.Logic.{_⊎_, inl, inr}
+use mathlib.Core.List.{List, [], _∷_}
+use Prim.Native.Nat.{ℕ, zero, suc, _+_, _≤_}
+use Rattle.model.specs.declared.Kind.{Kind}
+use Rattle.model.specs.declared.Line.{Line}
+use Rattle.model.specs.declared.Line.the-variants.{Idle, PutRead, PutTail, PutTest, PutWord, PutFinish, Claim, Note, Copy, Publish, TakeRead, TakeTail, TakeTest, TakeWord, TakeFinish, StealRead, StealTail, StealTest, StealNote, StealWord, StealNext, StealCompare}
+use Rattle.model.specs.declared.Queue.{Queue}
+use Rattle.model.specs.declared.Operation.{Operation}
+use Rattle.model.specs.declared.Operation.the-variants.{Put, Take, Steal}
+use Rattle.model.specs.Tests.{if_then_else_}
+use Rattle.model.specs.Tasks.{noTask, wordIn, gathered, firstWords}
+use Rattle.model.specs.Figures.{isEmpty, isSame}
+use Rattle.model.specs.Lines.{Effect, size, fits, lineStep}
+use Rattle.model.specs.World.{World, Outcome, lineAt}
+use Rattle.model.specs.Calls.{beginAnswer, nextEffect, Call, callOf}
+use Rattle.model.specs.Run.{played}
+use Rattle.theorems.specs.Demand3.{FromFresh}
+use Rattle.theorems.proofs.Shape.{OwnShape, ThiefShape}
+use Rattle.theorems.proofs.Valid.{Whole}
+use Rattle.theorems.proofs.Cases.{call-cases}
+use Rattle.theorems.proofs.WholeRun.{call-whole}
+use Rattle.theorems.proofs.SoundRun.{call-like}
+use Rattle.theorems.proofs.Fresh.{fresh-started}
+use Rattle.order.proofs.Entries.{Cut, AllCut}
+
+-- no task
+none-cut : (n : ℕ) → noTask ≡ firstWords n noTask
+unfolding gathered wordIn
+none-cut zero = refl
+none-cut (suc zero) = refl
+none-cut (suc (suc zero)) = refl
+none-cut (suc (suc (suc zero))) = refl
+none-cut (suc (suc (suc (suc zero)))) = refl
+none-cut (suc (suc (suc (suc (suc n))))) = refl
+
+either : (ω : ℕ) (x : Bool) (E E′ : Effect) → Cut ω (E .answer) → Cut ω (E′ .answer) → Cut ω ((if x then E else E′) .answer)
+unfolding if_then_else_
+either ω true E E′ p q = p
+either ω false E E′ p q = q
+
+-- the owner's line, or a thief's
+abbrev Held : Kind → ℕ → ℕ → Queue → ℕ → ℕ → Line → Type 0
+Held κ w ω q low τ l = OwnShape κ w ω (size ω q) low τ l ⊎ ThiefShape κ w ω q τ l
+
+line-cut : (κ : Kind) (w ω : ℕ) (q : Queue) (m : List ℕ) (i low τ : ℕ) (l : Line) → Held κ w ω q low τ l → Cut ω (lineStep κ w ω q m i l .answer)
+unfolding lineStep
+line-cut κ w ω q m i low τ Idle s = none-cut (ω + 1)
+line-cut κ w ω q m i low τ (PutRead t) s = none-cut (ω + 1)
+line-cut κ w ω q m i low τ (PutTail t h) s = none-cut (ω + 1)
+line-cut κ w ω q m i low τ (PutTest t r) s = none-cut (ω + 1)
+line-cut κ w ω q m i low τ (PutWord t r j) s = none-cut (ω + 1)
+line-cut κ w ω q m i low τ (PutFinish t r) (inl s) = s .0 .1
+line-cut κ w ω q m i low τ (PutFinish t r) (inr s) = absurd s
+line-cut κ w ω q m i low τ (Claim t) (inl s) = either ω (fits ω q m) _ _ (none-cut (ω + 1)) (s .1)
+line-cut κ w ω q m i low τ (Claim t) (inr s) = absurd s
+line-cut κ w ω q m i low τ (Note t) s = none-cut (ω + 1)
+line-cut κ w ω q m i low τ (Copy t h n k) s = none-cut (ω + 1)
+line-cut κ w ω q m i low τ (Publish t) s = none-cut (ω + 1)
+line-cut κ w ω q m i low τ TakeRead s = none-cut (ω + 1)
+line-cut κ w ω q m i low τ (TakeTail h) s = none-cut (ω + 1)
+line-cut κ w ω q m i low τ (TakeTest r) s = either ω (isEmpty κ r) _ _ (none-cut (ω + 1)) (none-cut (ω + 1))
+line-cut κ w ω q m i low τ (TakeWord r t j) s = none-cut (ω + 1)
+line-cut κ w ω q m i low τ (TakeFinish r t) (inl s) = s .2 .1
+line-cut κ w ω q m i low τ (TakeFinish r t) (inr s) = absurd s
+line-cut κ w ω q m i low τ StealRead s = none-cut (ω + 1)
+line-cut κ w ω q m i low τ (StealTail h) s = none-cut (ω + 1)
+line-cut κ w ω q m i low τ (StealTest r) s = either ω (isEmpty κ r) _ _ (none-cut (ω + 1)) (none-cut (ω + 1))
+line-cut κ w ω q m i low τ (StealNote r) s = none-cut (ω + 1)
+line-cut κ w ω q m i low τ (StealWord r k t j) s = none-cut (ω + 1)
+line-cut κ w ω q m i low τ (StealNext r t) s = none-cut (ω + 1)
+line-cut κ w ω q m i low τ (StealCompare r e t) (inl s) = absurd s
+line-cut κ w ω q m i low τ (StealCompare r e t) (inr s) = either ω (isSame κ (q .anchor) r) _ _ (s .3 .1) (none-cut (ω + 1))
+
+begin-cut : (ω : ℕ) (op : Operation) (u : ℕ) → Cut ω (beginAnswer op u)
+begin-cut ω (Put p) u = none-cut (ω + 1)
+begin-cut ω Take u = none-cut (ω + 1)
+begin-cut ω Steal u = none-cut (ω + 1)
+
+call-cut : (W : World) → Whole W → (c : Call) → Cut (W .bench .words) (callOf W c .answer)
+call-cut W H c =
+    call-cases (λ (D : Outcome). Cut (W .bench .words) (D .answer)) W (λ r l. none-cut _) (λ i op B. begin-cut _ op (W .bench .used)) (λ i M. step-cut i) c
+  where
+    step-cut : (i : ℕ) → Cut (W .bench .words) (nextEffect W i .answer)
+    step-cut zero = line-cut _ _ _ _ _ 0 _ _ (lineAt (W .bench .workers) 0) (inl (H .shape .own))
+    step-cut (suc k) = line-cut _ _ _ _ _ (suc k) 0 _ (lineAt (W .bench .workers) (suc k)) (inr (H .shape .th k))
+
+run-cut : (ω : ℕ) (cs : List Call) (W : World) → W .bench .words ≡ ω → Whole W → AllCut ω (played W cs)
+unfolding played
+run-cut ω [] W e H = tt
+run-cut ω (c ∷ cs) W e H =
+    (subst (λ (v : ℕ). Cut v (callOf W c .answer)) e (call-cut W H c), run-cut ω cs (callOf W c .world) (call-like W c .2 ∙ e) (call-whole H c))
+
+pub answers-cut : FromFresh (λ W. (cs : List Call) → AllCut (W .bench .words) (played W cs))
+answers-cut s m l e cs = run-cut _ cs _ refl (fresh-started s m l e .whole)
+
+pub words-le : FromFresh (λ W. W .bench .words ≤ 4)
+words-le s m l e = fresh-started s m l e .whole .words .1
