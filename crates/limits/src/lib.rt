@@ -194,7 +194,7 @@ fn busy_ok(scope: Scope, worker: u32, own: Worker) -> bool
 }
 
 // The eight workers, each by a number that is a constant: an index that varies would have all eight copied. Most are idle and
-// pass at once.
+// pass at once, and only the record of one that is not is copied.
 fn workers_ok(bench: Bench, first: u32, tasks: u32) -> bool
     requires { ⌜ (bench .width ≤ 16) × (bench .words ≤ 4) ⌝ }
     requires { ⌜ bench .queue .published ≤ 11 ⌝ }
@@ -212,36 +212,28 @@ fn workers_ok(bench: Bench, first: u32, tasks: u32) -> bool
         first: first,
         tasks: tasks,
     };
-    let mut own = bench.workers[0];
-    if !rests(own) && !busy_ok(scope, 0, own) {
+    if !rests(bench.workers[0]) && !busy_ok(scope, 0, bench.workers[0]) {
         return false;
     }
-    own = bench.workers[1];
-    if !rests(own) && !busy_ok(scope, 1, own) {
+    if !rests(bench.workers[1]) && !busy_ok(scope, 1, bench.workers[1]) {
         return false;
     }
-    own = bench.workers[2];
-    if !rests(own) && !busy_ok(scope, 2, own) {
+    if !rests(bench.workers[2]) && !busy_ok(scope, 2, bench.workers[2]) {
         return false;
     }
-    own = bench.workers[3];
-    if !rests(own) && !busy_ok(scope, 3, own) {
+    if !rests(bench.workers[3]) && !busy_ok(scope, 3, bench.workers[3]) {
         return false;
     }
-    own = bench.workers[4];
-    if !rests(own) && !busy_ok(scope, 4, own) {
+    if !rests(bench.workers[4]) && !busy_ok(scope, 4, bench.workers[4]) {
         return false;
     }
-    own = bench.workers[5];
-    if !rests(own) && !busy_ok(scope, 5, own) {
+    if !rests(bench.workers[5]) && !busy_ok(scope, 5, bench.workers[5]) {
         return false;
     }
-    own = bench.workers[6];
-    if !rests(own) && !busy_ok(scope, 6, own) {
+    if !rests(bench.workers[6]) && !busy_ok(scope, 6, bench.workers[6]) {
         return false;
     }
-    own = bench.workers[7];
-    if !rests(own) && !busy_ok(scope, 7, own) {
+    if !rests(bench.workers[7]) && !busy_ok(scope, 7, bench.workers[7]) {
         return false;
     }
     true

@@ -26,7 +26,7 @@ use Rattle.model.specs.Calls.{stepOf, stepped, commit, noRoom, nextEffect}
 use Rattle.model.specs.Listing.{Print, printed, printedBy, isRefused, response, showing, stepsOf}
 use Rattle.replies.specs.Shown.{shownAll}
 use Rattle.replies.proofs.Ways.{either, never}
-use Rattle.replies.proofs.Shows.{answer-lines, answer-most, show-none, show-append}
+use Rattle.replies.proofs.Shows.{answer-most, show-none, show-append}
 
 -- a line that ends its operation leaves the worker idle
 abbrev Rests : Effect → Type 0
@@ -123,7 +123,7 @@ pub steps-made : (W : World) (i m : ℕ) → isRefused (stepOf W i .answer) ≡ 
 unfolding stepsOf if_then_else_
 steps-made W i m e = rw e
 
--- Whatever is counted of what is printed, by lines or by bytes: a `step` line prints at most twice what an answer can.
+-- Whatever is counted of what is printed: a `step` line prints at most twice what an answer can.
 module _ (size : List Print → ℕ) (most : ℕ) (none : size [] ≡ 0) (both : (p q : List Print) → size (p ++ q) ≡ size p + size q) (one : (v : ℕ) (a : Answer) → size (printed v a) ≤ most) where
   idle-once : (m : ℕ) (W : World) (i : ℕ) → isIdle (lineAt (W .bench .workers) i) ≡ true → size (stepsOf W i m .output) ≤ most
   unfolding stepsOf
@@ -141,10 +141,6 @@ module _ (size : List Print → ℕ) (most : ℕ) (none : size [] ≡ 0) (both :
           rw (steps-made W i m e, both)
           (⊎-elim (λ q. let r : size (printedBy (stepOf W i)) ≡ 0 = ap size q ∙ none in omega arith)
           (λ q. omega (arith, one (stepOf W i .world .bench .words) (stepOf W i .answer), idle-once m (stepOf W i .world) i q)) (went W i e))
-
--- at most two lines
-pub steps-lines : (m : ℕ) (W : World) (i : ℕ) → length (stepsOf W i m .output) ≤ 2
-steps-lines = steps-twice length 1 refl length-append answer-lines
 
 -- at most 136 bytes
 pub steps-most : (m : ℕ) (W : World) (i : ℕ) → length (shownAll (stepsOf W i m .output)) ≤ 136

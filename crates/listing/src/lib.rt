@@ -40,8 +40,8 @@ fn line_end(buf: &[u8], at: usize) -> usize
 
 // Plays the lines of the buffer that end in a newline, as long as the output has room for another line's text. `step I M` is
 // M steps, stopping at the first refusal. The bench stays in place where it can: a step that changes its worker's record alone
-// replaces that record, a compare that fails counts a restart beside it, and what is refused leaves it alone. A bench that a `queue` of this program made is never
-// foreign, so the limits are not tested at each step.
+// replaces that record, a compare that fails counts a restart beside it, and what is refused leaves it alone. A bench that a
+// `queue` of this program made is never foreign, so the limits are not tested at each step.
 pub fn consume(
     session: Session,
     buf: &[u8],

@@ -71,9 +71,6 @@ tidy-front v l (suc (suc n)) k t h =
     go (inl e) f = subst (λ (x : ℕ). tidy v l (suc x) ≡ true) (sym e) t
     go (inr i) f = f i
 
-pub tidy-next : (v : ℕ) (l : List Region) (n k : ℕ) → tidy v l n ≡ true → suc k < n → Next v l k
-tidy-next v l n k t h = tidy-last v l k (tidy-front v l n (suc k) t h)
-
 pub tidy-start : (v : ℕ) (l : List Region) → tidy v l 1 ≡ true → (offsetAt l 0 ≡ 0) × Size (sizeAt v l 0)
 tidy-start v l t = (eqb-true _ _ (and-left _ _ t), size-yes 10 (sizeAt v l 0) (omega arith) (and-right _ _ (and-right _ _ t)))
 

@@ -31,16 +31,6 @@ most : (x k : ℕ) (p : Print) (ns : List ℕ) → shown p ≡ lineOf x ns → 2
 most x k p ns e h = rw (show-one p, e) (omega (arith, line-most x ns))
 
 -- an answer prints at most one line, of at most six numbers
-pub answer-lines : (v : ℕ) (a : Answer) → length (printed v a) ≤ 1
-answer-lines v Accepted = omega arith
-answer-lines v (Numbered n) = omega arith
-answer-lines v GoesOn = omega arith
-answer-lines v (Finished i t) = omega arith
-answer-lines v (HandedOut i t) = omega arith
-answer-lines v (Empty i) = omega arith
-answer-lines v (Full i t) = omega arith
-answer-lines v (Refused r) = omega arith
-
 pub answer-most : (v : ℕ) (a : Answer) → length (shownAll (printed v a)) ≤ 68
 unfolding shown
 answer-most v Accepted = rw show-none (omega arith)

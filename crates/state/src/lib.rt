@@ -1,5 +1,5 @@
-// What a call hands back, and the pieces of a bench that the calls put together: a state made anew or with one worker's record replaced, and the queue with
-// another anchor or one array more. Each is a definition's short name, as code.
+// What a call hands back, and the pieces of a bench that the calls put together: a state made anew or with one worker's record
+// replaced, and the queue with another anchor or one array more. Each is a definition's short name, as code.
 // Uses `model`. It is used by `opening`, `machine`, `queues`, `replies` and `listing`.
 ghost use mathlib.Core.Path.{_≡_};
 ghost use Prim.Native.Nat.{_≤_, _<_};
