@@ -1,9 +1,10 @@
-//! The bench: one of the three machines and a crew, and the calls fresh, begin
-//! and step with their refusals in order. Store and log are lent to it; the log
+//! The bench: one of the three machines and a crew, and the calls fresh, begin,
+//! step and drop_link with their refusals in order. Store and log are lent to it; the log
 //! is kept by whoever steps.
 
 use crate::double_ended::DoubleEnded;
 use crate::fifo::Fifo;
+use crate::guard::Guard;
 use crate::lifo::Lifo;
 use crate::outcome::{refusal, Outcome, Place};
 use crate::store::{Store, LARGEST};
@@ -60,7 +61,7 @@ impl Bench {
     /// stay where they are if it is refused.
     pub fn fresh(shape: Shape, words: &mut Vec<u32>) -> Result<Bench, u32> {
         let Shape { kind, width, size, crew, payload_words } = shape;
-        if !(1..=3).contains(&kind) {
+        if !(1..=5).contains(&kind) {
             return Err(refusal::UNKNOWN_QUEUE);
         }
         if !(1..=16).contains(&width) {
@@ -80,9 +81,11 @@ impl Bench {
         }
         let store = Store::fresh(std::mem::take(words), size, payload_words);
         let queue = match kind {
-            1 => Queue::Lifo(Lifo::new(width, store)),
+            1 => Queue::Lifo(Lifo::new(Guard::tag(width), store)),
             2 => Queue::Fifo(Fifo::new(store)),
-            _ => Queue::DoubleEnded(DoubleEnded::new(width, store)),
+            3 => Queue::DoubleEnded(DoubleEnded::new(Guard::tag(width), store)),
+            4 => Queue::Lifo(Lifo::new(Guard::links(), store)),
+            _ => Queue::DoubleEnded(DoubleEnded::new(Guard::links(), store)),
         };
         Ok(Bench { queue, crew, numbers_used: 0, restarts: 0 })
     }
@@ -131,6 +134,18 @@ impl Bench {
         outcome
     }
 
+    /// The event: the link of `worker` fails for no reason.
+    pub fn drop_link(&mut self, worker: u32) -> Result<(), u32> {
+        if worker >= self.crew {
+            return Err(refusal::NO_SUCH_WORKER);
+        }
+        if with_queue!(&mut self.queue, machine => machine.drop_link(worker as usize)) {
+            Ok(())
+        } else {
+            Err(refusal::NO_LINK)
+        }
+    }
+
     pub fn numbers_used(&self) -> u32 {
         self.numbers_used
     }
@@ -172,6 +187,7 @@ impl Bench {
 #[cfg(test)]
 mod tests {
     use super::*;
+    use crate::random::Random;
     use crate::witness::Blind;
 
     const LIFO: Shape = Shape { kind: 1, width: 4, size: 1, crew: 2, payload_words: 1 };
@@ -188,7 +204,7 @@ mod tests {
     #[test]
     fn the_ranges_of_fresh_from_both_sides() {
         let accepted = |shape, words| Bench::fresh(shape, &mut vec![7; words]).is_ok();
-        for kind in 1..=3 {
+        for kind in 1..=5 {
             let shape = Shape { kind, ..LIFO };
             assert!(accepted(shape, 2));
             assert!(accepted(Shape { width: 1, ..shape }, 2));
@@ -218,8 +234,9 @@ mod tests {
                 assert_eq!(refused(Shape { size: 1024, ..shape }, 1024 * each - 1), 5);
             }
         }
-        assert_eq!(refused(Shape { kind: 0, ..LIFO }, 2), 1);
-        assert_eq!(refused(Shape { kind: 4, ..LIFO }, 2), 1);
+        for kind in [0, 6, 7, 256 + 4, u32::MAX] {
+            assert_eq!(refused(Shape { kind, ..LIFO }, 2), 1);
+        }
     }
 
     #[test]
@@ -274,7 +291,7 @@ mod tests {
         // An array of 1,024 tasks takes 2,048 words and one of 2,048 tasks
         // would take 4,096: in the longer store only the size forbids it.
         for words in [2048, 10_300] {
-            for kind in 1..=3 {
+            for kind in 1..=5 {
                 let shape = Shape { kind, size: 1024, ..LIFO };
                 let mut bench = Bench::fresh(shape, &mut vec![0; words]).unwrap();
                 for number in 1..=1025 {
@@ -301,6 +318,101 @@ mod tests {
         assert_eq!(bench.step(2, false, &mut Blind), Outcome::Refused(6));
         assert_eq!(bench.step(u32::MAX, true, &mut Blind), Outcome::Refused(6));
         assert_eq!(bench.step(1, false, &mut Blind), Outcome::Refused(8));
+    }
+
+    #[test]
+    fn a_drop_refuses_in_the_order_6_17() {
+        for kind in 1..=5 {
+            let shape = Shape { kind, ..LIFO };
+            let mut bench = Bench::fresh(shape, &mut vec![0; 2]).unwrap();
+            for _ in 0..2 {
+                for worker in [2, 7, 8, 256, u32::MAX] {
+                    assert_eq!(bench.drop_link(worker), Err(6));
+                }
+                for worker in 0..2 {
+                    assert_eq!(bench.drop_link(worker), Err(17));
+                }
+                // Once more with both at their line 1.
+                bench.begin(0, PUT).ok();
+                bench.begin(1, Operation::Steal).ok();
+            }
+            for line in 1..=6 {
+                bench.step(0, true, &mut Blind);
+                assert_eq!(bench.drop_link(0), Err(17), "the owner before line {line} of kind {kind}");
+            }
+            bench.step(1, true, &mut Blind);
+            let linked = kind >= 4;
+            assert_eq!(bench.drop_link(2), Err(6));
+            assert_eq!(bench.drop_link(1), if linked { Ok(()) } else { Err(17) });
+            assert_eq!(bench.drop_link(1), Err(17));
+        }
+    }
+
+    /// Hears of line 1 alone.
+    struct LineOne(Option<usize>);
+
+    impl Witness for LineOne {
+        fn line_one(&mut self, worker: usize) {
+            self.0 = Some(worker);
+        }
+    }
+
+    /// Who holds a link is worked out here from what the steps answer: from a
+    /// thief's line 1 until its attempt ends, a put finishes or a task is handed
+    /// out (each writes the anchor) or the link is dropped.
+    #[test]
+    fn a_compare_succeeds_exactly_if_the_link_is_held() {
+        let mut random = Random::new(6);
+        for round in 0..60 {
+            let shape = Shape {
+                kind: random.between(4, 5),
+                width: random.between(1, 16),
+                size: 1 << random.below(3),
+                crew: random.between(2, 8),
+                payload_words: random.between(1, 4),
+            };
+            let mut bench = Bench::fresh(shape, &mut vec![0; 100]).unwrap();
+            let mut held = [false; 8];
+            let (mut won, mut failed) = (0, 0);
+            for _ in 0..3000 {
+                let worker = random.below(shape.crew);
+                let at = worker as usize;
+                if random.chance(3) {
+                    assert_eq!(bench.drop_link(worker).is_ok(), held[at]);
+                    held[at] = false;
+                }
+                if bench.place(worker) == Some(Place::Idle) {
+                    let operation = match worker {
+                        0 if random.chance(60) => PUT,
+                        0 => Operation::Take,
+                        _ => Operation::Steal,
+                    };
+                    bench.begin(worker, operation).unwrap();
+                    continue;
+                }
+                let compares = worker > 0 && bench.place(worker) == Some(Place::Last);
+                let room = random.chance(90);
+                let mut heard = LineOne(None);
+                let outcome = bench.step(worker, room, &mut heard);
+                assert_eq!(bench.anchor()[2], 0, "no tag");
+                if compares && outcome == Outcome::Refused(11) {
+                    assert!(held[at]);
+                    continue;
+                }
+                assert_eq!(outcome == Outcome::Restarted, compares && !held[at]);
+                won += u32::from(compares && held[at]);
+                failed += u32::from(compares && !held[at]);
+                match outcome {
+                    Outcome::Finished(_) | Outcome::HandedOut(_) => held = [false; 8],
+                    Outcome::Empty => held[at] = false,
+                    _ => {}
+                }
+                if let Some(thief @ 1..) = heard.0 {
+                    held[thief] = true;
+                }
+            }
+            assert!(won > 0 && failed > 0, "round {round}");
+        }
     }
 
     #[test]

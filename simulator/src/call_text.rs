@@ -20,6 +20,8 @@ pub enum Call {
     Fresh(Shape),
     Begin { worker: u32, operation: Operation },
     Step { worker: u32, count: u32 },
+    /// The event: the worker's link fails.
+    Drop { worker: u32 },
     Front,
     State,
 }
@@ -56,6 +58,7 @@ pub fn parse(line: &[u8]) -> Option<Line> {
             Call::Begin { worker: number(worker)?, operation: Operation::Steal }
         }
         [b"step", worker, count] => Call::Step { worker: number(worker)?, count: number(count)? },
+        [b"drop", worker] => Call::Drop { worker: number(worker)? },
         [b"front"] => Call::Front,
         [b"state"] => Call::State,
         _ => return None,
@@ -88,6 +91,7 @@ mod tests {
         assert_eq!(parse(b"begin 0 take"), begin(0, Operation::Take));
         assert_eq!(parse(b"begin 7 steal"), begin(7, Operation::Steal));
         assert_eq!(parse(b"step 0 0"), Some(Line::Call(Call::Step { worker: 0, count: 0 })));
+        assert_eq!(parse(b"drop 7"), Some(Line::Call(Call::Drop { worker: 7 })));
         assert_eq!(parse(b"front"), Some(Line::Call(Call::Front)));
         assert_eq!(parse(b"state"), Some(Line::Call(Call::State)));
     }
@@ -101,6 +105,7 @@ mod tests {
             "begin 4294967295 take",
             "begin 4294967295 steal",
             "step 4294967295 4294967295",
+            "drop 4294967295",
         ] {
             assert!(parse(line.as_bytes()).is_some(), "{line}");
             for at in line.match_indices("4294967295").map(|(at, _)| at) {
@@ -125,7 +130,8 @@ mod tests {
             "begin 0 put ", "begin 0 put 1 ", "begin 0 put 1 2 3 4 5", "begin 0 put 1 x", "begin put 1",
             "begin 0 take 1", "begin 1 steal 1", "begin 0 commit", "step 0", "step 0 1 1",
             "step 0 -1", "step +0 1", "step 0 x", "step  0 1", " step 0 1", "step 0 1 ",
-            "step\t0 1", "step 0 1\r", "STEP 0 1", "front 0", "fronts", "state 0", "states",
+            "step\t0 1", "step 0 1\r", "STEP 0 1", "drop", "drop ", "drop x", "drop 01", "drop 1 1", "drops 1", "Drop 1",
+            "begin 1 drop", "front 0", "fronts", "state 0", "states",
             "put 1", "take", "steal 1", "queue 1 1 1 1 2", "end", "unlink 1", "who 0", "drain",
             "ask 0", "unask 0", "make 1 1 1 1",
         ] {

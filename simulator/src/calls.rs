@@ -9,22 +9,26 @@ use crate::listing::{print, print_hand_out};
 use crate::log_judge::{EMPTY, FINISHED, FULL, HANDED_OUT};
 use crate::outcome::{refusal, Outcome, Place};
 use crate::task::Task;
-use crate::witness::Blind;
+use crate::witness::Witness;
 
 /// What word 0 of the store and of the log is at the start; each later word is
 /// one more than the word before it.
 const STORE_FROM: u32 = 3_000_000_000;
 const LOG_FROM: u32 = 4_000_000_000;
 
-#[derive(Default)]
-pub struct Calls {
+pub struct Calls<W> {
     /// None before the first line.
     lent: Option<Lent>,
+    witness: W,
 }
 
-impl Calls {
-    pub fn new() -> Calls {
-        Calls::default()
+impl<W: Witness> Calls<W> {
+    pub fn new(witness: W) -> Calls<W> {
+        Calls { lent: None, witness }
+    }
+
+    pub fn witness(&self) -> &W {
+        &self.witness
     }
 
     /// Plays one line, its newline taken off, and writes its answers, each as
@@ -33,7 +37,7 @@ impl Calls {
     pub fn line(&mut self, line: &[u8], out: &mut impl Write) -> io::Result<bool> {
         match (call_text::parse(line), &mut self.lent) {
             (Some(Line::Memory { store, log }), None) => self.lent = Some(Lent::new(store, log)),
-            (Some(Line::Call(call)), Some(lent)) => lent.play(call, out)?,
+            (Some(Line::Call(call)), Some(lent)) => lent.play(call, &mut self.witness, out)?,
             // The lent memory comes first and once.
             _ => return Ok(false),
         }
@@ -92,20 +96,18 @@ impl Lent {
         self.payload_words as usize + 3
     }
 
-    fn play(&mut self, call: Call, out: &mut impl Write) -> io::Result<()> {
+    fn play<W: Witness>(&mut self, call: Call, witness: &mut W, out: &mut impl Write) -> io::Result<()> {
         match call {
-            Call::Fresh(shape) => match self.fresh(shape) {
-                Ok(()) => say(out, b'A', &[]),
-                Err(number) => say(out, b'R', &[number]),
-            },
-            Call::Begin { worker, operation } => match self.begin(worker, operation) {
+            Call::Fresh(shape) => answer(self.fresh(shape, witness), out),
+            Call::Drop { worker } => answer(self.drop_link(worker, witness), out),
+            Call::Begin { worker, operation } => match self.begin(worker, operation, witness) {
                 Ok(Some(number)) => say(out, b'N', &[number]),
                 Ok(None) => say(out, b'A', &[]),
                 Err(number) => say(out, b'R', &[number]),
             },
             Call::Step { worker, count } => {
                 for _ in 0..count {
-                    self.step(worker, out)?;
+                    self.step(worker, witness, out)?;
                 }
                 Ok(())
             }
@@ -120,26 +122,50 @@ impl Lent {
     }
 
     /// A refused fresh leaves no bench, not even the one before.
-    fn fresh(&mut self, shape: Shape) -> Result<(), u32> {
+    fn fresh<W: Witness>(&mut self, shape: Shape, witness: &mut W) -> Result<(), u32> {
         if let Some(bench) = self.bench.take() {
             self.store = bench.into_words();
         }
         self.bench = Some(Bench::fresh(shape, &mut self.store)?);
         self.payload_words = shape.payload_words;
         self.written = 0;
+        witness.fresh(shape);
         Ok(())
     }
 
-    fn begin(&mut self, worker: u32, operation: Operation) -> Result<Option<u32>, u32> {
-        self.bench.as_mut().ok_or(refusal::FOREIGN_STATE)?.begin(worker, operation)
+    fn begin<W: Witness>(
+        &mut self,
+        worker: u32,
+        operation: Operation,
+        witness: &mut W,
+    ) -> Result<Option<u32>, u32> {
+        let bench = self.bench.as_mut().ok_or(refusal::FOREIGN_STATE)?;
+        witness.call();
+        let number = bench.begin(worker, operation)?;
+        if let (Some(number), Operation::Put { payload }) = (number, operation) {
+            witness.put_begun(Task::new(number, payload, self.payload_words));
+        }
+        Ok(number)
     }
 
-    fn step(&mut self, worker: u32, out: &mut impl Write) -> io::Result<()> {
+    fn drop_link<W: Witness>(&mut self, worker: u32, witness: &mut W) -> Result<(), u32> {
+        let bench = self.bench.as_mut().ok_or(refusal::FOREIGN_STATE)?;
+        witness.call();
+        bench.drop_link(worker)
+    }
+
+    fn step<W: Witness>(&mut self, worker: u32, witness: &mut W, out: &mut impl Write) -> io::Result<()> {
         let room = self.words_left() >= self.entry();
         let Some(bench) = &mut self.bench else {
             return say(out, b'R', &[refusal::FOREIGN_STATE]);
         };
-        match bench.step(worker, room, &mut Blind) {
+        witness.call();
+        let outcome = bench.step(worker, room, witness);
+        witness.answered(worker, outcome);
+        if witness.wants_window() {
+            witness.window(&mut bench.window());
+        }
+        match outcome {
             Outcome::GoesOn | Outcome::Restarted | Outcome::Published => say(out, b'G', &[]),
             Outcome::Finished(task) => {
                 self.enter(FINISHED, worker, task);
@@ -189,6 +215,13 @@ impl Lent {
     }
 }
 
+fn answer(answer: Result<(), u32>, out: &mut impl Write) -> io::Result<()> {
+    match answer {
+        Ok(()) => say(out, b'A', &[]),
+        Err(number) => say(out, b'R', &[number]),
+    }
+}
+
 fn say(out: &mut impl Write, letter: u8, values: &[u32]) -> io::Result<()> {
     let mut line = Vec::new();
     print(&mut line, letter, values);
@@ -198,10 +231,12 @@ fn say(out: &mut impl Write, letter: u8, values: &[u32]) -> io::Result<()> {
 #[cfg(test)]
 mod tests {
     use super::*;
+    use crate::demand3::{Demand3, Finding};
+    use crate::witness::Blind;
 
     /// The answers to a list, parted by commas as the list is.
     fn answers(list: &str) -> String {
-        let mut calls = Calls::new();
+        let mut calls = Calls::new(Blind);
         let mut out = Vec::new();
         for line in list.split(", ") {
             if !calls.line(line.as_bytes(), &mut out).unwrap() {
@@ -213,8 +248,9 @@ mod tests {
 
     #[test]
     fn without_a_bench_every_call_is_answered_12_and_the_front_is_empty() {
-        let calls = "begin 0 put 1, begin 0 take, begin 1 steal, begin 9 steal, step 0 2, step 7 0, state, front";
-        let answered = "R 12, R 12, R 12, R 12, R 12, R 12, R 12, L";
+        let calls = "begin 0 put 1, begin 0 take, begin 1 steal, begin 9 steal, step 0 2, step 7 0, drop 0, drop 9, \
+                     state, front";
+        let answered = "R 12, R 12, R 12, R 12, R 12, R 12, R 12, R 12, R 12, L";
         assert_eq!(answers(&format!("memory 2 4, {calls}")), answered);
         // Nor is there one after a refused fresh, whatever was before.
         assert_eq!(
@@ -352,8 +388,40 @@ mod tests {
     }
 
     #[test]
+    fn a_link_fails_and_the_next_attempt_is_handed_the_task() {
+        assert_eq!(
+            answers(
+                "memory 2 8, drop 1, fresh 4 1 1 2 1, drop 1, drop 2, drop 0, begin 0 put 7, step 0 5, begin 1 steal, \
+                 drop 1, step 1 5, drop 1, drop 1, step 1 1, drop 1, state, step 1 6, drop 1, state"
+            ),
+            "R 12, A, R 17, R 6, R 17, N 1, G, G, G, G, D 1, A, \
+             R 17, G, G, G, G, G, A, R 17, G, R 17, S 0 1 0 1 1 0 2 1 4 1 1 7, G, G, G, G, G, H 1 1 7, R 17, \
+             S 0 0 0 1 1 0 2 1 8 1 1 7"
+        );
+    }
+
+    #[test]
+    fn p1_loses_nothing_with_links_and_breaks_the_premise_with_a_tag() {
+        for (kind, last, restarts) in [(1, "H 1 1 65", false), (4, "G", true)] {
+            let mut calls = Calls::new(Demand3::new());
+            let mut out = Vec::new();
+            let list = format!(
+                "memory 12 40, fresh {kind} 1 2 2 1, begin 0 put 65, step 0 5, begin 1 steal, step 1 5, \
+                 begin 0 take, step 0 5, begin 0 put 66, step 0 5, begin 0 take, step 0 5, \
+                 begin 0 put 67, step 0 5, step 1 1"
+            );
+            for line in list.split(", ") {
+                assert!(calls.line(line.as_bytes(), &mut out).unwrap());
+            }
+            assert!(String::from_utf8(out).unwrap().ends_with(&format!("D 3\n{last}\n")));
+            assert_eq!(*calls.witness().finding() == Finding::Kept, restarts);
+            assert!(!calls.witness().finding().is_violation());
+        }
+    }
+
+    #[test]
     fn memory_comes_first_and_once() {
-        let mut calls = Calls::new();
+        let mut calls = Calls::new(Blind);
         let mut out = Vec::new();
         assert!(!calls.line(b"state", &mut out).unwrap());
         assert!(calls.line(b"memory 2 4", &mut out).unwrap());
@@ -377,7 +445,7 @@ mod tests {
 
     #[test]
     fn answers_are_written_as_they_come() {
-        let mut calls = Calls::new();
+        let mut calls = Calls::new(Blind);
         calls.line(b"memory 2 4", &mut Narrow(0)).unwrap();
         // Gathered first, these would be 21 GB.
         let refused = calls.line(b"step 0 4294967295", &mut Narrow(50)).unwrap_err();

@@ -20,13 +20,15 @@ fn valid(random: &mut Random) -> Vec<u8> {
             let sixth = *random.pick(&["", "", " 1", " 2", " 3", " 4", " 0", " 5", " 4294967295", " 1 1"]);
             format!(
                 "queue {} {} {} {} {}{sixth}",
-                random.between(1, 3),
+                *random.pick(&[1, 2, 3, 4, 5, 0, 6, u32::MAX]),
                 random.between(1, 16),
                 1 << random.below(11),
                 random.between(1, 8),
                 random.below(10_236)
             )
         }
+        // The library's alone.
+        5 if random.chance(20) => format!("drop {}", random.below(9)),
         _ => format!("step {} {}", random.below(8), random.below(7)),
     }
     .into_bytes()
@@ -94,7 +96,7 @@ pub fn line(random: &mut Random) -> Vec<u8> {
         17 => line = format!("step {} {}", random.below(8), random.between(65_536, 65_540)).into(),
         18 => {
             let words = random.between(10_236, 11_000);
-            line = format!("queue {} 4 1 2 {words}", random.between(1, 3)).into();
+            line = format!("queue {} 4 1 2 {words}", random.between(1, 5)).into();
         }
         19 => line[0] = line[0].to_ascii_uppercase(),
         20 => {

@@ -1,14 +1,18 @@
 //! Demand 3, checked from the history of the calls and not from the counts of
 //! `T`: after every step that moves the window, each finished put's task was
 //! handed out or stands whole in it; each task handed out belongs, with all its
-//! words, to a put finished before it; each EMPTY was answered only if every put finished by
-//! that attempt's line 1 had been handed out before.
+//! words, to a put finished before it; each EMPTY was answered only if every put
+//! finished by that attempt's line 1 had been handed out before.
 //!
 //! For the queues with a tag of w bits all that is promised under a premise:
 //! fewer than 2^w puts finish between a steal attempt's line 1 and its compare.
+//! FIFO and the linked queues have none, whatever links fail on the way.
 //! An attempt without a compare is asked nothing, so a break is seen at the
 //! compare. Every front of a list is a list, so what goes wrong before the
-//! break is wrong, and what goes wrong from the break on is not.
+//! break is wrong, and what goes wrong from the break on is not. A list starts at
+//! an accepted fresh, so a later fresh starts another.
+
+use std::fmt;
 
 use crate::bench::Shape;
 use crate::task::Task;
@@ -30,9 +34,27 @@ pub enum Finding {
     Violated { call: u64, what: String },
 }
 
+impl Finding {
+    pub fn is_violation(&self) -> bool {
+        matches!(self, Finding::Violated { .. })
+    }
+}
+
+impl fmt::Display for Finding {
+    fn fmt(&self, text: &mut fmt::Formatter<'_>) -> fmt::Result {
+        match self {
+            Finding::Kept => write!(text, "demand 3 kept"),
+            Finding::PremiseBroken { call, worker } => {
+                write!(text, "demand 3 kept until worker {worker} broke its premise by call {call}")
+            }
+            Finding::Violated { call, what } => write!(text, "demand 3 violated by call {call}: {what}"),
+        }
+    }
+}
+
 pub struct Demand3 {
     calls: u64,
-    /// 2^w; none for the FIFO queue, which has no premise.
+    /// 2^w; none for the queues without a tag, which have no premise.
     limit: Option<usize>,
     /// By put number, from 1.
     puts: Vec<Put>,
@@ -45,6 +67,8 @@ pub struct Demand3 {
     looks: u64,
     window_moved: bool,
     finding: Finding,
+    /// The worst of the lists before this one.
+    before: Finding,
 }
 
 impl Demand3 {
@@ -59,11 +83,17 @@ impl Demand3 {
             looks: 0,
             window_moved: false,
             finding: Finding::Kept,
+            before: Finding::Kept,
         }
     }
 
+    /// The worst of all lists so far, the first among equals.
     pub fn finding(&self) -> &Finding {
-        &self.finding
+        match (&self.before, &self.finding) {
+            (Finding::Violated { .. }, _) | (_, Finding::Kept) => &self.before,
+            (Finding::PremiseBroken { .. }, Finding::PremiseBroken { .. }) => &self.before,
+            _ => &self.finding,
+        }
     }
 
     fn violation(&mut self, what: String) {
@@ -90,7 +120,12 @@ impl Default for Demand3 {
 
 impl Witness for Demand3 {
     fn fresh(&mut self, shape: Shape) {
-        self.limit = if shape.kind == 2 { None } else { Some(1 << shape.width) };
+        *self = Demand3 {
+            calls: self.calls,
+            limit: matches!(shape.kind, 1 | 3).then(|| 1 << shape.width),
+            before: self.finding().clone(),
+            ..Demand3::new()
+        };
     }
 
     fn call(&mut self) {
@@ -282,16 +317,55 @@ mod tests {
     }
 
     #[test]
-    fn the_fifo_queue_has_no_premise() {
-        let mut history = Demand3::new();
-        history.fresh(shape(2, 1));
-        history.line_one(1);
-        for number in 1..=10 {
-            history.put_begun(task(number, 0));
-            history.finished(number);
+    fn fifo_and_the_linked_queues_have_no_premise() {
+        for kind in 1..=5 {
+            let mut history = Demand3::new();
+            history.fresh(shape(kind, 1));
+            history.line_one(1);
+            for number in 1..=10 {
+                history.put_begun(task(number, 0));
+                history.finished(number);
+            }
+            history.compare(1);
+            assert_eq!(history.finding == Finding::Kept, ![1, 3].contains(&kind));
+            // What is lost after a break is not held against the queue.
+            history.window(&mut [].into_iter());
+            assert_eq!(violated(&history), ![1, 3].contains(&kind));
         }
-        history.compare(1);
-        assert_eq!(history.finding, Finding::Kept);
+    }
+
+    #[test]
+    fn a_later_fresh_starts_another_list() {
+        let broken = || {
+            let mut history = with_put(1);
+            history.line_one(1);
+            for number in 2..=3 {
+                history.put_begun(task(number, 60));
+                history.finished(number);
+            }
+            history.compare(1);
+            history
+        };
+        let mut history = with_put(1);
+        history.fresh(shape(4, 1));
+        history.line_one(1);
+        history.empty(1);
+        history.window(&mut [].into_iter());
+        assert_eq!(*history.finding(), Finding::Kept, "the put before it is no put of this list");
+        history.put_begun(task(1, 70));
+        history.finished(1);
+        history.window(&mut [].into_iter());
+        assert!(matches!(history.finding(), Finding::Violated { .. }));
+        // A break lasts to the next fresh, and a violation for good.
+        let mut history = broken();
+        history.fresh(shape(1, 1));
+        assert!(matches!(history.finding(), Finding::PremiseBroken { .. }));
+        history.put_begun(task(1, 70));
+        history.finished(1);
+        history.window(&mut [].into_iter());
+        assert!(matches!(history.finding(), Finding::Violated { call: 2, .. }));
+        history.fresh(shape(1, 1));
+        assert!(matches!(history.finding(), Finding::Violated { .. }));
     }
 
     #[test]

@@ -1,6 +1,8 @@
 //! Figure 3: the double-ended queue. The owner works at the tail's end, the
-//! thieves at the head. The anchor (h, s, g) is read and written whole.
+//! thieves at the head. The anchor (h, s, g) is read and written whole. With
+//! links (kind 5) g stays 0.
 
+use crate::guard::Guard;
 use crate::outcome::{refusal, Outcome, Place};
 use crate::store::{Array, Store};
 use crate::task::{Payload, Task};
@@ -57,7 +59,7 @@ struct Worker {
 pub struct DoubleEnded {
     store: Store,
     anchor: Anchor,
-    largest_tag: u32,
+    guard: Guard,
     workers: [Worker; 8],
     /// X2 to X3: the index to copy next and how many are left to copy.
     copy_index: u32,
@@ -65,7 +67,7 @@ pub struct DoubleEnded {
 }
 
 impl DoubleEnded {
-    pub fn new(width: u32, store: Store) -> DoubleEnded {
+    pub fn new(guard: Guard, store: Store) -> DoubleEnded {
         let worker = Worker {
             counter: Counter::Idle,
             read: Anchor::default(),
@@ -76,7 +78,7 @@ impl DoubleEnded {
         DoubleEnded {
             store,
             anchor: Anchor::default(),
-            largest_tag: (1 << width) - 1,
+            guard,
             workers: [worker; 8],
             copy_index: 0,
             copies_left: 0,
@@ -102,7 +104,7 @@ impl DoubleEnded {
     }
 
     pub fn step<W: Witness>(&mut self, worker: usize, room: bool, witness: &mut W) -> Outcome {
-        let DoubleEnded { store, anchor, largest_tag, workers, copy_index, copies_left } = self;
+        let DoubleEnded { store, anchor, guard, workers, copy_index, copies_left } = self;
         let me = &mut workers[worker];
         match me.counter {
             Counter::Idle => Outcome::Refused(refusal::IDLE),
@@ -119,8 +121,8 @@ impl DoubleEnded {
             }
             Counter::P4 if room => {
                 let Anchor { h, s, g } = me.read;
-                let g = if g == *largest_tag { 0 } else { g + 1 };
-                *anchor = Anchor { h, s: s + 1, g };
+                *anchor = Anchor { h, s: s + 1, g: guard.next_tag(g) };
+                guard.anchor_written();
                 me.counter = Counter::Idle;
                 Outcome::Finished(me.task)
             }
@@ -163,6 +165,7 @@ impl DoubleEnded {
             }
             Counter::S1 => {
                 witness.line_one(worker);
+                guard.thief_reads(worker);
                 me.read = *anchor;
                 go(me, Counter::S2)
             }
@@ -170,6 +173,7 @@ impl DoubleEnded {
                 if !room {
                     return Outcome::Refused(refusal::LOG_FULL);
                 }
+                guard.attempt_ends(worker);
                 me.counter = Counter::Idle;
                 Outcome::Empty
             }
@@ -181,6 +185,7 @@ impl DoubleEnded {
             Counter::T4 if room => {
                 // Head and count of the pair read: this can undo steals.
                 *anchor = Anchor { s: me.read.s - 1, ..me.read };
+                guard.anchor_written();
                 me.counter = Counter::Idle;
                 Outcome::HandedOut(me.task)
             }
@@ -199,7 +204,7 @@ impl DoubleEnded {
                 me.h2 = (me.read.h + 1) % HEADS;
                 go(me, Counter::S6)
             }
-            Counter::S6 if *anchor != me.read => {
+            Counter::S6 if !guard.succeeds(worker, *anchor == me.read) => {
                 witness.compare(worker);
                 me.counter = Counter::S1;
                 Outcome::Restarted
@@ -207,11 +212,17 @@ impl DoubleEnded {
             Counter::S6 if room => {
                 witness.compare(worker);
                 *anchor = Anchor { h: me.h2, s: me.read.s - 1, g: me.read.g };
+                guard.anchor_written();
                 me.counter = Counter::Idle;
                 Outcome::HandedOut(me.task)
             }
             Counter::S6 => Outcome::Refused(refusal::LOG_FULL),
         }
+    }
+
+    /// `worker`'s link fails for no reason; answers whether there was one.
+    pub fn drop_link(&mut self, worker: usize) -> bool {
+        self.guard.drop_link(worker)
     }
 
     /// The s tasks from h in the current array.
@@ -260,7 +271,11 @@ mod tests {
     use crate::witness::Blind;
 
     fn double_ended(width: u32, size: u32, words: usize) -> DoubleEnded {
-        DoubleEnded::new(width, Store::fresh(vec![0; words], size, 1))
+        DoubleEnded::new(Guard::tag(width), Store::fresh(vec![0; words], size, 1))
+    }
+
+    fn linked(size: u32, words: usize) -> DoubleEnded {
+        DoubleEnded::new(Guard::links(), Store::fresh(vec![0; words], size, 1))
     }
 
     fn task(number: u32, payload: u32) -> Task {
@@ -291,7 +306,7 @@ mod tests {
     fn each_word_has_a_step_of_its_own() {
         for payload_words in 1..=4u32 {
             let store = Store::fresh(vec![0; 20], 2, payload_words);
-            let mut queue = DoubleEnded::new(4, store);
+            let mut queue = DoubleEnded::new(Guard::tag(4), store);
             let payload = [50, 51, 52, 53];
             let whole = |number| Task::new(number, payload, payload_words);
             for number in 1..=2 {
@@ -349,15 +364,68 @@ mod tests {
 
     #[test]
     fn the_head_comes_round_at_2048() {
-        let mut queue = double_ended(16, 2, 4);
-        queue.anchor.h = 2047;
-        put(&mut queue, 1, 10);
-        put(&mut queue, 2, 20);
-        for number in 1..=2 {
-            queue.begin_steal(1);
-            assert_eq!(steps(&mut queue, 1, 7), Outcome::HandedOut(task(number, 10 * number)));
+        for (mut queue, g) in [(double_ended(16, 2, 4), 2), (linked(2, 4), 0)] {
+            queue.anchor.h = 2047;
+            put(&mut queue, 1, 10);
+            put(&mut queue, 2, 20);
+            for number in 1..=2 {
+                queue.begin_steal(1);
+                assert_eq!(steps(&mut queue, 1, 7), Outcome::HandedOut(task(number, 10 * number)));
+            }
+            assert_eq!(queue.anchor, Anchor { h: 1, s: 0, g });
         }
-        assert_eq!(queue.anchor, Anchor { h: 1, s: 0, g: 2 });
+    }
+
+    #[test]
+    fn a_linked_store_fails_though_the_anchor_is_as_it_was_read() {
+        let mut queue = linked(1, 2);
+        put(&mut queue, 1, 10);
+        queue.begin_steal(1);
+        steps(&mut queue, 1, 6);
+        queue.begin_take();
+        steps(&mut queue, 0, 5);
+        put(&mut queue, 2, 20);
+        assert_eq!(queue.anchor, queue.workers[1].read);
+        assert_eq!(steps(&mut queue, 1, 1), Outcome::Restarted);
+        assert_eq!(steps(&mut queue, 1, 7), Outcome::HandedOut(task(2, 20)));
+        assert_eq!(queue.anchor, Anchor { h: 1, s: 0, g: 0 });
+    }
+
+    #[test]
+    fn a_link_that_fails_at_any_line() {
+        for line in 0..7 {
+            let mut queue = linked(2, 4);
+            put(&mut queue, 1, 10);
+            put(&mut queue, 2, 20);
+            // The other thief's link stays.
+            queue.begin_steal(2);
+            steps(&mut queue, 2, 6);
+            queue.begin_steal(1);
+            steps(&mut queue, 1, line);
+            assert!(!queue.drop_link(0));
+            assert_eq!(queue.drop_link(1), line > 0, "held from line 1 on");
+            assert!(!queue.drop_link(1));
+            if line > 0 {
+                assert_eq!(steps(&mut queue, 1, 7 - line), Outcome::Restarted);
+                assert!(!queue.drop_link(1), "at line 1 again");
+            }
+            assert_eq!(steps(&mut queue, 2, 1), Outcome::HandedOut(task(1, 10)));
+            assert!(!queue.drop_link(2));
+            assert_eq!(steps(&mut queue, 1, 7), Outcome::HandedOut(task(2, 20)));
+        }
+    }
+
+    #[test]
+    fn a_link_outlives_growth() {
+        let mut queue = linked(1, 6);
+        put(&mut queue, 1, 10);
+        queue.begin_steal(1);
+        steps(&mut queue, 1, 3);
+        begin_put(&mut queue, 2, 20);
+        assert_eq!(steps(&mut queue, 0, 6), Outcome::Published);
+        assert_eq!(steps(&mut queue, 1, 4), Outcome::HandedOut(task(1, 10)));
+        assert_eq!(steps(&mut queue, 0, 5), Outcome::Finished(task(2, 20)));
+        assert_eq!(queue.anchor, Anchor { h: 1, s: 1, g: 0 });
     }
 
     #[test]

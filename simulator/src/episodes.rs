@@ -68,6 +68,10 @@ pub fn uniform(script: &mut Script) {
             };
             script.step(worker, count);
         }
+        if script.has_event() && script.random.chance(4) {
+            let worker = script.random.below(script.shape.crew);
+            script.drop_link(worker);
+        }
     }
 }
 
@@ -209,7 +213,7 @@ pub fn tag_comes_round(script: &mut Script) {
         }
         for _ in 0..to_go {
             match other_thief(script, &waiting) {
-                Some(thief) if script.random.chance(25) && script.shape.kind == 1 => {
+                Some(thief) if script.random.chance(25) && matches!(script.shape.kind, 1 | 4) => {
                     whole_steal(script, thief);
                 }
                 _ => {
@@ -346,9 +350,86 @@ pub fn race(script: &mut Script) {
     }
 }
 
+/// The owner stands before the last line of a take while a thief takes the task
+/// that it has read and another one reads the anchor. Then the owner writes what
+/// is there already (LIFO), and the other thief compares.
+pub fn equal_value(script: &mut Script) {
+    for _ in 0..script.random.between(2, 3) {
+        whole_put(script);
+    }
+    let Some(first) = script.thief() else { return burst(script) };
+    if !owner_idle(script) || !script.finish(first) {
+        return;
+    }
+    script.take();
+    script.step_until(0, 20, |place| matches!(place, Place::Last | Place::Idle));
+    whole_steal(script, first);
+    let other = other_thief(script, &[first]).unwrap_or(first);
+    if !script.finish(other) {
+        return;
+    }
+    script.steal(other);
+    let count = script.random.between(1, script.shape.payload_words + 5);
+    script.step_until(other, count, |place| matches!(place, Place::Last | Place::Idle));
+    script.step(0, 1);
+    script.step_until(other, 20, |place| matches!(place, Place::Last | Place::Idle));
+    script.step(other, 1);
+    if script.random.chance(50) {
+        script.finish(other);
+    }
+}
+
+/// Thieves' links fail at any line, now and then twice, or after the anchor was
+/// written; then the thieves go on.
+pub fn links_fail(script: &mut Script) {
+    if !script.has_event() {
+        return race(script);
+    }
+    for _ in 0..script.random.below(4) {
+        whole_put(script);
+    }
+    for _ in 0..script.random.between(2, 10) {
+        let Some(thief) = script.thief() else { return script.drop_link(0) };
+        if script.idle(thief) {
+            script.steal(thief);
+        }
+        // From none to the compare, or EMPTY.
+        let count = script.random.below(script.shape.payload_words + 7);
+        script.step_until(thief, count, |place| matches!(place, Place::Last | Place::Idle));
+        match script.random.below(8) {
+            0 => {
+                whole_put(script);
+            }
+            1 => {
+                whole_take(script);
+            }
+            2 => {
+                if let Some(other) = other_thief(script, &[thief]) {
+                    whole_steal(script, other);
+                }
+            }
+            _ => {}
+        }
+        script.drop_link(thief);
+        if script.random.chance(30) {
+            script.drop_link(thief);
+        }
+        if script.random.chance(20) {
+            let worker = script.random.below(script.shape.crew + 1);
+            script.drop_link(worker);
+        }
+        if script.random.chance(50) {
+            script.finish(thief);
+        } else {
+            let count = script.random.between(1, script.shape.payload_words + 6);
+            script.step_until(thief, count, |place| place == Place::Idle);
+        }
+    }
+}
+
 /// Any of those above.
 pub fn any(script: &mut Script) {
-    match script.random.below(10) {
+    match script.random.below(12) {
         0 | 1 => uniform(script),
         2 => burst(script),
         3 => fill(script),
@@ -357,6 +438,8 @@ pub fn any(script: &mut Script) {
         6 => tag_comes_round(script),
         7 => noted_before_growth(script),
         8 => emptied_before_x2(script),
+        9 => equal_value(script),
+        10 => links_fail(script),
         _ => race(script),
     }
 }
@@ -369,7 +452,7 @@ pub fn refusals(script: &mut Script) {
             1 => script.random.between(8, 300),
             _ => script.random.word(),
         };
-        match script.random.below(9) {
+        match script.random.below(10) {
             0 => script.steal(0),
             1 => script.steal(beyond),
             2 => script.say(&format!("step {beyond} 1")),
@@ -384,6 +467,11 @@ pub fn refusals(script: &mut Script) {
             7 => {
                 let worker = script.random.below(script.shape.crew);
                 script.step(worker, 0);
+            }
+            8 => {
+                let thief = script.random.below(script.shape.crew);
+                let worker = *script.random.pick(&[0, thief, beyond]);
+                script.drop_link(worker);
             }
             _ => {
                 for worker in 0..script.shape.crew {

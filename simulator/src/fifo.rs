@@ -302,6 +302,11 @@ impl Fifo {
         Outcome::GoesOn
     }
 
+    /// Nobody has a link here.
+    pub fn drop_link(&mut self, _worker: usize) -> bool {
+        false
+    }
+
     /// The tasks of head to tail−1 in the current array.
     pub fn window(&self) -> impl Iterator<Item = Task> + '_ {
         (self.head..self.tail).map(|index| self.store.task(index))

@@ -5,12 +5,13 @@
 //! for byte. It is written from documents 01 and 02 alone, so that a mistake in
 //! the one is not a mistake in the other, and it is deliberately built the other
 //! way round: one machine for each figure, each with lines of its own, and
-//! nothing shared between them but the store.
+//! nothing shared between them but the store and what guards an anchor.
 //!
 //! - [`lifo`], [`fifo`], [`double_ended`]: figures 1, 2 and 3, a step a line;
+//! - [`guard`]: tags, and the links of kinds 4 and 5;
 //! - [`task`]: a task's words; [`store`]: the lent words and the directory of
 //!   arrays;
-//! - [`bench`]: fresh, begin and step, the refusals and their order;
+//! - [`bench`]: fresh, begin, step and drop_link, the refusals and their order;
 //! - [`account`]: the log's room and the six counts of `T`;
 //! - [`text`]: what a line of the input says; [`input`]: where it ends;
 //!   [`listing`]: a line of output;
@@ -30,6 +31,7 @@ pub mod demand3;
 pub mod double_ended;
 pub mod episodes;
 pub mod fifo;
+pub mod guard;
 pub mod input;
 pub mod lifo;
 pub mod listing;

@@ -1,6 +1,7 @@
 //! Figure 1: the LIFO queue. The anchor is (t, g); the owner and the thieves
-//! work at the same end.
+//! work at the same end. With links (kind 4) g stays 0.
 
+use crate::guard::Guard;
 use crate::outcome::{refusal, Outcome, Place};
 use crate::store::{Array, Store};
 use crate::task::{Payload, Task};
@@ -64,15 +65,14 @@ pub struct Lifo {
     store: Store,
     t: u32,
     g: u32,
-    /// 2^w − 1, the largest tag.
-    largest_tag: u32,
+    guard: Guard,
     owner: Owner,
     /// By worker number; place 0 is the owner's and stays idle.
     thieves: [Thief; 8],
 }
 
 impl Lifo {
-    pub fn new(width: u32, store: Store) -> Lifo {
+    pub fn new(guard: Guard, store: Store) -> Lifo {
         let thief = Thief {
             at: ThiefAt::Idle,
             t: 0,
@@ -84,7 +84,7 @@ impl Lifo {
             store,
             t: 0,
             g: 0,
-            largest_tag: (1 << width) - 1,
+            guard,
             owner: Owner {
                 at: OwnerAt::Idle,
                 task: Task::default(),
@@ -154,7 +154,8 @@ impl Lifo {
                     return Outcome::Refused(refusal::LOG_FULL);
                 }
                 self.t = owner.t + 1;
-                self.g = if owner.g == self.largest_tag { 0 } else { owner.g + 1 };
+                self.g = self.guard.next_tag(owner.g);
+                self.guard.anchor_written();
                 owner.at = OwnerAt::Idle;
                 return Outcome::Finished(owner.task);
             }
@@ -222,6 +223,7 @@ impl Lifo {
                 }
                 self.t = owner.t - 1;
                 self.g = owner.g;
+                self.guard.anchor_written();
                 owner.at = OwnerAt::Idle;
                 return Outcome::HandedOut(owner.task);
             }
@@ -235,6 +237,7 @@ impl Lifo {
             ThiefAt::Idle => return Outcome::Refused(refusal::IDLE),
             ThiefAt::ReadAnchor => {
                 witness.line_one(worker);
+                self.guard.thief_reads(worker);
                 thief.t = self.t;
                 thief.g = self.g;
                 thief.at = ThiefAt::TestEmpty;
@@ -244,6 +247,7 @@ impl Lifo {
                     if !room {
                         return Outcome::Refused(refusal::LOG_FULL);
                     }
+                    self.guard.attempt_ends(worker);
                     thief.at = ThiefAt::Idle;
                     return Outcome::Empty;
                 }
@@ -262,7 +266,8 @@ impl Lifo {
                 };
             }
             ThiefAt::Compare => {
-                if (self.t, self.g) != (thief.t, thief.g) {
+                let as_read = (self.t, self.g) == (thief.t, thief.g);
+                if !self.guard.succeeds(worker, as_read) {
                     witness.compare(worker);
                     thief.at = ThiefAt::ReadAnchor;
                     return Outcome::Restarted;
@@ -272,11 +277,17 @@ impl Lifo {
                 }
                 witness.compare(worker);
                 self.t = thief.t - 1;
+                self.guard.anchor_written();
                 thief.at = ThiefAt::Idle;
                 return Outcome::HandedOut(thief.task);
             }
         }
         Outcome::GoesOn
+    }
+
+    /// `worker`'s link fails for no reason; answers whether there was one.
+    pub fn drop_link(&mut self, worker: usize) -> bool {
+        self.guard.drop_link(worker)
     }
 
     /// The tasks in slots 0 to t−1 of the current array.
@@ -328,7 +339,11 @@ mod tests {
     use crate::witness::Blind;
 
     fn lifo(width: u32, size: u32, words: usize) -> Lifo {
-        Lifo::new(width, Store::fresh(vec![0; words], size, 1))
+        Lifo::new(Guard::tag(width), Store::fresh(vec![0; words], size, 1))
+    }
+
+    fn linked(size: u32, words: usize) -> Lifo {
+        Lifo::new(Guard::links(), Store::fresh(vec![0; words], size, 1))
     }
 
     fn task(number: u32, payload: u32) -> Task {
@@ -374,7 +389,7 @@ mod tests {
     fn each_word_has_a_step_of_its_own() {
         for payload_words in 1..=4u32 {
             let store = Store::fresh(vec![0; 20], 2, payload_words);
-            let mut queue = Lifo::new(2, store);
+            let mut queue = Lifo::new(Guard::tag(2), store);
             let payload = [50, 51, 52, 53];
             let whole = Task::new(1, payload, payload_words);
             queue.begin_put(1, payload);
@@ -398,7 +413,7 @@ mod tests {
 
     #[test]
     fn a_thief_reads_words_of_two_puts() {
-        let mut queue = Lifo::new(1, Store::fresh(vec![0; 3], 1, 2));
+        let mut queue = Lifo::new(Guard::tag(1), Store::fresh(vec![0; 3], 1, 2));
         queue.begin_put(1, [10, 11, 0, 0]);
         steps(&mut queue, 0, 6);
         queue.begin_steal(1);
@@ -491,6 +506,111 @@ mod tests {
         steps(&mut queue, 1, 1);
         assert_eq!(queue.step(1, false, &mut Blind), Outcome::Refused(11));
         assert_eq!(queue.step(1, true, &mut Blind), Outcome::Empty);
+    }
+
+    #[test]
+    fn a_linked_store_fails_though_the_anchor_is_as_it_was_read() {
+        // The list of P1, where a tag of one bit comes round.
+        let mut queue = linked(2, 4);
+        put(&mut queue, 1, 65);
+        queue.begin_steal(1);
+        steps(&mut queue, 1, 5);
+        for number in 2..=3 {
+            queue.begin_take();
+            steps(&mut queue, 0, 5);
+            put(&mut queue, number, 64 + number);
+            assert_eq!((queue.t, queue.g), (1, 0), "no tag");
+        }
+        assert_eq!(steps(&mut queue, 1, 1), Outcome::Restarted);
+        assert_eq!(steps(&mut queue, 1, 6), Outcome::HandedOut(task(3, 67)));
+    }
+
+    #[test]
+    fn a_take_that_writes_an_equal_value_breaks_the_link() {
+        // With a tag the compare succeeds: the anchor is as it was.
+        for (mut queue, last) in [
+            (lifo(4, 2, 4), Outcome::HandedOut(task(1, 10))),
+            (linked(2, 4), Outcome::Restarted),
+        ] {
+            put(&mut queue, 1, 10);
+            put(&mut queue, 2, 20);
+            queue.begin_take();
+            steps(&mut queue, 0, 4);
+            queue.begin_steal(1);
+            assert_eq!(steps(&mut queue, 1, 6), Outcome::HandedOut(task(2, 20)));
+            queue.begin_steal(2);
+            steps(&mut queue, 2, 5);
+            let anchor = queue.anchor();
+            assert_eq!(steps(&mut queue, 0, 1), Outcome::HandedOut(task(2, 20)));
+            assert_eq!(queue.anchor(), anchor);
+            assert_eq!(steps(&mut queue, 2, 1), last);
+        }
+    }
+
+    #[test]
+    fn of_two_linked_thieves_the_second_store_fails() {
+        let mut queue = linked(2, 4);
+        put(&mut queue, 1, 10);
+        put(&mut queue, 2, 20);
+        for thief in 1..=2 {
+            queue.begin_steal(thief);
+            steps(&mut queue, thief, 5);
+        }
+        assert_eq!(steps(&mut queue, 2, 1), Outcome::HandedOut(task(2, 20)));
+        assert_eq!(steps(&mut queue, 1, 1), Outcome::Restarted);
+        assert_eq!(steps(&mut queue, 1, 6), Outcome::HandedOut(task(1, 10)));
+    }
+
+    #[test]
+    fn a_link_outlives_growth_and_full() {
+        let mut queue = linked(1, 6);
+        put(&mut queue, 1, 10);
+        queue.begin_steal(1);
+        steps(&mut queue, 1, 3);
+        begin_put(&mut queue, 2, 20);
+        assert_eq!(steps(&mut queue, 0, 6), Outcome::Published);
+        assert_eq!(steps(&mut queue, 1, 3), Outcome::HandedOut(task(1, 10)));
+
+        let mut queue = linked(1, 2);
+        put(&mut queue, 1, 10);
+        queue.begin_steal(1);
+        steps(&mut queue, 1, 5);
+        begin_put(&mut queue, 2, 20);
+        assert_eq!(steps(&mut queue, 0, 3), Outcome::Full(task(2, 20)));
+        assert_eq!(queue.step(1, false, &mut Blind), Outcome::Refused(11));
+        assert_eq!(steps(&mut queue, 1, 1), Outcome::HandedOut(task(1, 10)));
+    }
+
+    #[test]
+    fn a_link_that_fails_at_any_line() {
+        for line in 0..6 {
+            let mut queue = linked(2, 4);
+            put(&mut queue, 1, 10);
+            assert!(!queue.drop_link(0) && !queue.drop_link(1));
+            queue.begin_steal(1);
+            steps(&mut queue, 1, line);
+            assert_eq!(queue.drop_link(1), line > 0, "held from line 1 on");
+            assert!(!queue.drop_link(1));
+            let last = steps(&mut queue, 1, 6 - line);
+            if line == 0 {
+                assert_eq!(last, Outcome::HandedOut(task(1, 10)));
+                continue;
+            }
+            assert_eq!(last, Outcome::Restarted);
+            assert!(!queue.drop_link(1), "at line 1 again");
+            assert_eq!(steps(&mut queue, 1, 6), Outcome::HandedOut(task(1, 10)));
+            assert!(!queue.drop_link(1));
+        }
+        // EMPTY goes by what was read, with a link or without, and ends it.
+        for dropped in [false, true] {
+            let mut queue = linked(2, 4);
+            queue.begin_steal(1);
+            steps(&mut queue, 1, 1);
+            assert!(!dropped || queue.drop_link(1));
+            assert_eq!(queue.step(1, false, &mut Blind), Outcome::Refused(11));
+            assert_eq!(steps(&mut queue, 1, 1), Outcome::Empty);
+            assert!(!queue.drop_link(1));
+        }
     }
 
     #[test]

@@ -18,7 +18,7 @@ use std::io::{self, Write};
 use std::mem::ManuallyDrop;
 use std::os::fd::FromRawFd;
 
-use simulator::demand3::{Demand3, Finding};
+use simulator::demand3::Demand3;
 use simulator::input::{for_each_line, Trouble};
 use simulator::play::Player;
 use simulator::witness::{Blind, Witness};
@@ -59,19 +59,12 @@ fn checked() -> i32 {
     if let Err(trouble) = play(&mut player) {
         return told(trouble);
     }
-    match player.witness().finding() {
-        Finding::Kept => {
-            say("demand 3 kept");
-            0
-        }
-        Finding::PremiseBroken { call, worker } => {
-            say(&format!("demand 3 kept until worker {worker} broke its premise by call {call}"));
-            0
-        }
-        Finding::Violated { call, what } => {
-            say(&format!("demand 3 violated by call {call}: {what}"));
-            2
-        }
+    let finding = player.witness().finding();
+    say(&finding.to_string());
+    if finding.is_violation() {
+        2
+    } else {
+        0
     }
 }
 

@@ -18,6 +18,7 @@ pub mod refusal {
     pub const FOREIGN_STATE: u32 = 12;
     pub const BAD_LINE: u32 = 13;
     pub const PAYLOAD_WORDS: u32 = 16;
+    pub const NO_LINK: u32 = 17;
 }
 
 /// What one step did. A machine that answers `Refused` has changed nothing.
@@ -25,7 +26,8 @@ pub mod refusal {
 pub enum Outcome {
     /// The operation goes on at its next line.
     GoesOn,
-    /// The compare failed, and the steal goes on at line 1 again: a restart.
+    /// The compare failed, by the anchor or for want of a link, and the steal
+    /// goes on at line 1 again: a restart.
     Restarted,
     /// X4: the put goes on at line 1 again, and counts as no restart.
     Published,

@@ -112,33 +112,29 @@ impl<W: Witness> Player<W> {
         let witness = &mut self.witness;
         for _ in 0..count {
             witness.call();
-            match bench.step(worker, account.room(), witness) {
+            let outcome = bench.step(worker, account.room(), witness);
+            match outcome {
                 Outcome::GoesOn => continue,
-                Outcome::Restarted => {}
-                Outcome::Published => witness.published(),
+                Outcome::Restarted | Outcome::Published => {}
                 Outcome::Finished(task) => {
-                    let number = task.number();
-                    account.finish(number);
-                    witness.finished(number);
-                    print(listing, b'D', &[number]);
+                    account.finish(task.number());
+                    print(listing, b'D', &[task.number()]);
                 }
                 Outcome::HandedOut(task) => {
                     account.hand_out(task);
-                    witness.handed_out(worker as usize, task);
                     print_hand_out(listing, worker, task.words(*payload_words));
                 }
                 Outcome::Empty => {
                     account.other_entry();
-                    witness.empty(worker as usize);
                     print(listing, b'E', &[worker]);
                 }
                 Outcome::Full(task) => {
                     account.other_entry();
-                    witness.full(task.number());
                     print(listing, b'F', &[task.number()]);
                 }
                 Outcome::Refused(number) => return Err(number),
             }
+            witness.answered(worker, outcome);
             if witness.wants_window() {
                 witness.window(&mut bench.window());
             }
@@ -186,11 +182,25 @@ mod tests {
     }
 
     #[test]
+    fn p1_with_links_loses_nothing() {
+        for width in [1, 2, 16] {
+            assert_eq!(
+                listing(&format!("queue 4 {width} 2 2 12, {P1}")),
+                "D 1, H 0 1 65, D 2, H 0 2 66, D 3, T 3 2 2 1 1 0"
+            );
+        }
+        assert_eq!(listing("queue 4 0 1 1 2, queue 4 17 1 1 2, queue 5 0 1 1 2, queue 5 17 1 1 2"), "R 2, R 2, R 2, R 2");
+        assert_eq!(listing("queue 6 0 0 0 0, queue 4294967295 1 1 1 2, queue 0 1 1 1 2"), "R 1, R 1, R 1");
+        // The program has no line for the event.
+        assert_eq!(listing("queue 5 1 1 2 2, put 1, step 0 5, steal 1, step 1 6, drop 1, step 1 1"), "D 1, R 13, H 1 1 1");
+    }
+
+    #[test]
     fn p1_breaks_the_premise_and_p2_keeps_it() {
-        for (width, broken) in [(1, true), (2, false)] {
+        for (kind, width, broken) in [(1, 1, true), (1, 2, false), (4, 1, false)] {
             let mut player = Player::new(Demand3::new());
             let mut listing = Vec::new();
-            for line in format!("queue 1 {width} 2 2 12, {P1}").split(", ") {
+            for line in format!("queue {kind} {width} 2 2 12, {P1}").split(", ") {
                 player.line(line.as_bytes(), &mut listing);
             }
             let finding = player.witness().finding();
@@ -222,7 +232,7 @@ mod tests {
     #[test]
     fn a_refused_fresh_in_the_tables_order() {
         assert_eq!(listing("queue 0 0 0 0 0"), "R 1");
-        assert_eq!(listing("queue 4 1 1 1 2"), "R 1");
+        assert_eq!(listing("queue 6 1 1 1 2"), "R 1");
         assert_eq!(listing("queue 1 0 0 0 0, queue 1 17 3 9 0"), "R 2, R 2");
         assert_eq!(listing("queue 1 1 0 0 0, queue 1 1 3 9 0, queue 1 1 2048 9 0"), "R 3, R 3, R 3");
         assert_eq!(listing("queue 1 1 1 0 0, queue 1 1 1 9 0"), "R 4, R 4");
@@ -240,7 +250,7 @@ mod tests {
             assert_eq!(listing(&format!("queue 1 1 1 9 2 {words}")), "R 4");
             assert_eq!(listing(&format!("queue 1 1 3 1 2 {words}")), "R 3");
             assert_eq!(listing(&format!("queue 1 0 1 1 2 {words}")), "R 2");
-            assert_eq!(listing(&format!("queue 4 1 1 1 2 {words}")), "R 1");
+            assert_eq!(listing(&format!("queue 6 1 1 1 2 {words}")), "R 1");
             assert_eq!(listing(&format!("queue 1 1 1 1 10236 {words}")), "R 13");
         }
         assert_eq!(listing("queue 1 1 1 1 2 4294967296, queue 1 1 1 1 2 01"), "R 13, R 13");

@@ -12,7 +12,7 @@ use crate::witness::Blind;
 /// What the text is for, and the one who plays it.
 enum Form {
     Program(Player<Blind>),
-    Calls(Calls),
+    Calls(Calls<Blind>),
 }
 
 /// How many lines of a hundred have a `state` and a `front` behind them.
@@ -44,7 +44,7 @@ impl Script {
     /// A list of library calls.
     pub fn calls(random: Random, store: u32, log: u32) -> Script {
         let none = Shape { kind: 0, width: 0, size: 0, crew: 0, payload_words: 1 };
-        let mut script = Script::new(random, none, Form::Calls(Calls::new()));
+        let mut script = Script::new(random, none, Form::Calls(Calls::new(Blind)));
         script.say(&format!("memory {store} {log}"));
         script
     }
@@ -189,6 +189,17 @@ impl Script {
             Form::Program(_) => self.say(&format!("steal {worker}")),
             Form::Calls(_) => self.say(&format!("begin {worker} steal")),
         }
+    }
+
+    /// The link of `worker` fails. The program has no line for that: it refuses
+    /// this one, and nothing changes.
+    pub fn drop_link(&mut self, worker: u32) {
+        self.say(&format!("drop {worker}"));
+    }
+
+    /// Whether links can fail here: the program has no line for it.
+    pub fn has_event(&self) -> bool {
+        matches!(self.form, Form::Calls(_))
     }
 
     /// The most steps that are worth asking for. The program stops at the first

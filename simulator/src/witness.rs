@@ -1,14 +1,15 @@
 //! Who watches a run. The machines tell a witness of the two lines demand 3
-//! speaks of, the program tells it of everything a call answered. `Blind` hears
-//! nothing and costs nothing.
+//! speaks of, whoever plays the calls tells it of everything a call answered.
+//! `Blind` hears nothing and costs nothing.
 
 use crate::bench::Shape;
+use crate::outcome::Outcome;
 use crate::task::Task;
 
 pub trait Witness {
-    /// A fresh bench was accepted.
+    /// A fresh bench was accepted, the first one or one in another's place.
     fn fresh(&mut self, _shape: Shape) {}
-    /// A begin or a step, refused or not, is about to be made.
+    /// A begin, a step or a drop of a link, refused or not, is about to be made.
     fn call(&mut self) {}
     fn put_begun(&mut self, _task: Task) {}
     /// An accepted step did line 1 of a take or a steal.
@@ -21,6 +22,17 @@ pub trait Witness {
     fn full(&mut self, _number: u32) {}
     /// X4: the window is now seen in another array.
     fn published(&mut self) {}
+    /// What a step answered.
+    fn answered(&mut self, worker: u32, outcome: Outcome) {
+        match outcome {
+            Outcome::GoesOn | Outcome::Restarted | Outcome::Refused(_) => {}
+            Outcome::Published => self.published(),
+            Outcome::Finished(task) => self.finished(task.number()),
+            Outcome::HandedOut(task) => self.handed_out(worker as usize, task),
+            Outcome::Empty => self.empty(worker as usize),
+            Outcome::Full(task) => self.full(task.number()),
+        }
+    }
     /// Whether the window has moved since it was last shown.
     fn wants_window(&self) -> bool {
         false

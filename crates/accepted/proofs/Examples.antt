@@ -17,7 +17,7 @@ use Rattle.model.specs.Calls.{freshOf, setup, beginOf, stepOf, frontOf, Call, s
 use Rattle.model.specs.Run.{after}
 use Rattle.model.specs.Window.{windowSize}
 use Rattle.order.specs.Order.{logFront}
-use Rattle.examples.proofs.Examples.{does, p1, bench}
+use Rattle.examples.proofs.Examples.{does, p1, bench, benchOf}
 use Rattle.examples.proofs.OrderExamples as tried
 use Rattle.judgement.specs.declared.Verdict.{Verdict}
 use Rattle.judgement.specs.declared.Verdict.the-variants.{No, Accepted}
@@ -41,6 +41,11 @@ pub p2-accepted : accepted (bench 2 2) p1 ≡ true
 unfolding bench p1 does frontOf after allBelow someBelow freshOf beginOf stepOf validOf lineStep zeros wordAt setWord offsetAt lengthAt sizeAt gathered wordIn withWord if_then_else_ _and_ _or_
 p2-accepted = refl
 
+-- of kind 4 the same calls are accepted without a tag
+pub linked-accepted : accepted (benchOf 4) p1 ≡ true
+unfolding benchOf p1 does frontOf after allBelow someBelow freshOf beginOf stepOf validOf lineStep zeros wordAt setWord offsetAt lengthAt sizeAt gathered wordIn withWord if_then_else_ _and_ _or_
+linked-accepted = refl
+
 -- of a FIFO with one slot: an EMPTY, a put that stands in the window, one answered FULL, and a step of an idle worker that is
 -- refused, in a log that held words before
 abbrev full : List Call
@@ -58,7 +63,7 @@ encoded (x ∷ l) = x ∷ 0 ∷ 0 ∷ 0 ∷ encoded l
 abbrev verdict : World → List Call → Verdict
 verdict W cs = judged (W .bench .words) (encoded (logFront (after W cs))) (encoded (stored (after W cs)))
 
--- P1 is answered no, though its premise is the only thing that is wrong with it; P2 has two hand-outs of different numbers
+-- P1 is answered no, though its premise is the only thing that is wrong with it; P2, and P1 of kind 4, have two hand-outs of different numbers
 pub p1-judged : verdict (bench 1 2) p1 ≡ No
 unfolding bench p1 does frontOf after judged wordsOf allBelow someBelow freshOf beginOf stepOf validOf lineStep zeros wordAt setWord offsetAt lengthAt sizeAt gathered wordIn withWord if_then_else_ _and_ _or_
 p1-judged = refl
@@ -66,6 +71,10 @@ p1-judged = refl
 pub p2-judged : verdict (bench 2 2) p1 ≡ Accepted 2 0
 unfolding bench p1 does frontOf after judged wordsOf allBelow someBelow countBelow freshOf beginOf stepOf validOf lineStep zeros wordAt setWord offsetAt lengthAt sizeAt gathered wordIn withWord if_then_else_ _and_ _or_
 p2-judged = refl
+
+pub linked-judged : verdict (benchOf 4) p1 ≡ Accepted 2 0
+unfolding benchOf p1 does frontOf after judged wordsOf allBelow someBelow countBelow freshOf beginOf stepOf validOf lineStep zeros wordAt setWord offsetAt lengthAt sizeAt gathered wordIn withWord if_then_else_ _and_ _or_
+linked-judged = refl
 
 -- P3: owner and thief are handed the same task, two hand-outs of one number
 abbrev p3 : List Call

@@ -42,7 +42,7 @@ tasks-le Deque w z low a (h, c, t) = c
 window-small : (W : World) → Whole W → windowSize W ≤ 1024
 window-small W H =
     let S = H .shape in
-    let t = tasks-le (W .bench .kind) (W .bench .width) _ (S .low) (W .bench .queue .anchor) (S .anchor) in
+    let t = tasks-le (W .bench .kind) _ _ (S .low) (W .bench .queue .anchor) (S .anchor) in
     let z = size-le (now (S .arrays) .0) in omega (arith, t, z)
 
 -- what is judged where the lengths are right

@@ -4,26 +4,36 @@ ghost use mathlib.Core.Path.{_≡_};
 ghost use lib.Dec.{ltb, leb};
 ghost use Rattle.model.specs.Tests.{_and_};
 ghost use Rattle.model.specs.Limits.{isSize, widthOk, crewOk, wordsOk};
-ghost use Rattle.model.specs.Calls.{kindOf, rightHand, numbersLeft};
+ghost use Rattle.model.specs.Calls.{kindOf, linkedOf, rightHand, numbersLeft};
 use model::Kind;
 use model::Operation;
 
 pub fn kind_ok(kind: u32) -> bool
-    ensures { λ r. ⌜ r ≡ (ltb 0 kind and leb kind 3) ⌝ }
+    ensures { λ r. ⌜ r ≡ (ltb 0 kind and leb kind 5) ⌝ }
 {
-    0 < kind && kind <= 3
+    0 < kind && kind <= 5
 }
 
+// Kinds 4 and 5 are 1 and 3, linked.
 pub fn kind_of(kind: u32) -> Kind
     ensures { λ r. ⌜ r ≡ kindOf kind ⌝ }
 {
     if kind == 1 {
         return Kind::Lifo;
     }
+    if kind == 4 {
+        return Kind::Lifo;
+    }
     if kind == 2 {
         return Kind::Fifo;
     }
     Kind::Deque
+}
+
+pub fn linked_of(kind: u32) -> bool
+    ensures { λ r. ⌜ r ≡ linkedOf kind ⌝ }
+{
+    3 < kind
 }
 
 pub fn width_ok(width: u32) -> bool

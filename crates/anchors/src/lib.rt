@@ -1,6 +1,6 @@
 // What differs from figure to figure of the anchor: whether it tells of an empty queue, whether a compare finds it as it was read,
 // and which anchor a last line leaves. `anchor` is the anchor now, `read` the anchor as a worker read it at line 1.
-// Uses `model`. It is used by `lines`.
+// Uses `model`. It is used by `lines` and `limits`.
 ghost use mathlib.Core.Path.{_≡_};
 ghost use mathlib.Core.Bool.{true};
 ghost use Prim.Native.Nat.{_+_, _≤_, _%_};

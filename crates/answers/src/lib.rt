@@ -33,6 +33,7 @@ pub fn number_of(why: Refusal) -> u32
         Refusal::ForeignState => 12,
         Refusal::BadLine => 13,
         Refusal::PayloadWords => 16,
+        Refusal::NoLink => 17,
     }
 }
 

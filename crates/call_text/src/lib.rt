@@ -39,6 +39,7 @@ enum Key {
     Memory,
     Fresh,
     Step,
+    Drop,
     Front,
     State,
 }
@@ -98,6 +99,9 @@ fn keyword(word: &[u8]) -> Key {
     }
     if text::same(word, b"step") {
         return Key::Step;
+    }
+    if text::same(word, b"drop") {
+        return Key::Drop;
     }
     if text::same(word, b"front") {
         return Key::Front;
@@ -188,6 +192,19 @@ fn form(key: Key, count: usize, v: [u32; 5]) -> ListLine {
                     worker: v[0],
                     payload: payload_of(0, 0, 0, 0),
                     times: v[1],
+                },
+            }
+        }
+        Key::Drop => {
+            if count != 1 {
+                return ListLine::Bad;
+            }
+            ListLine::Asks {
+                asked: Request::Calls {
+                    operation: 4,
+                    worker: v[0],
+                    payload: payload_of(0, 0, 0, 0),
+                    times: 1,
                 },
             }
         }

@@ -23,9 +23,9 @@ use Rattle.model.proofs.Tasks.{task-same}
 use Rattle.model.proofs.Runs.{one}
 use Rattle.model.specs.Figures.{anchor}
 use Rattle.model.specs.Lines.{lineStep}
-use Rattle.model.specs.World.{World, lineAt}
+use Rattle.model.specs.World.{World, tagBits, lineAt}
 use Rattle.model.specs.Limits.{validOf}
-use Rattle.model.specs.Calls.{freshOf, setup, beginOf, stepOf, Call, begin, step}
+use Rattle.model.specs.Calls.{freshOf, setup, beginOf, stepOf, Call, begin, step, dropLink}
 use Rattle.model.specs.Run.{Played, played, after}
 use Rattle.model.specs.Window.{windowSize}
 use Rattle.theorems.specs.Demand3.{At, Begins, Line1, Attempt, Out, AllOut, Stands, puts, between, Few, FewPuts, Demand3}
@@ -68,6 +68,7 @@ none-out t (s ∷ T) f (suc k) a = none-out t T (or-false (isOut t (s .answer)) 
 isStep : ℕ → Call → Bool
 isStep i (begin j op) = false
 isStep i (step j) = eqb j i
+isStep i (dropLink j) = false
 
 startsAttempt : ℕ → Played → Bool
 startsAttempt i s = isStep i (s .call) and is-line-1 (lineAt (s .before .bench .workers) i)
@@ -108,12 +109,17 @@ newest-by T i l j f k a b x =
 unfoldable pub does : Call → List Call
 does (begin i op) = begin i op ∷ replicate 5 (step i)
 does (step i) = step i ∷ []
+does (dropLink i) = dropLink i ∷ []
 
 unfoldable pub p1 : List Call
 p1 = does (begin 0 (Put (one 65))) ++ does (begin 1 Steal) ++ does (begin 0 Take) ++ does (begin 0 (Put (one 66))) ++ does (begin 0 Take) ++ does (begin 0 (Put (one 67))) ++ step 1 ∷ []
 
 unfoldable pub bench : ℕ → ℕ → World
 bench w n = freshOf (setup 1 w 2 n 1) (replicate 12 0) (replicate 64 0) .world
+
+-- the same of kind k, with a tag width of 1 and a thief
+unfoldable pub benchOf : ℕ → World
+benchOf k = freshOf (setup k 1 2 2 1) (replicate 12 0) (replicate 64 0) .world
 
 -- P1: the thief's line 1 is at place 7, its compare at place 36; 2 = 2^1 puts finish between, and put 3 is lost
 pub p1-loses : Loses (bench 1 2) p1 2
@@ -141,7 +147,7 @@ p1-loses =
 
 pub p1-breaks-premise : FewPuts (bench 1 2) p1 → ⊥
 unfolding p1-loses bench p1 does played freshOf beginOf stepOf validOf lineStep zeros wordAt setWord offsetAt lengthAt sizeAt gathered wordIn withWord if_then_else_ _and_ _or_
-p1-breaks-premise f = let z : 2 < 2 = f 1 7 36 (p1-loses .compares) (p1-loses .attempt) in omega arith
+p1-breaks-premise f = let z : 2 < 2 = f 1 7 36 (p1-loses .compares) (p1-loses .attempt) (omega arith) in omega arith
 
 -- P2: with a tag of 2 bits the compare fails, and put 3 stands in the window
 pub p2-stands : Stands (after (bench 2 2) p1) (short 3 67)
@@ -153,9 +159,9 @@ p2-puts : puts (played (bench 2 2) p1) ≡ 3
 unfolding bench p1 does played freshOf beginOf stepOf validOf lineStep zeros wordAt setWord offsetAt lengthAt sizeAt gathered wordIn withWord if_then_else_ _and_ _or_
 p2-puts = refl
 
-p2-few : (d : ℕ) → d ≤ 3 → Few (bench 2 2 .bench .kind) (bench 2 2 .bench .width) d
+p2-few : (d : ℕ) → d ≤ 3 → Few (bench 2 2 .bench .kind) (tagBits (bench 2 2 .bench)) d
 unfolding bench freshOf zeros if_then_else_ _and_ _or_
-p2-few d h = let z : d < 4 = omega arith in z
+p2-few d h = λ some. let z : d < 4 = omega arith in z
 
 pub p2-keeps-premise : FewPuts (bench 2 2) p1
 p2-keeps-premise i l j x a =
@@ -237,6 +243,7 @@ false-empty D = go (D .none-left 39 0 refl)
 unfoldable pub does2 : Call → List Call
 does2 (begin i op) = begin i op ∷ replicate 6 (step i)
 does2 (step i) = step i ∷ []
+does2 (dropLink i) = dropLink i ∷ []
 
 unfoldable pub bench2 : World
 bench2 = freshOf (setup 1 1 2 3 2) (replicate 18 0) (replicate 64 0) .world

@@ -1,3 +1,4 @@
 pub mod Examples
 pub mod OrderExamples
 pub mod ListingExamples
+pub mod LinkedExamples

@@ -16,7 +16,7 @@ use Rattle.model.specs.Calls.{freshOf, setup, beginOf, stepOf, begin, step}
 use Rattle.model.specs.Run.{after}
 use Rattle.model.specs.Listing.{D, H, R}
 use Rattle.order.specs.Listings.{plays, badLine, endLine, stepItems, callsIn, itemsOf, shows}
-use Rattle.examples.proofs.Examples.{bench, does, p1}
+use Rattle.examples.proofs.Examples.{bench, benchOf, does, p1}
 
 -- the lines of P1 behind its `queue`
 abbrev lines : List Command
@@ -27,6 +27,11 @@ lines =
 pub p1-calls : callsIn (itemsOf (bench 1 2) lines) ≡ p1
 unfolding callsIn itemsOf stepItems bench does p1 after freshOf beginOf stepOf validOf lineStep zeros wordAt setWord offsetAt lengthAt sizeAt gathered wordIn withWord if_then_else_ _and_ _or_
 p1-calls = refl
+
+-- and of kind 4 the same
+pub linked-calls : callsIn (itemsOf (benchOf 4) lines) ≡ p1
+unfolding callsIn itemsOf stepItems benchOf does p1 after freshOf beginOf stepOf validOf lineStep zeros wordAt setWord offsetAt lengthAt sizeAt gathered wordIn withWord if_then_else_ _and_ _or_
+linked-calls = refl
 
 -- a put is over with its fifth step, and the sixth is refused: no seventh is played. A second `queue` and a line of no form make no
 -- call, and what follows `end` is not played

@@ -17,7 +17,7 @@ pub record Bounds (W : World) : Type 0 where
 pub bounds-of : (W : World) → validOf W ≡ true → Bounds W
 unfolding validOf
 bounds-of W v =
-    let words = and-right _ _ v in
+    let words = and-right _ _ (and-right _ _ v) in
     let crew = and-right _ _ words in
     let log = and-right _ _ (and-right _ _ crew) in
     let used = and-right _ _ (and-right _ _ log) in

@@ -3,3 +3,4 @@ pub mod Directory
 pub mod Crew
 pub mod Bounds
 pub mod Lengths
+pub mod Held

@@ -12,8 +12,8 @@ use Rattle.model.specs.declared.Worker.{Worker}
 use Rattle.model.specs.declared.Bench.{Bench}
 use Rattle.model.specs.Tests.{if_then_else_, _and_}
 use Rattle.model.specs.Lines.{size}
-use Rattle.model.specs.World.{lineAt, isIdle}
-use Rattle.model.specs.Limits.{isSize, anchorOk, numberOk, ownerOk, thiefOk, thievesOk}
+use Rattle.model.specs.World.{tagBits, lineAt, isIdle}
+use Rattle.model.specs.Limits.{isSize, anchorOk, numberOk, linksOk, ownerOk, thiefOk, thievesOk}
 use Rattle.ranges.specs.Doubles.{Doubles}
 use Rattle.limits.specs.declared.Scope.{Scope}
 
@@ -43,8 +43,10 @@ workersOk κ w v q n l (suc k) = ownerOk κ w v q (lineAt l 0) and thievesOk κ 
 -- the limits that follow those on the directory and the lent memory
 abbrev pub contentsOk : Bench → Bool
 contentsOk b =
-    anchorOk (b .kind) (b .width) (size (b .words) (b .queue)) (b .queue .anchor)
-    and numberOk (b .used) and workersOk (b .kind) (b .width) (b .words) (b .queue) (b .crew) (b .workers) 8
+    anchorOk (b .kind) (tagBits b) (size (b .words) (b .queue)) (b .queue .anchor)
+    and numberOk (b .used)
+    and linksOk (b .kind) (b .queue) (b .workers) 8
+    and workersOk (b .kind) (tagBits b) (b .words) (b .queue) (b .crew) (b .workers) 8
 
 -- S tells of the queue q what a line's limits ask
 abbrev pub Scoped : Scope → Queue → Type 0

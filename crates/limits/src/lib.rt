@@ -1,7 +1,7 @@
 // The state limits of refusal 12, as code of early returns: `valid` is true of exactly the states that
 // the definitions take for no foreign ones. A foreign state holds any 32-bit values, so each limit is
 // tested before a later test counts on it, and a sum of two free values is worked out in 64 bits.
-// Uses `model`, `stages`, `admission` and `ranges`. It is used by `opening` and `queues`, and by proofs of `machine` and `listing`.
+// Uses `model`, `anchors`, `stages`, `admission` and `ranges`. It is used by `opening` and `queues`, and by proofs of `machine` and `listing`.
 ghost use mathlib.Core.Path.{_≡_};
 ghost use mathlib.Core.Bool.{false};
 ghost use Prim.Native.Nat.{_+_, _*_, _≤_, _<_};
@@ -12,10 +12,11 @@ ghost use Rattle.model.specs.Tests.{if_then_else_, _and_};
 ghost use Rattle.model.specs.Memory.{nowhere, sizeAt};
 ghost use Rattle.model.specs.Lines.{size};
 ghost use Rattle.model.specs.World.{isIdle, isExpanding};
-ghost use Rattle.model.specs.Limits.{tidy, taken, directoryOk, validOf};
+ghost use Rattle.model.specs.Limits.{tidy, taken, directoryOk, kindOk, linkOk, linksOk, validOf};
 ghost use Rattle.model.specs.Calls.{lent};
 ghost use Rattle.ranges.specs.Doubles.{Doubles};
 ghost use Rattle.limits.specs.Parts.{tasksIn, startsOk, followsOk, memberOk, workersOk, contentsOk, Scoped};
+use model::Anchor;
 use model::Bench;
 use model::Kind;
 use model::Line;
@@ -195,17 +196,17 @@ fn busy_ok(scope: Scope, worker: u32, own: Worker) -> bool
 
 // The eight workers, each by a number that is a constant: an index that varies would have all eight copied. Most are idle and
 // pass at once, and only the record of one that is not is copied.
-fn workers_ok(bench: Bench, first: u32, tasks: u32) -> bool
-    requires { ⌜ (bench .width ≤ 16) × (bench .words ≤ 4) ⌝ }
+fn workers_ok(bench: Bench, bits: u32, first: u32, tasks: u32) -> bool
+    requires { ⌜ (bits ≤ 16) × (bench .words ≤ 4) ⌝ }
     requires { ⌜ bench .queue .published ≤ 11 ⌝ }
     requires { ⌜ Doubles (bench .words) (bench .queue) first ⌝ }
     requires { ⌜ tasks ≡ size (bench .words) (bench .queue) ⌝ }
     requires { ⌜ 0 < bench .crew ⌝ }
-    ensures { λ r. ⌜ r ≡ workersOk (bench .kind) (bench .width) (bench .words) (bench .queue) (bench .crew) (bench .workers) 8 ⌝ }
+    ensures { λ r. ⌜ r ≡ workersOk (bench .kind) bits (bench .words) (bench .queue) (bench .crew) (bench .workers) 8 ⌝ }
 {
     let scope = Scope {
         kind: bench.kind,
-        width: bench.width,
+        width: bits,
         words: bench.words,
         crew: bench.crew,
         published: bench.queue.published,
@@ -239,7 +240,41 @@ fn workers_ok(bench: Bench, first: u32, tasks: u32) -> bool
     true
 }
 
-// The anchor, the numbers given out and the workers, over a directory that is in order.
+// A link is held from line 1 of a linked queue's steal on, and only while the anchor is as it was read.
+fn link_ok(kind: Kind, linked: bool, anchor: Anchor, own: Worker) -> bool
+    ensures { λ r. ⌜ ((q : Queue) → q .linked ≡ linked → q .anchor ≡ anchor → r ≡ linkOk kind q (own .line)) ⌝ }
+{
+    let line = own.line;
+    if !linked {
+        return false;
+    }
+    if stages::stage(line) != 5 {
+        return false;
+    }
+    let read = stages::read_by(line);
+    anchors::is_same(kind, anchor, read)
+}
+
+// The links that are held.
+fn links_ok(bench: Bench) -> bool
+    ensures { λ r. ⌜ r ≡ linksOk (bench .kind) (bench .queue) (bench .workers) 8 ⌝ }
+{
+    let kind = bench.kind;
+    let queue = bench.queue;
+    let linked = queue.linked;
+    let anchor = queue.anchor;
+    let links = queue.links;
+    let mut k: usize = 0;
+    while k < 8 {
+        if links[k] && !link_ok(kind, linked, anchor, bench.workers[k]) {
+            return false;
+        }
+        k += 1;
+    }
+    true
+}
+
+// The anchor, the numbers given out, the links and the workers, over a directory that is in order.
 fn contents_ok(bench: Bench) -> bool
     requires { ⌜ (bench .width ≤ 16) × (bench .words ≤ 4) ⌝ }
     requires { ⌜ (0 < bench .queue .published) × (bench .queue .published ≤ 11) ⌝ }
@@ -248,18 +283,32 @@ fn contents_ok(bench: Bench) -> bool
     ensures { λ r. ⌜ r ≡ contentsOk bench ⌝ }
 {
     let kind = bench.kind;
-    let width = bench.width;
     let queue = bench.queue;
     let anchor = queue.anchor;
+    let bits = stages::tag_bits(queue.linked, bench.width);
     let current = queue.published - 1;
     let tasks = queue.initial << current;
-    if !ranges::anchor_ok(kind, width, tasks, anchor) {
+    if !ranges::anchor_ok(kind, bits, tasks, anchor) {
         return false;
     }
     if !ranges::number_ok(bench.used) {
         return false;
     }
-    workers_ok(bench, queue.initial, tasks)
+    if !links_ok(bench) {
+        return false;
+    }
+    workers_ok(bench, bits, queue.initial, tasks)
+}
+
+// A FIFO queue is not linked.
+fn kind_ok(kind: Kind, linked: bool) -> bool
+    ensures { λ r. ⌜ r ≡ kindOk kind linked ⌝ }
+{
+    match kind {
+        Kind::Lifo => true,
+        Kind::Fifo => !linked,
+        Kind::Deque => true,
+    }
 }
 
 // The state, with the lengths of its lent memory, is no foreign one.
@@ -269,6 +318,10 @@ pub fn valid(bench: Bench, store: &[u32], log: &[u32]) -> bool
     let queue = bench.queue;
     let owner = bench.workers[0];
     let line = owner.line;
+    let kind = bench.kind;
+    if !kind_ok(kind, queue.linked) {
+        return false;
+    }
     if !admission::width_ok(bench.width) {
         return false;
     }

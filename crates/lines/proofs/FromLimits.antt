@@ -1,6 +1,6 @@
 -- The limits give what a line needs: in a valid state each worker of the crew can do its line, and what it reads and writes
 -- lies in the store.
-use mathlib.Core.Bool.{true}
+use mathlib.Core.Bool.{true, not}
 use mathlib.Core.Path.{_≡_, refl, sym, subst, _∙_}
 use mathlib.Core.Logic.{_⊎_, inl, inr}
 use mathlib.Core.List.{List}
@@ -45,8 +45,8 @@ use Rattle.model.specs.declared.Bench.{Bench}
 use Rattle.model.specs.Tests.{_and_, _or_}
 use Rattle.model.specs.Memory.{sizeAt}
 use Rattle.model.specs.Figures.{slot, putIndex, takeIndex, stealIndex}
-use Rattle.model.specs.Lines.{len, size}
-use Rattle.model.specs.World.{World, lineAt, stage, isExpanding, isThiefs}
+use Rattle.model.specs.Lines.{len, size, holdsLink}
+use Rattle.model.specs.World.{World, tagBits, lineAt, stage, isPast1, isExpanding, isThiefs}
 use Rattle.model.specs.Limits.{
   widthOk,
   wordsOk,
@@ -62,6 +62,8 @@ use Rattle.model.specs.Limits.{
   lineOk,
   ownerOk,
   thiefOk,
+  linkOk,
+  linksOk,
   thievesOk,
   validOf,
 }
@@ -78,9 +80,10 @@ pub record Limits (b : Bench) (m : List ℕ) : Type 0 where
   pub words : wordsOk (b .words) ≡ true
   pub crew : crewOk (b .crew) ≡ true
   pub directory : directoryOk (b .words) (b .queue) m (lineAt (b .workers) 0) ≡ true
-  pub anchor : anchorOk (b .kind) (b .width) (size (b .words) (b .queue)) (b .queue .anchor) ≡ true
-  pub owner : ownerOk (b .kind) (b .width) (b .words) (b .queue) (lineAt (b .workers) 0) ≡ true
-  pub thieves : thievesOk (b .kind) (b .width) (b .words) (b .queue) (b .crew) (b .workers) 7 ≡ true
+  pub anchor : anchorOk (b .kind) (tagBits b) (size (b .words) (b .queue)) (b .queue .anchor) ≡ true
+  pub links : linksOk (b .kind) (b .queue) (b .workers) 8 ≡ true
+  pub owner : ownerOk (b .kind) (tagBits b) (b .words) (b .queue) (lineAt (b .workers) 0) ≡ true
+  pub thieves : thievesOk (b .kind) (tagBits b) (b .words) (b .queue) (b .crew) (b .workers) 7 ≡ true
 
 pub limits-of : (W : World) → validOf W ≡ true → Limits (W .bench) (W .store)
 unfolding validOf
@@ -92,14 +95,17 @@ limits-of W v =
     let v5 = and-right _ _ v4 in
     let v6 = and-right _ _ v5 in
     let v7 = and-right _ _ v6 in
+    let v8 = and-right _ _ v7 in
+    let v9 = and-right _ _ v8 in
     record {
-      width = and-left _ _ v;
-      words = and-left _ _ v1;
-      crew = and-left _ _ v2;
-      directory = and-left _ _ v3;
-      anchor = and-left _ _ v5;
-      owner = and-left _ _ v7;
-      thieves = and-right _ _ v7;
+      width = and-left _ _ v1;
+      words = and-left _ _ v2;
+      crew = and-left _ _ v3;
+      directory = and-left _ _ v4;
+      anchor = and-left _ _ v6;
+      links = and-left _ _ v8;
+      owner = and-left _ _ v9;
+      thieves = and-right _ _ v9;
     }
 
 -- the anchor read, by the kind
@@ -277,11 +283,27 @@ thief-of κ w v q n l (suc k) i t h c =
         (sym (if-true _ (lt-ltb (suc k) n (omega (arith, e, c)))) ∙ and-right _ _ t)
     go (inr j) f = f (omega (arith, j))
 
+-- worker i's link
+link-of : (κ : Kind) (q : Queue) (l : List Worker) (k i : ℕ) → linksOk κ q l k ≡ true → i < k → holdsLink q i ≡ true
+    → (q .linked ≡ true) × (isPast1 (lineAt l i) ≡ true)
+unfolding _or_
+link-of κ q l zero i t h e = absurd (omega arith)
+link-of κ q l (suc k) i t h e = go (eq-or-lt-of-le h) (λ j. link-of κ q l k i (and-left _ _ t) j e)
+  where
+    go : (suc i ≡ suc k) ⊎ (suc i < suc k) → (i < k → (q .linked ≡ true) × (isPast1 (lineAt l i) ≡ true)) → (q .linked ≡ true) × (isPast1 (lineAt l i) ≡ true)
+    go (inl x) f =
+        let same : k ≡ i = omega (arith, x) in
+        held (subst (λ (j : ℕ). (not (holdsLink q j) or linkOk κ q (lineAt l j)) ≡ true) same (and-right _ _ t))
+      where
+        held : (not (holdsLink q i) or linkOk κ q (lineAt l i)) ≡ true → (q .linked ≡ true) × (isPast1 (lineAt l i) ≡ true)
+        held y = let z : linkOk κ q (lineAt l i) ≡ true = rw e at y in (and-left _ _ z, and-left _ _ (and-right _ _ z))
+    go (inr j) f = f (omega (arith, j))
+
 -- the anchor now, and the directory, of a valid state
 module _ (W : World) (v : validOf W ≡ true) where
   anchored : Within (W .bench .kind) (size (W .bench .words) (W .bench .queue)) (W .bench .queue .anchor)
   anchored =
-      now-read (W .bench .kind) (W .bench .width) (size (W .bench .words) (W .bench .queue)) (W .bench .queue .anchor) (limits-of W v .anchor)
+      now-read (W .bench .kind) (tagBits (W .bench)) (size (W .bench .words) (W .bench .queue)) (W .bench .queue .anchor) (limits-of W v .anchor)
 
   arrayed : Arrays (W .bench .words) (W .bench .queue) (length (W .store)) (lineAt (W .bench .workers) 0)
   arrayed = arrays-of (W .bench .words) (W .bench .queue) (W .store) (lineAt (W .bench .workers) 0) (limits-of W v .directory)
@@ -290,13 +312,18 @@ module _ (W : World) (v : validOf W ≡ true) where
   pub narrow-of-valid : W .bench .width ≤ 16
   narrow-of-valid = leb-true _ _ (and-right _ _ (limits-of W v .width))
 
+  -- a link is held in a linked queue, past line 1 of a steal
+  pub link-of-valid : (i : ℕ) → i < 8 → holdsLink (W .bench .queue) i ≡ true
+      → (W .bench .queue .linked ≡ true) × (isPast1 (lineAt (W .bench .workers) i) ≡ true)
+  link-of-valid i h e = link-of (W .bench .kind) (W .bench .queue) (W .bench .workers) 8 i (limits-of W v .links) h e
+
   pub wide-of-valid : Wide (W .bench .words)
   wide-of-valid = (ltb-true _ _ (and-left _ _ (limits-of W v .words)), leb-true _ _ (and-right _ _ (limits-of W v .words)))
 
   pub ground-of-valid : Ground (W .bench .words) (W .bench .queue) (length (W .store))
   ground-of-valid =
       let b = W .bench in
-      let h = here (b .kind) (b .width) (b .words) (b .queue) (length (W .store)) (lineAt (b .workers) 0) arrayed in
+      let h = here (b .kind) (tagBits b) (b .words) (b .queue) (length (W .store)) (lineAt (b .workers) 0) arrayed in
       let r = in-range (b .kind) (size (b .words) (b .queue)) (b .queue .anchor) (h .small) anchored in
       let most = most-words (b .words) (size (b .words) (b .queue)) (wide-of-valid .1) (h .small) in
       let brief : len (b .queue) ≤ 5120 = omega (arith, h .long, most) in
@@ -315,14 +342,14 @@ module _ (W : World) (v : validOf W ≡ true) where
 
   -- the line of a worker of the crew is in the limits, and of the expansion's lines only the owner's
   line-ok : (i : ℕ) → i < W .bench .crew
-      → (lineOk (W .bench .kind) (W .bench .width) (W .bench .words) (W .bench .queue) (lineAt (W .bench .workers) i) ≡ true)
+      → (lineOk (W .bench .kind) (tagBits (W .bench)) (W .bench .words) (W .bench .queue) (lineAt (W .bench .workers) i) ≡ true)
       × (isExpanding (lineAt (W .bench .workers) i) ≡ true → isExpanding (lineAt (W .bench .workers) 0) ≡ true)
   line-ok zero c = (and-right _ _ (limits-of W v .owner), λ x. x)
   line-ok (suc i) c =
       let b = W .bench in
       let n : W .bench .crew ≤ 8 = leb-true _ _ (and-right _ _ (limits-of W v .crew)) in
       let s = limits-of W v .thieves in
-      let t = thief-of (b .kind) (b .width) (b .words) (b .queue) (b .crew) (b .workers) 7 i s (omega (arith, n, c)) c in
+      let t = thief-of (b .kind) (tagBits b) (b .words) (b .queue) (b .crew) (b .workers) 7 i s (omega (arith, n, c)) c in
       (and-right _ _ t, λ x. absurd (thief-not (lineAt (b .workers) (suc i)) (and-left _ _ t) x))
 
   -- what the line of worker i needs
@@ -330,5 +357,5 @@ module _ (W : World) (v : validOf W ≡ true) where
       → Ready (W .bench .kind) (W .bench .words) (W .bench .queue) (length (W .store)) (lineAt (W .bench .workers) i)
   ready-of-valid i c =
       let b = W .bench in
-      ready (b .kind) (b .width) (b .words) (b .queue) (length (W .store)) (lineAt (b .workers) 0) arrayed (lineAt (b .workers) i)
+      ready (b .kind) (tagBits b) (b .words) (b .queue) (length (W .store)) (lineAt (b .workers) 0) arrayed (lineAt (b .workers) i)
       (ordered (b .kind) (size (b .words) (b .queue)) (b .queue .anchor) anchored) (line-ok i c .1) (line-ok i c .0)

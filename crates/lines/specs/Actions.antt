@@ -49,11 +49,13 @@ use Rattle.lines.specs.declared.Action.the-variants.{Nothing, Fails, Wor
 abbrev pub withArray : Queue → ℕ → ℕ → Queue
 withArray q a z =
     record {
+      linked = q .linked;
       anchor = q .anchor;
       arrays = set (q .arrays) (q .published) (record { offset = a; length = z });
       published = q .published;
       claimed = q .published + 1;
       initial = q .initial;
+      links = q .links;
     }
 
 -- what an action leaves of the queue

@@ -10,8 +10,7 @@ ghost use Rattle.model.specs.declared.Line.{Line};
 ghost use Rattle.model.specs.declared.Line.the-variants.{TakeWord, StealWord};
 ghost use Rattle.model.specs.declared.Queue.{Queue};
 ghost use Rattle.model.specs.Tasks.{noTask};
-ghost use Rattle.model.specs.Lines.{unlessEmpty, compares, claims, lineStep, failsCompare};
-ghost use Rattle.model.specs.Figures.{isSame};
+ghost use Rattle.model.specs.Lines.{unlessEmpty, succeeds, compares, claims, lineStep, failsCompare};
 ghost use Rattle.model.specs.Limits.{someOk};
 ghost use Rattle.slots.specs.Bounds.{Sized, Small};
 ghost use Rattle.lines.specs.Actions.{effectBy, failsBy, Doable, Ground, Ready, Range, Free};
@@ -84,12 +83,30 @@ fn stop_empty(kind: Kind, worker: u32, read: Anchor) -> Action
     }
 }
 
-// The compare: idle, or back to line 1.
-fn past_compare(kind: Kind, anchor: Anchor, read: Anchor) -> Line
-    ensures { λ r. ⌜ ((q : Queue) (m : List ℕ) (i e : ℕ) (t : Task) → q .anchor ≡ anchor → r ≡ compares kind q m i read e t .line) ⌝ }
+// The compare finds the anchor as it was read; in a linked queue it is a store, and succeeds if the link is held.
+fn succeeds(kind: Kind, queue: Queue, worker: u32, read: Anchor) -> bool
+    ensures { λ r. ⌜ r ≡ succeeds kind queue worker read ⌝ }
 {
-    let same = anchors::is_same(kind, anchor, read);
-    if same { Line::Idle } else { Line::StealRead }
+    if queue.linked {
+        if 8 <= worker {
+            return false;
+        }
+        let i = worker as usize;
+        return queue.links[i];
+    }
+    let anchor = queue.anchor;
+    anchors::is_same(kind, anchor, read)
+}
+
+// The compare: idle, or back to line 1.
+fn past_compare(kind: Kind, queue: Queue, worker: u32, read: Anchor) -> Line
+    ensures { λ r. ⌜ ((m : List ℕ) (e : ℕ) (t : Task) → r ≡ compares kind queue m worker read e t .line) ⌝ }
+{
+    if succeeds(kind, queue, worker, read) {
+        Line::Idle
+    } else {
+        Line::StealRead
+    }
 }
 
 // The compare: the task is handed out, or it fails.
@@ -98,11 +115,10 @@ fn compare(kind: Kind, queue: Queue, worker: u32, read: Anchor, next: u32, task:
     requires { ⌜ someOk kind read ≡ true ⌝ }
     ensures { λ r. ⌜ ((v : ℕ) (m : List ℕ) → effectBy v queue m (compares kind queue m worker read next task .line) r ≡ compares kind queue m worker read next task) ⌝ }
     ensures { λ r. ⌜ ((v n : ℕ) → Doable v queue n r) ⌝ }
-    ensures { λ r. ⌜ failsBy r ≡ not (isSame kind (queue .anchor) read) ⌝ }
+    ensures { λ r. ⌜ failsBy r ≡ not (succeeds kind queue worker read) ⌝ }
 {
-    let anchor = queue.anchor;
-    let same = anchors::is_same(kind, anchor, read);
-    if same {
+    if succeeds(kind, queue, worker, read) {
+        let anchor = queue.anchor;
         let left = anchors::after_steal(kind, anchor, read, next);
         Action::Ends {
             anchor: left,
@@ -156,10 +172,17 @@ fn claim(queue: Queue, store: &[u32], worker: u32, task: Task) -> Action
 
 // The line that a worker comes to by doing `line`; idle, where it ends the operation. Beside each case: its number in figures 1
 // and 3, then in figure 2.
-pub fn next_line(kind: Kind, words: u32, queue: Queue, store: &[u32], line: Line) -> Line
+pub fn next_line(
+    kind: Kind,
+    words: u32,
+    queue: Queue,
+    store: &[u32],
+    worker: u32,
+    line: Line,
+) -> Line
     requires { ⌜ Ground words queue (length (now store)) ⌝ }
     requires { ⌜ Ready kind words queue (length (now store)) line ⌝ }
-    ensures { λ r. ⌜ ((w i : ℕ) → r ≡ lineStep kind w words queue (now (store .entry)) i line .line) ⌝ }
+    ensures { λ r. ⌜ ((w : ℕ) → r ≡ lineStep kind w words queue (now (store .entry)) worker line .line) ⌝ }
 {
     let anchor = queue.anchor;
     let here = queue.published - 1;
@@ -251,7 +274,7 @@ pub fn next_line(kind: Kind, words: u32, queue: Queue, store: &[u32], line: Line
             read,
             next: _,
             task: _,
-        } => past_compare(kind, anchor, read),
+        } => past_compare(kind, queue, worker, read),
     }
 }
 
@@ -270,7 +293,7 @@ pub fn decide(
     requires { ⌜ Ready kind words queue (length (now store)) line ⌝ }
     ensures { λ r. ⌜ effectBy words queue (now (store .entry)) (lineStep kind width words queue (now (store .entry)) worker line .line) r ≡ lineStep kind width words queue (now (store .entry)) worker line ⌝ }
     ensures { λ r. ⌜ Doable words queue (length (now (store .entry))) r ⌝ }
-    ensures { λ r. ⌜ failsBy r ≡ failsCompare kind (queue .anchor) line ⌝ }
+    ensures { λ r. ⌜ failsBy r ≡ failsCompare kind queue worker line ⌝ }
 {
     let anchor = queue.anchor;
     let here = queue.published - 1;

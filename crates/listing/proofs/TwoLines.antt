@@ -1,7 +1,7 @@
 -- A `step` line prints at most two lines: an operation ends once, and then its worker is idle, so that the next step is refused.
 use Prim.Native.Nat.{ℕ, zero, suc, _+_, _≤_}
 use native.Mathlib.Omega.{arith}
-use mathlib.Core.Path.{_≡_, refl, ap, sym, _∙_}
+use mathlib.Core.Path.{_≡_, refl, ap, _∙_}
 use mathlib.Core.Bool.{Bool, true, false}
 use mathlib.Core.List.{List, [], _++_}
 use mathlib.Core.Logic.{_⊎_, inl, inr, ⊎-elim}
@@ -9,21 +9,18 @@ use lib.Dec.{ltb}
 use lib.ListN.{length, set, length-append, List·getD-eq-default}
 use lib.Seq.{getD-set-same, set-out}
 use borrow.Author.Tests.{ltb-true, ltb-false}
-use Rattle.model.specs.declared.Kind.{Kind}
 use Rattle.model.specs.declared.Line.{Line}
-use Rattle.model.specs.declared.Line.the-variants.{Idle, PutRead, PutTail, PutTest, PutWord, PutFinish, Claim, Note, Copy, Publish, TakeRead, TakeTail, TakeTest, TakeWord, TakeFinish, StealRead, StealTail, StealTest, StealNote, StealWord, StealNext, StealCompare}
 use Rattle.model.specs.declared.Worker.{Worker}
-use Rattle.model.specs.declared.Queue.{Queue}
 use Rattle.model.specs.declared.Answer.{Answer}
 use Rattle.model.specs.declared.Answer.the-variants.{Accepted, Numbered, GoesOn, Finished, HandedOut, Empty, Full, Refused}
 use Rattle.model.specs.Tests.{if_then_else_}
 use Rattle.model.specs.Answers.{ends}
-use Rattle.model.specs.Lines.{Effect, lineStep, fits}
-use Rattle.model.specs.Figures.{isEmpty, isSame}
+use Rattle.model.specs.Lines.{Effect}
 use Rattle.model.specs.World.{World, Outcome, lineAt, isIdle, resting, refuse}
 use Rattle.model.specs.Limits.{validOf}
 use Rattle.model.specs.Calls.{stepOf, stepped, commit, noRoom, nextEffect}
 use Rattle.model.specs.Listing.{Print, printed, printedBy, isRefused, response, showing, stepsOf}
+use Rattle.model.proofs.Attempts.{rests}
 use Rattle.replies.specs.Shown.{shownAll}
 use Rattle.replies.proofs.Ways.{either, never}
 use Rattle.replies.proofs.Shows.{answer-most, show-none, show-append}
@@ -31,31 +28,6 @@ use Rattle.replies.proofs.Shows.{answer-most, show-none, show-append}
 -- a line that ends its operation leaves the worker idle
 abbrev Rests : Effect → Type 0
 Rests E = ends (E .answer) ≡ true → isIdle (E .line) ≡ true
-
-rests : (κ : Kind) (w v : ℕ) (q : Queue) (m : List ℕ) (i : ℕ) (l : Line) → Rests (lineStep κ w v q m i l)
-unfolding lineStep
-rests κ w v q m i Idle = λ e. refl
-rests κ w v q m i (PutRead t) = λ e. never (sym e)
-rests κ w v q m i (PutTail t h) = λ e. never (sym e)
-rests κ w v q m i (PutTest t r) = λ e. never (sym e)
-rests κ w v q m i (PutWord t r j) = λ e. never (sym e)
-rests κ w v q m i (PutFinish t r) = λ e. refl
-rests κ w v q m i (Claim t) = either Rests (fits v q m) _ _ (λ e. never (sym e)) (λ e. refl)
-rests κ w v q m i (Note t) = λ e. never (sym e)
-rests κ w v q m i (Copy t h n k) = λ e. never (sym e)
-rests κ w v q m i (Publish t) = λ e. never (sym e)
-rests κ w v q m i TakeRead = λ e. never (sym e)
-rests κ w v q m i (TakeTail h) = λ e. never (sym e)
-rests κ w v q m i (TakeTest r) = either Rests (isEmpty κ r) _ _ (λ e. refl) (λ e. never (sym e))
-rests κ w v q m i (TakeWord r t j) = λ e. never (sym e)
-rests κ w v q m i (TakeFinish r t) = λ e. refl
-rests κ w v q m i StealRead = λ e. never (sym e)
-rests κ w v q m i (StealTail h) = λ e. never (sym e)
-rests κ w v q m i (StealTest r) = either Rests (isEmpty κ r) _ _ (λ e. refl) (λ e. never (sym e))
-rests κ w v q m i (StealNote r) = λ e. never (sym e)
-rests κ w v q m i (StealWord r k t j) = λ e. never (sym e)
-rests κ w v q m i (StealNext r t) = λ e. never (sym e)
-rests κ w v q m i (StealCompare r e t) = either Rests (isSame κ (q .anchor) r) _ _ (λ f. refl) (λ f. never (sym f))
 
 -- a record that is written is read again; a worker outside the list is idle
 set-idle : (l : List Worker) (i : ℕ) (x : Line) → isIdle x ≡ true → isIdle (lineAt (set l i (record { line = x })) i) ≡ true

@@ -1,5 +1,5 @@
 -- A step past the test of the limits, by how it goes.
-use mathlib.Core.Bool.{true, false}
+use mathlib.Core.Bool.{true, false, true≢false}
 use mathlib.Core.List.{List, [], _∷_}
 use mathlib.Core.Path.{_≡_, refl, sym, ap, subst, _∙_}
 use Prim.Native.Nat.{ℕ, _<_}
@@ -9,6 +9,7 @@ use borrow.Author.Tests.{lt-ltb}
 use denote.Enum.Declared.{tagOf}
 use types.Run.{OneOf, miss}
 use Rattle.model.specs.declared.Line.{Line}
+use Rattle.model.specs.declared.Line.the-variants.{StealRead}
 use Rattle.model.specs.declared.Bench.{Bench}
 use Rattle.model.specs.declared.Queue.{Queue}
 use Rattle.model.specs.declared.Refusal.{Refusal}
@@ -17,14 +18,16 @@ use Rattle.model.specs.declared.Answer.{Answer}
 use Rattle.model.specs.declared.Answer.the-variants.{Accepted, Numbered, GoesOn, Finished, HandedOut, Empty, Full, Refused}
 use Rattle.model.specs.Answers.{ends}
 use Rattle.model.specs.Listing.{isRefused}
-use Rattle.model.specs.Lines.{lineStep, failsCompare}
+use Rattle.model.specs.Tests.{_and_}
+use Rattle.model.specs.Lines.{Effect, eff, holdsLink, lineStep, failsCompare}
 use Rattle.model.specs.Limits.{validOf}
-use Rattle.model.specs.World.{World, Outcome, refuse, lineAt, isIdle}
+use Rattle.model.specs.World.{World, Outcome, refuse, tagBits, lineAt, isIdle, isSteal1, isPast1}
 use Rattle.model.specs.Calls.{lent, oneMore, commit, stepIn}
-use Rattle.model.proofs.Tests.{if-true, if-false}
+use Rattle.model.proofs.Tests.{if-true, if-false, and-right}
+use Rattle.model.proofs.Attempts.{rests, stays, starts, only-first, idle-not, wins}
 use Rattle.lines.specs.declared.Action.{Action}
-use Rattle.lines.specs.Actions.{storeBy, failsBy, effectBy, Doable, Ready}
-use Rattle.lines.proofs.FromLimits.{narrow-of-valid, ground-of-valid, ready-of-valid}
+use Rattle.lines.specs.Actions.{queueBy, storeBy, answerBy, failsBy, effectBy, Doable, Ready}
+use Rattle.lines.proofs.FromLimits.{narrow-of-valid, ground-of-valid, ready-of-valid, link-of-valid}
 use Rattle.limits.proofs.Bounds.{bounds-of}
 use Rattle.state.specs.declared.Returned.{Returned}
 use Rattle.state.specs.Outcomes.{returned}
@@ -32,7 +35,7 @@ use Rattle.machine.specs.declared.Made.{Made}
 use Rattle.machine.specs.declared.Made.the-variants as made
 use Rattle.machine.specs.Steps.{moves, benchAfter, answerAfter, movedBy, actedBy, logAfter, Fits, Steppable}
 use Rattle.machine.proofs.Made.{the-type}
-use Rattle.machine.proofs.Moves.{acted}
+use Rattle.machine.proofs.Moves.{Leads, acted, linked-line}
 
 -- in a state within the limits every worker can be stepped; k is the place of worker i's record, if there is such a worker
 pub steppable : (W : World) (i k : ℕ) → validOf W ≡ true → (i < 8 → k ≡ i)
@@ -44,6 +47,10 @@ steppable W i k v at = record {
   ready = λ h.
       subst (λ (j : ℕ). Ready (W .bench .kind) (W .bench .words) (W .bench .queue) (length (W .store)) (lineAt (W .bench .workers) j))
       (sym (at (omega (arith, h, bounds-of W v .crew)))) (ready-of-valid W v i h);
+  held = λ h e.
+      let small : i < 8 = omega (arith, h, bounds-of W v .crew) in
+      let L = link-of-valid W v i small e in
+      (L .0, subst (λ (j : ℕ). isPast1 (lineAt (W .bench .workers) j) ≡ true) (sym (at small)) (L .1));
 }
 
 pub same-moved : (b : Bench) (k : ℕ) (x : Line) {d e : Made} {m m2 l l2 : List ℕ} → d ≡ e → m ≡ m2 → l ≡ l2
@@ -55,18 +62,46 @@ module _ (b : Bench) (i : ℕ) (y : Line) (m l : List ℕ) (own : lineAt (b .wor
   pub idle-worker : isIdle y ≡ true → refuse (lent b m l) IdleWorker ≡ stepIn (lent b m l) i
   idle-worker f = sym (if-true _ (lt-ltb _ _ h) ∙ if-true _ (ap isIdle own ∙ f))
 
-  -- the line is done: x is the line that follows, d the action
-  pub line-done : (x : Line) (d : Action) → isIdle y ≡ false → Doable (b .words) (b .queue) (length m) d
-      → ((w j : ℕ) → x ≡ lineStep (b .kind) w (b .words) (b .queue) m j y .line)
-      → effectBy (b .words) (b .queue) m (lineStep (b .kind) (b .width) (b .words) (b .queue) m i y .line) d ≡ lineStep (b .kind) (b .width) (b .words) (b .queue) m i y
-      → failsBy d ≡ failsCompare (b .kind) (b .queue .anchor) y
-      → movedBy b i x (actedBy (b .words) (b .written) l d) (storeBy (b .words) m d) (logAfter (b .words) (b .written) l d) ≡ stepIn (lent b m l) i
-  line-done x d f safe next effect fails =
-      acted b i y x m l own d (length m) safe fails
-      ∙ ap (commit (lent b m l) i)
-      (ap (λ (z : Line). effectBy (b .words) (b .queue) m z d) (next (b .width) i)
-      ∙ effect ∙ ap (lineStep (b .kind) (b .width) (b .words) (b .queue) m i) (sym own))
-      ∙ sym (if-true _ (lt-ltb _ _ h) ∙ if-false _ (ap isIdle own ∙ f))
+  -- the line is done: x is the line that follows, d the action; or it links
+  module _ (held : holdsLink (b .queue) i ≡ true → (b .queue .linked ≡ true) × (isPast1 y ≡ true)) (x : Line)
+      (next : (w : ℕ) → x ≡ lineStep (b .kind) w (b .words) (b .queue) m i y .line) where
+    leads : (d : Action) → (b .queue .linked and isSteal1 y) ≡ false
+        → effectBy (b .words) (b .queue) m (lineStep (b .kind) (tagBits b) (b .words) (b .queue) m i y .line) d ≡ lineStep (b .kind) (tagBits b) (b .words) (b .queue) m i y
+        → failsBy d ≡ failsCompare (b .kind) (b .queue) i y → Leads (b .queue) i y x d
+    leads d plain effect fails = record {
+      held = λ e. held e .1;
+      plain = plain;
+      stays = λ p a f.
+          ap isPast1 (next (tagBits b)) ∙ stays (b .kind) (tagBits b) (b .words) (b .queue) m i y p (ap ends (sym answered) ∙ a) (sym fails ∙ f);
+      rests = λ a. ap isPast1 (next (tagBits b)) ∙ idle-not (lineStep (b .kind) (tagBits b) (b .words) (b .queue) m i y .line) (rests (b .kind) (tagBits b) (b .words) (b .queue) m i y (ap ends (sym answered) ∙ a));
+      fails = λ f e. absurd (true≢false (sym (sym fails ∙ f) ∙ wins (b .kind) (b .queue) i y (held e .0) e));
+    }
+      where
+        answered : answerBy d ≡ lineStep (b .kind) (tagBits b) (b .words) (b .queue) m i y .answer
+        answered = ap (λ (E : Effect). E .answer) effect
+
+    pub line-done : (d : Action) → isIdle y ≡ false → (b .queue .linked and isSteal1 y) ≡ false → Doable (b .words) (b .queue) (length m) d
+        → effectBy (b .words) (b .queue) m (lineStep (b .kind) (tagBits b) (b .words) (b .queue) m i y .line) d ≡ lineStep (b .kind) (tagBits b) (b .words) (b .queue) m i y
+        → failsBy d ≡ failsCompare (b .kind) (b .queue) i y
+        → movedBy b i x (actedBy (b .words) (b .written) l d) (storeBy (b .words) m d) (logAfter (b .words) (b .written) l d) ≡ stepIn (lent b m l) i
+    line-done d f plain safe effect fails =
+        acted b i y x m l own d (length m) safe fails (leads d plain effect fails)
+        ∙ ap (commit (lent b m l) i)
+        (ap (λ (z : Line). effectBy (b .words) (b .queue) m z d) (next (tagBits b))
+        ∙ effect ∙ ap (lineStep (b .kind) (tagBits b) (b .words) (b .queue) m i) (sym own))
+        ∙ sym (if-true _ (lt-ltb _ _ h) ∙ if-false _ (ap isIdle own ∙ f))
+
+    pub line-links : (b .queue .linked and isSteal1 y) ≡ true → movedBy b i x made.Links m l ≡ stepIn (lent b m l) i
+    unfolding lineStep queueBy storeBy answerBy
+    line-links e =
+        let first : y ≡ StealRead = only-first y (and-right (b .queue .linked) _ e) in
+        let effect : Line → Effect = lineStep (b .kind) (tagBits b) (b .words) (b .queue) m i in
+        linked-line b i y x m l own e (ap (failsCompare (b .kind) (b .queue) i) first)
+        (ap isPast1 (next (tagBits b) ∙ ap (λ (z : Line). effect z .line) first) ∙ starts (b .kind) (tagBits b) (b .words) (b .queue) m i)
+        ∙ ap (commit (lent b m l) i)
+        (ap (λ (z : Line). eff (b .queue) m z GoesOn) (next (tagBits b) ∙ ap (λ (z : Line). effect z .line) first)
+        ∙ sym (ap effect (own ∙ first)))
+        ∙ sym (if-true _ (lt-ltb _ _ h) ∙ if-false _ (ap isIdle (own ∙ first)))
 
 -- a step that is not refused, by the numbers of its cases, does not answer a refusal
 ends-not-refused : (x : Answer) → ends x ≡ true → isRefused x ≡ false
@@ -79,11 +114,12 @@ ends-not-refused (Empty i) e = refl
 ends-not-refused (Full i t) e = refl
 ends-not-refused (Refused r) e = cc e
 
-pub made-not-refused : (v : ℕ) (q : Queue) (k : ℕ) (d : Made) → Fits v q k d → OneOf (0 ∷ 2 ∷ 3 ∷ 4 ∷ 5 ∷ 6 ∷ []) (tagOf the-type d) → isRefused (answerAfter d) ≡ false
+pub made-not-refused : (v : ℕ) (q : Queue) (k : ℕ) (d : Made) → Fits v q k d → OneOf (0 ∷ 2 ∷ 3 ∷ 4 ∷ 5 ∷ 6 ∷ 7 ∷ []) (tagOf the-type d) → isRefused (answerAfter d) ≡ false
 unfolding Fits answerAfter
 made-not-refused v q k made.Nothing f h = refl
-made-not-refused v q k (made.Refused r) f h = absurd (miss (0 ∷ 2 ∷ 3 ∷ 4 ∷ 5 ∷ 6 ∷ []) 1 tt h)
+made-not-refused v q k (made.Refused r) f h = absurd (miss (0 ∷ 2 ∷ 3 ∷ 4 ∷ 5 ∷ 6 ∷ 7 ∷ []) 1 tt h)
 made-not-refused v q k made.Fails f h = refl
+made-not-refused v q k made.Links f h = refl
 made-not-refused v q k (made.Claims a z) f h = refl
 made-not-refused v q k made.Publishes f h = refl
 made-not-refused v q k (made.Stops y) f h = ends-not-refused y (f .1)

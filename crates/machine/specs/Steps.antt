@@ -1,6 +1,6 @@
 -- What a step leaves of the state, and what it needs.
 use mathlib.Core.Path.{_≡_}
-use mathlib.Core.Bool.{true}
+use mathlib.Core.Bool.{true, false}
 use mathlib.Core.List.{List}
 use Prim.Native.Nat.{ℕ, _+_, _≤_, _<_}
 use lib.ListN.{set}
@@ -15,9 +15,9 @@ use Rattle.model.specs.declared.Answer.the-variants.{GoesOn, Refused}
 use Rattle.model.specs.Tests.{if_then_else_}
 use Rattle.model.specs.Memory.{setAll}
 use Rattle.model.specs.Answers.{ends, entryOf, entryLength, entryWords}
-use Rattle.model.specs.Lines.{anchored, publishing}
-use Rattle.model.specs.World.{Outcome}
-use Rattle.model.specs.Calls.{lent, oneMore, logFull}
+use Rattle.model.specs.Lines.{anchored, publishing, holdsLink}
+use Rattle.model.specs.World.{Outcome, isPast1}
+use Rattle.model.specs.Calls.{lent, oneMore, logFull, linkSet}
 use Rattle.lines.specs.declared.Action.{Action}
 use Rattle.lines.specs.declared.Action.the-variants as action
 use Rattle.lines.specs.Actions.{withArray, Ground, Ready}
@@ -39,15 +39,17 @@ unfoldable pub benchAfter : Bench → ℕ → Line → Made → Bench
 benchAfter b i x made.Nothing = moves b i x (b .queue) (b .restarts) (b .written)
 benchAfter b i x (made.Refused r) = b
 benchAfter b i x made.Fails = moves b i x (b .queue) (oneMore (b .restarts)) (b .written)
+benchAfter b i x made.Links = moves b i x (linkSet (b .queue) i true) (b .restarts) (b .written)
 benchAfter b i x (made.Claims a z) = moves b i x (withArray (b .queue) a z) (b .restarts) (b .written)
 benchAfter b i x made.Publishes = moves b i x (publishing (b .queue)) (b .restarts) (b .written)
-benchAfter b i x (made.Stops y) = moves b i x (b .queue) (b .restarts) (b .written + entryLength (b .words))
+benchAfter b i x (made.Stops y) = moves b i x (linkSet (b .queue) i false) (b .restarts) (b .written + entryLength (b .words))
 benchAfter b i x (made.Ends a y) = moves b i x (anchored (b .queue) a) (b .restarts) (b .written + entryLength (b .words))
 
 unfoldable pub answerAfter : Made → Answer
 answerAfter made.Nothing = GoesOn
 answerAfter (made.Refused r) = Refused r
 answerAfter made.Fails = GoesOn
+answerAfter made.Links = GoesOn
 answerAfter (made.Claims a z) = GoesOn
 answerAfter made.Publishes = GoesOn
 answerAfter (made.Stops y) = y
@@ -99,6 +101,7 @@ unfoldable pub Fits : ℕ → Queue → ℕ → Made → Type 0
 Fits v q k made.Nothing = Unit {0}
 Fits v q k (made.Refused r) = Unit {0}
 Fits v q k made.Fails = Unit {0}
+Fits v q k made.Links = Unit {0}
 Fits v q k (made.Claims a z) = q .published < 11
 Fits v q k made.Publishes = q .published ≤ 11
 Fits v q k (made.Stops y) = (k + entryLength v ≤ 4294967295) × (ends y ≡ true)
@@ -110,3 +113,4 @@ pub record Steppable (κ : Kind) (w v n : ℕ) (q : Queue) (z i : ℕ) (y : Line
   pub crew : n ≤ 8
   pub ground : Ground v q z
   pub ready : i < n → Ready κ v q z y
+  pub held : i < n → holdsLink q i ≡ true → (q .linked ≡ true) × (isPast1 y ≡ true)

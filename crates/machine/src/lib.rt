@@ -8,7 +8,8 @@ ghost use mathlib.Core.List.{List};
 ghost use Prim.Native.Nat.{ℕ, _≤_, _<_};
 ghost use lib.ListN.{length};
 ghost use Rattle.model.specs.declared.Worker.{Worker};
-ghost use Rattle.model.specs.World.{lineAt};
+ghost use Rattle.model.specs.Tests.{_and_};
+ghost use Rattle.model.specs.World.{lineAt, isSteal1};
 ghost use Rattle.model.specs.Calls.{lent, logFull, stepIn};
 ghost use Rattle.slots.specs.Bounds.{Wide};
 ghost use Rattle.lines.specs.Actions.{withArray, storeBy};
@@ -37,12 +38,14 @@ use model::Region;
 use model::Worker;
 use state::Returned;
 
-// What a step did beside moving its worker on: nothing that changes the state; it was refused; its compare failed; it claimed an
-// array or published it; or it ended its operation, with the anchor as it is or another one, and logged its entry.
+// What a step did beside moving its worker on: nothing that changes the state; it was refused; its compare failed; it linked the
+// anchor; it claimed an array or published it; or it ended its operation, with the anchor as it is or another one, and logged its
+// entry.
 pub enum Made {
     Nothing,
     Refused { why: Refusal },
     Fails,
+    Links,
     Claims { offset: u32, length: u32 },
     Publishes,
     Stops { answer: Answer },
@@ -114,6 +117,16 @@ fn act(words: u32, written: u32, action: Action, store: &mut [u32], log: &mut [u
     }
 }
 
+// The line links: line 1 of a steal, in a linked queue.
+fn links(linked: bool, line: Line) -> bool
+    ensures { λ r. ⌜ r ≡ (linked and isSteal1 line) ⌝ }
+{
+    if !linked {
+        return false;
+    }
+    stages::stage(line) == 4
+}
+
 // A step of a worker that is at `line`, past the test of the limits: refusals 6 and 8, then the line, committed or refused 11.
 pub fn step_in(
     kind: Kind,
@@ -150,8 +163,15 @@ pub fn step_in(
             made: Made::Refused { why },
         };
     }
-    let to = lines::next_line(kind, words, queue, store, line);
-    let action = lines::decide(kind, width, words, queue, store, worker, line);
+    let to = lines::next_line(kind, words, queue, store, worker, line);
+    if links(queue.linked, line) {
+        return Moved {
+            line: to,
+            made: Made::Links,
+        };
+    }
+    let bits = stages::tag_bits(queue.linked, width);
+    let action = lines::decide(kind, bits, words, queue, store, worker, line);
     let made = act(words, written, action, store, log);
     Moved { line: to, made }
 }
@@ -211,6 +231,13 @@ pub fn settled(bench: Bench, place: usize, line: Line, made: Made) -> Returned
                 answer: Answer::GoesOn,
             }
         }
+        Made::Links => {
+            let linked = state::with_link(queue, place, true);
+            Returned {
+                bench: replaced(bench, place, line, linked, restarts, written),
+                answer: Answer::GoesOn,
+            }
+        }
         Made::Claims { offset, length } => {
             let grown = with_array(queue, offset, length);
             Returned {
@@ -226,9 +253,10 @@ pub fn settled(bench: Bench, place: usize, line: Line, made: Made) -> Returned
             }
         }
         Made::Stops { answer } => {
+            let unlinked = state::with_link(queue, place, false);
             let length = written + (3 + bench.words);
             Returned {
-                bench: replaced(bench, place, line, queue, restarts, length),
+                bench: replaced(bench, place, line, unlinked, restarts, length),
                 answer,
             }
         }

@@ -9,3 +9,4 @@ pub mod Arrays
 pub mod Directory
 pub mod Below
 pub mod Masks
+pub mod Attempts

@@ -1,6 +1,6 @@
 -- Each state limit from both sides: a state at the limit is admitted, one past it is foreign.
 use mathlib.Core.Path.{_≡_, refl}
-use mathlib.Core.Bool.{true, false}
+use mathlib.Core.Bool.{Bool, true, false}
 use mathlib.Core.List.{List, [], _∷_, _++_, map}
 use Prim.Native.Nat.{ℕ, _/_}
 use lib.ListN.{replicate}
@@ -33,6 +33,7 @@ use Rattle.model.specs.declared.Line.the-variants.{
   StealCompare,
 }
 use Rattle.model.specs.declared.Region.{Region}
+use Rattle.model.specs.declared.Queue.{Queue}
 use Rattle.model.specs.declared.Worker.{Worker}
 use Rattle.model.specs.Tests.{if_then_else_, _and_, _or_}
 use Rattle.model.specs.Memory.{nowhere, offsetAt, lengthAt, sizeAt}
@@ -49,10 +50,15 @@ pair o n = record { offset = o; length = n }
 abbrev at : Line → Line → Line → List Worker
 at o t u = record { line = o } ∷ record { line = t } ∷ record { line = u } ∷ replicate 5 resting
 
--- all that the limits look at: payload words and the size kept, kind, tag width, crew, the anchor, the directory with its
--- published and claimed pairs, the numbers used, the log's length, the workers, and the lengths of store and log
-abbrev stateOf : ℕ → ℕ → Kind → ℕ → ℕ → Anchor → List Region → ℕ → ℕ → ℕ → ℕ → List Worker → ℕ → ℕ → World
-stateOf v z κ w n a d p c u e l ms ls =
+-- a queue without links: the anchor, the directory with its published and claimed pairs, and the size that is kept
+abbrev plain : ℕ → Anchor → List Region → ℕ → ℕ → Queue
+plain z a d p c =
+    record { linked = false; anchor = a; arrays = d; published = p; claimed = c; initial = z; links = replicate 8 false }
+
+-- all that the limits look at: payload words, kind, tag width, crew, the queue, the numbers used, the log's length, the workers, and
+-- the lengths of store and log
+abbrev stateOf : ℕ → Kind → ℕ → ℕ → Queue → ℕ → ℕ → List Worker → ℕ → ℕ → World
+stateOf v κ w n q u e l ms ls =
     record {
       bench =
           record {
@@ -60,7 +66,7 @@ stateOf v z κ w n a d p c u e l ms ls =
             width = w;
             words = v;
             crew = n;
-            queue = record { anchor = a; arrays = d; published = p; claimed = c; initial = z };
+            queue = q;
             used = u;
             restarts = 0;
             written = e;
@@ -72,11 +78,11 @@ stateOf v z κ w n a d p c u e l ms ls =
 
 -- one payload word, and the size that is kept is the first array's
 abbrev state : Kind → ℕ → ℕ → Anchor → List Region → ℕ → ℕ → ℕ → ℕ → List Worker → ℕ → ℕ → World
-state κ w n a d p c u e l ms ls = stateOf 1 (lengthAt d 0 / 2) κ w n a d p c u e l ms ls
+state κ w n a d p c u e l ms ls = stateOf 1 κ w n (plain (lengthAt d 0 / 2) a d p c) u e l ms ls
 
 -- v payload words and z as the size that is kept, the arrays d, all published, the owner and a thief at these lines
 abbrev wide : ℕ → ℕ → List Region → ℕ → Line → Line → ℕ → World
-wide v z d p o t ms = stateOf v z Lifo 2 2 (anchor 0 0 0) d p p 9 0 (at o t Idle) ms 8
+wide v z d p o t ms = stateOf v Lifo 2 2 (plain z (anchor 0 0 0) d p p) 9 0 (at o t Idle) ms 8
 
 -- arrays of 2 and 4 tasks of three payload words, of 1 and 2 tasks of four
 abbrev threes : List Region
@@ -106,6 +112,21 @@ growing κ a o = state κ 2 2 a two 1 2 9 0 (at o Idle Idle) 12 8
 -- worker 7 at this line, in a crew of n
 abbrev last : ℕ → Line → World
 last n l = state Lifo 2 n (anchor 0 0 0) two 2 2 9 0 (replicate 7 resting ++ record { line = l } ∷ []) 12 8
+
+-- links: of a linked queue or not, worker 0's and worker 1's
+abbrev holding : Kind → Bool → Anchor → Bool → Bool → Line → Line → World
+holding κ x a y z o t =
+    stateOf 1 κ 2 2
+    (record {
+      linked = x;
+      anchor = a;
+      arrays = two;
+      published = 2;
+      claimed = 2;
+      initial = 2;
+      links = y ∷ z ∷ replicate 6 false;
+    })
+    9 0 (at o t Idle) 12 8
 
 -- fresh's ranges, the directory, the log's length, the anchor, put numbers, workers outside the crew
 abbrev still : Kind → ℕ → ℕ → Anchor → ℕ → ℕ → World
@@ -180,6 +201,10 @@ admitted =
     ∷ wide 4 1 fours 2 (TakeWord (anchor 0 1 0) (task 1 (payload 7 8 9 0)) 4) Idle 15
     ∷ wide 4 1 fours 2 Idle (StealWord (anchor 0 1 0) 0 (task 1 (payload 7 8 9 0)) 4) 15
     ∷ wide 4 1 fours 2 Idle (StealCompare (anchor 0 1 0) 0 (task 1 (payload 7 8 9 6))) 15
+    -- a link held by a thief past line 1, with the anchor as it read it; none held there
+    ∷ holding Lifo true (anchor 0 2 0) false true Idle (StealTest (anchor 0 2 0))
+    ∷ holding Deque true (anchor 5 2 0) false true Idle (StealCompare (anchor 5 2 0) 6 (task 1 (one 7)))
+    ∷ holding Lifo true (anchor 0 1 0) false false Idle (StealTest (anchor 0 2 0))
     ∷ []
 
 abbrev foreign : List World
@@ -320,6 +345,16 @@ foreign =
     ∷ wide 3 2 threes 2 Idle (StealCompare (anchor 0 1 0) 0 (task 1 (payload 7 8 9 6))) 24
     ∷ wide 4 1 fours 2 (TakeWord (anchor 0 1 0) (task 1 (payload 7 8 9 0)) 3) Idle 15
     ∷ wide 4 1 fours 2 Idle (StealWord (anchor 0 1 0) 0 (task 1 (payload 7 8 9 6)) 4) 15
+    -- a link held by the owner, by an idle worker, at line 1, of another kind, past a write of the anchor; FIFO linked; a tag
+    ∷ holding Lifo true (anchor 0 0 0) true false (TakeTest (anchor 0 0 0)) Idle
+    ∷ holding Lifo true (anchor 0 0 0) false true Idle Idle
+    ∷ holding Lifo true (anchor 0 0 0) false true Idle StealRead
+    ∷ holding Lifo false (anchor 0 2 0) false true Idle (StealTest (anchor 0 2 0))
+    ∷ holding Lifo true (anchor 0 1 0) false true Idle (StealTest (anchor 0 2 0))
+    ∷ holding Deque true (anchor 4 2 0) false true Idle (StealTest (anchor 5 2 0))
+    ∷ holding Fifo true (anchor 0 0 0) false false Idle Idle
+    ∷ holding Lifo true (anchor 0 0 1) false false Idle Idle
+    ∷ holding Lifo true (anchor 0 0 0) false false (TakeTest (anchor 0 0 1)) Idle
     ∷ []
 
 pub limits : map validOf (admitted ++ foreign) ≡ map (λ W. true) admitted ++ map (λ W. false) foreign

@@ -1,10 +1,13 @@
 -- Rows of our own: each shows a difference that one of document 01's 'Mistakes to shut out', or a bench of its section
 -- 'Agreement', would make. The edits in must-fail/ make them.
+use mathlib.Core.Bool.{Bool, true, false}
 use mathlib.Core.Path.{_≡_, refl}
 use mathlib.Core.List.{List, [], _∷_, _++_, map}
 use Prim.Native.Nat.{ℕ}
 use lib.ListN.{replicate}
 use Rattle.model.specs.declared.Kind.the-variants.{Lifo}
+use Rattle.model.specs.declared.Anchor.{Anchor}
+use Rattle.model.specs.declared.Queue.{Queue}
 use Rattle.model.specs.declared.Line.{Line}
 use Rattle.model.specs.declared.Line.the-variants.{Publish, StealCompare}
 use Rattle.model.specs.declared.Operation.the-variants.{Put}
@@ -15,9 +18,9 @@ use Rattle.model.specs.Tests.{if_then_else_, _and_, _or_}
 use Rattle.model.specs.Memory.{zeros, wordAt, setWord, offsetAt, lengthAt, sizeAt}
 use Rattle.model.specs.Tasks.{task, wordIn, withWord, gathered}
 use Rattle.model.specs.Figures.{anchor}
-use Rattle.model.specs.Lines.{lineStep}
+use Rattle.model.specs.Lines.{anchored, lineStep}
 use Rattle.model.specs.Limits.{validOf}
-use Rattle.model.specs.Calls.{freshOf, beginOf, restarted, stepOf, begin, step}
+use Rattle.model.specs.Calls.{blank, freshOf, beginOf, restarted, linkSet, stepOf, begin, step}
 use Rattle.model.specs.Run.{played}
 use Rattle.model.specs.Counts.{someBelow, countBelow, countsOf}
 use Rattle.model.specs.Listing.{D, E, F, R, T, stepsOf, respond, listingFrom}
@@ -88,12 +91,18 @@ pub mistakes-shut-out : map (λ r. show (r .run)) mistakes ≡ map (λ r. r .sho
 unfolding show played listingFrom respond stepsOf countsOf someBelow countBelow freshOf beginOf stepOf validOf lineStep zeros wordAt setWord offsetAt lengthAt sizeAt if_then_else_ _and_ _or_ gathered wordIn withWord
 mistakes-shut-out = refl
 
--- the counter of restarts: a compare that fails, at the ceiling and one below it; a compare that succeeds; X4
+-- a queue, linked or not, with this anchor
+abbrev at : Bool → Anchor → Queue
+at x a = anchored (blank Lifo x 1 1 2 1 .queue) a
+
+-- the counter of restarts: a compare that fails, at the ceiling and one below it; a compare that succeeds; X4; in a linked queue a
+-- compare without its link, with the anchor as it was read, and one with it
 abbrev pub counted : List ℕ
 counted =
-    map (restarted Lifo (anchor 0 1 0) (StealCompare (anchor 0 1 1) 0 (task 1 (one 7)))) (4 ∷ 4294967294 ∷ 4294967295 ∷ [])
-    ++ map (λ (l : Line). restarted Lifo (anchor 0 1 0) l 4) (StealCompare (anchor 0 1 0) 0 (task 1 (one 7)) ∷ Publish (task 1 (one 7)) ∷ [])
+    map (restarted Lifo (at false (anchor 0 1 0)) 1 (StealCompare (anchor 0 1 1) 0 (task 1 (one 7)))) (4 ∷ 4294967294 ∷ 4294967295 ∷ [])
+    ++ map (λ (l : Line). restarted Lifo (at false (anchor 0 1 0)) 1 l 4) (StealCompare (anchor 0 1 0) 0 (task 1 (one 7)) ∷ Publish (task 1 (one 7)) ∷ [])
+    ++ map (λ (x : Bool). restarted Lifo (linkSet (at true (anchor 0 1 0)) 1 x) 1 (StealCompare (anchor 0 1 0) 0 (task 1 (one 7))) 4) (false ∷ true ∷ [])
 
-pub counter : counted ≡ (5 ∷ 4294967295 ∷ 4294967295 ∷ 4 ∷ 4 ∷ [])
+pub counter : counted ≡ (5 ∷ 4294967295 ∷ 4294967295 ∷ 4 ∷ 4 ∷ 5 ∷ 4 ∷ [])
 unfolding if_then_else_ _and_
 counter = refl

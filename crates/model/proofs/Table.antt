@@ -4,7 +4,7 @@ use mathlib.Core.List.{List, [], _∷_, _++_, map}
 use Prim.Native.Nat.{ℕ}
 use lib.ListN.{replicate}
 use Rattle.model.specs.declared.Operation.the-variants.{Put, Take, Steal}
-use Rattle.model.specs.declared.Refusal.the-variants.{WrongHand, LogFull}
+use Rattle.model.specs.declared.Refusal.the-variants.{NoSuchWorker, WrongHand, LogFull, NoLink}
 use Rattle.model.specs.declared.Answer.the-variants.{Accepted, Numbered, GoesOn, Finished, HandedOut, Empty, Full, Refused}
 use Rattle.model.specs.declared.Command.{Command}
 use Rattle.model.specs.declared.Command.the-variants.{Open, BeginPut, BeginTake, BeginSteal, Steps, End}
@@ -13,7 +13,7 @@ use Rattle.model.specs.Memory.{zeros, wordAt, setWord, offsetAt, lengthA
 use Rattle.model.specs.Tasks.{task, payload, wordIn, withWord, gathered}
 use Rattle.model.specs.Lines.{lineStep}
 use Rattle.model.specs.Limits.{validOf}
-use Rattle.model.specs.Calls.{freshOf, beginOf, stepOf, begin, step}
+use Rattle.model.specs.Calls.{freshOf, beginOf, stepOf, dropLinkOf, begin, step, dropLink}
 use Rattle.model.specs.Run.{played}
 use Rattle.model.specs.Counts.{someBelow, countBelow, countsOf}
 use Rattle.model.specs.Listing.{D, H, F, R, T, stepsOf, respond, listingFrom}
@@ -74,8 +74,29 @@ table =
     -- with two payload words an ending step needs 5 words of the log
     ∷ (calls 1 1 1 1 2 3 4 (begin 0 Take ∷ step 0 ∷ step 0 ∷ []) shows answers (Accepted ∷ Accepted ∷ GoesOn ∷ Refused LogFull ∷ []))
     ∷ (calls 1 1 1 1 2 3 5 (begin 0 Take ∷ step 0 ∷ step 0 ∷ []) shows answers (Accepted ∷ Accepted ∷ GoesOn ∷ Empty 0 ∷ []))
+    -- kind 4: P1's run loses nothing without a tag: the puts break the thief's link
+    ∷ (lines
+    (queue 4 1 2 2 12 ∷ put 65 ∷ Steps 0 5 ∷ BeginSteal 1 ∷ Steps 1 5 ∷ BeginTake ∷ Steps 0 5 ∷ put 66 ∷ Steps 0 5 ∷ BeginTake ∷ Steps 0 5 ∷ put 67
+    ∷ Steps 0 5 ∷ Steps 1 1 ∷ Steps 1 6 ∷ End ∷ [])
+    shows prints (D 1 ∷ handed 0 1 65 ∷ D 2 ∷ handed 0 2 66 ∷ D 3 ∷ handed 1 3 67 ∷ T 3 3 3 1 0 0 ∷ []))
+    -- a write of an equal value breaks a link too: thief 1 has lowered t to 1, thief 2 links it, and the owner's stale take writes 1
+    ∷ (lines
+    (queue 4 1 2 3 4 ∷ put 10 ∷ Steps 0 5 ∷ put 20 ∷ Steps 0 5 ∷ BeginTake ∷ Steps 0 4 ∷ BeginSteal 1 ∷ Steps 1 6 ∷ BeginSteal 2 ∷ Steps 2 5 ∷ Steps 0 1
+    ∷ Steps 2 1 ∷ End ∷ [])
+    shows prints (D 1 ∷ D 2 ∷ handed 1 2 20 ∷ handed 0 2 20 ∷ T 2 2 1 1 1 0 ∷ []))
+    -- kind 5: a link dropped for no reason makes the store fail, and the next attempt succeeds; 17 with none held, 6 before it
+    ∷ (calls 5 1 1 2 1 2 8
+    (begin 0 (Put (one 7)) ∷ replicate 5 (step 0) ++ begin 1 Steal ∷ dropLink 1 ∷ step 1 ∷ dropLink 1 ∷ dropLink 1 ∷ dropLink 0 ∷ dropLink 2
+    ∷ replicate 6 (step 1) ++ dropLink 1 ∷ replicate 7 (step 1) ++ dropLink 1 ∷ [])
+    shows answers
+    (Accepted ∷ Numbered 1 ∷ replicate 4 GoesOn ++ Finished 0 (task 1 (one 7)) ∷ Accepted ∷ Refused NoLink ∷ GoesOn ∷ Accepted ∷ Refused NoLink
+    ∷ Refused NoLink ∷ Refused NoSuchWorker ∷ replicate 6 GoesOn ++ Refused NoLink ∷ replicate 6 GoesOn ++ HandedOut 1 (task 1 (one 7)) ∷ Refused NoLink ∷ []))
+    -- EMPTY ends its attempt, and with it the link
+    ∷ (calls 4 1 1 2 1 2 4 (begin 1 Steal ∷ step 1 ∷ step 1 ∷ dropLink 1 ∷ []) shows answers (Accepted ∷ Accepted ∷ GoesOn ∷ Empty 1 ∷ Refused NoLink ∷ []))
+    -- kinds are 1 to 5; a linked kind's tag width is checked
+    ∷ (lines (queue 0 1 1 1 2 ∷ queue 6 1 1 1 2 ∷ queue 4 0 1 1 2 ∷ queue 5 16 1 1 2 ∷ End ∷ []) shows prints (R 1 ∷ R 1 ∷ R 2 ∷ T 0 0 0 0 0 0 ∷ []))
     ∷ []
 
 pub p1-to-p9 : map (λ r. show (r .run)) table ≡ map (λ r. r .shown) table
-unfolding show played listingFrom respond stepsOf countsOf someBelow countBelow freshOf beginOf stepOf validOf lineStep zeros wordAt setWord offsetAt lengthAt sizeAt if_then_else_ _and_ _or_ gathered wordIn withWord
+unfolding show played listingFrom respond stepsOf countsOf someBelow countBelow freshOf beginOf stepOf dropLinkOf validOf lineStep zeros wordAt setWord offsetAt lengthAt sizeAt if_then_else_ _and_ _or_ gathered wordIn withWord
 p1-to-p9 = refl

@@ -21,6 +21,7 @@ use Rattle.model.specs.declared.Refusal.the-variants.{
   ForeignState,
   BadLine,
   PayloadWords,
+  NoLink,
 }
 use Rattle.model.specs.declared.Answer.{Answer}
 use Rattle.model.specs.declared.Answer.the-variants.{
@@ -53,6 +54,7 @@ numberOf LogFull = 11
 numberOf ForeignState = 12
 numberOf BadLine = 13
 numberOf PayloadWords = 16
+numberOf NoLink = 17
 
 -- an entry of the log
 pub record Entry : Type 0 where

@@ -1,14 +1,14 @@
 -- The calls: fresh, begin, step, and the log's front.
-use mathlib.Core.Bool.{Bool, true}
+use mathlib.Core.Bool.{Bool, true, false}
 use mathlib.Core.List.{List, _∷_}
 use Prim.Native.Nat.{ℕ, _+_, _*_}
 use lib.Dec.{eqb, ltb, leb}
 use lib.ListN.{length, set, replicate, take}
 use Rattle.model.specs.declared.Kind.{Kind}
 use Rattle.model.specs.declared.Kind.the-variants.{Lifo, Fifo, Deque}
-use Rattle.model.specs.declared.Anchor.{Anchor}
 use Rattle.model.specs.declared.Line.{Line}
 use Rattle.model.specs.declared.Line.the-variants.{PutRead, TakeRead, StealRead}
+use Rattle.model.specs.declared.Queue.{Queue}
 use Rattle.model.specs.declared.Bench.{Bench}
 use Rattle.model.specs.declared.Setup.{Setup}
 use Rattle.model.specs.declared.Operation.{Operation}
@@ -27,6 +27,7 @@ use Rattle.model.specs.declared.Refusal.the-variants.{
   LogFull,
   ForeignState,
   PayloadWords,
+  NoLink,
 }
 use Rattle.model.specs.declared.Answer.{Answer}
 use Rattle.model.specs.declared.Answer.the-variants.{Accepted, Numbered}
@@ -35,13 +36,13 @@ use Rattle.model.specs.Tasks.{task, firstWords}
 use Rattle.model.specs.Memory.{zeros, nowhere}
 use Rattle.model.specs.Answers.{ends, logged, entryLength}
 use Rattle.model.specs.Figures.{anchor}
-use Rattle.model.specs.Lines.{Effect, lineStep, failsCompare}
-use Rattle.model.specs.World.{World, Outcome, refuse, resting, lineAt, isIdle}
+use Rattle.model.specs.Lines.{Effect, lineStep, holdsLink, failsCompare}
+use Rattle.model.specs.World.{World, Outcome, refuse, requeued, tagBits, resting, lineAt, isIdle, isSteal1, isPast1}
 use Rattle.model.specs.Limits.{isSize, widthOk, crewOk, wordsOk, validOf}
 
 -- FRESH. A bench with no operation open, an array of c tasks of v payload words, and all counters 0
-abbrev pub blank : Kind → ℕ → ℕ → ℕ → ℕ → Bench
-blank κ w c n v =
+abbrev pub blank : Kind → Bool → ℕ → ℕ → ℕ → ℕ → Bench
+blank κ x w c n v =
     record {
       kind = κ;
       width = w;
@@ -49,11 +50,13 @@ blank κ w c n v =
       crew = n;
       queue =
           record {
+            linked = x;
             anchor = anchor 0 0 0;
             arrays = record { offset = 0; length = (v + 1) * c } ∷ replicate 10 nowhere;
             published = 1;
             claimed = 1;
             initial = c;
+            links = replicate 8 false;
           };
       used = 0;
       restarts = 0;
@@ -63,19 +66,22 @@ blank κ w c n v =
 
 -- what stands for no bench: a crew of 0, which every call refuses 12
 abbrev pub noBench : Bench
-noBench = blank Lifo 0 0 0 0
+noBench = blank Lifo false 0 0 0 0
 
 abbrev pub lent : Bench → List ℕ → List ℕ → World
 lent b m l = record { bench = b; store = m; log = l }
 
--- kinds are 1, 2 and 3
+-- kinds are 1, 2 and 3; 4 and 5 are 1 and 3, linked
 abbrev pub kindOf : ℕ → Kind
-kindOf k = if eqb k 1 then Lifo else if eqb k 2 then Fifo else Deque
+kindOf k = if eqb k 1 or eqb k 4 then Lifo else if eqb k 2 then Fifo else Deque
+
+abbrev pub linkedOf : ℕ → Bool
+linkedOf k = ltb 3 k
 
 -- on the store m and the log l: refusals 1 to 4, 16, 5
 unfoldable pub freshOf : Setup → List ℕ → List ℕ → Outcome
 freshOf s m l =
-    unless ltb 0 (s .kind) and leb (s .kind) 3 then refuse (lent noBench m l) UnknownQueue
+    unless ltb 0 (s .kind) and leb (s .kind) 5 then refuse (lent noBench m l) UnknownQueue
     else unless widthOk (s .width) then refuse (lent noBench m l) TagWidth
     else unless isSize 10 (s .size) then refuse (lent noBench m l) ArraySize
     else unless crewOk (s .crew) then refuse (lent noBench m l) Crew
@@ -83,7 +89,7 @@ freshOf s m l =
     else unless leb ((s .words + 1) * s .size) (length m) then refuse (lent noBench m l) ShortStore
     else record {
       world =
-          lent (blank (kindOf (s .kind)) (s .width) (s .size) (s .crew) (s .words)) (zeros m 0 ((s .words + 1) * s .size)) l;
+          lent (blank (kindOf (s .kind)) (linkedOf (s .kind)) (s .width) (s .size) (s .crew) (s .words)) (zeros m 0 ((s .words + 1) * s .size)) l;
       answer = Accepted;
     }
 
@@ -159,9 +165,26 @@ beginOf W i op = unless validOf W then refuse W ForeignState else beginIn W i op
 abbrev pub oneMore : ℕ → ℕ
 oneMore n = if eqb n 4294967295 then n else n + 1
 
--- n restarts, after a worker at line l has done it
-abbrev pub restarted : Kind → Anchor → Line → ℕ → ℕ
-restarted κ a l n = if failsCompare κ a l then oneMore n else n
+-- n restarts, after worker i has done its line l
+abbrev pub restarted : Kind → Queue → ℕ → Line → ℕ → ℕ
+restarted κ q i l n = if failsCompare κ q i l then oneMore n else n
+
+-- LINKS. Worker i's is held or not
+abbrev pub linkSet : Queue → ℕ → Bool → Queue
+linkSet q i x =
+    record {
+      linked = q .linked;
+      anchor = q .anchor;
+      arrays = q .arrays;
+      published = q .published;
+      claimed = q .claimed;
+      initial = q .initial;
+      links = set (q .links) i x;
+    }
+
+-- worker i's line was l and is l' now: in a linked queue line 1 of a steal links, and a link is held until its attempt ends
+abbrev pub relinked : Queue → ℕ → Line → Line → Queue
+relinked q i l l' = linkSet q i (isPast1 l' and ((q .linked and isSteal1 l) or holdsLink q i))
 
 -- worker i's line left E
 abbrev pub stepped : World → ℕ → Effect → Outcome
@@ -175,10 +198,10 @@ stepped W i E =
                   width = W .bench .width;
                   words = W .bench .words;
                   crew = W .bench .crew;
-                  queue = E .queue;
+                  queue = relinked (E .queue) i (lineAt (W .bench .workers) i) (E .line);
                   used = W .bench .used;
                   restarts =
-                      restarted (W .bench .kind) (W .bench .queue .anchor) (lineAt (W .bench .workers) i)
+                      restarted (W .bench .kind) (W .bench .queue) i (lineAt (W .bench .workers) i)
                       (W .bench .restarts);
                   written = if ends (E .answer) then W .bench .written + entryLength (W .bench .words) else W .bench .written;
                   workers = set (W .bench .workers) i (record { line = E .line });
@@ -202,7 +225,7 @@ commit W i E = if noRoom W E then refuse W LogFull else stepped W i E
 
 abbrev pub nextEffect : World → ℕ → Effect
 nextEffect W i =
-    lineStep (W .bench .kind) (W .bench .width) (W .bench .words) (W .bench .queue) (W .store) i (lineAt (W .bench .workers) i)
+    lineStep (W .bench .kind) (tagBits (W .bench)) (W .bench .words) (W .bench .queue) (W .store) i (lineAt (W .bench .workers) i)
 
 -- past the test of the limits: refusals 6, 8, 11
 abbrev pub stepIn : World → ℕ → Outcome
@@ -215,6 +238,14 @@ stepIn W i =
 unfoldable pub stepOf : World → ℕ → Outcome
 stepOf W i = unless validOf W then refuse W ForeignState else stepIn W i
 
+-- LINK DROPPED. The event that makes worker i's link fail for no reason: refusals 12, 6, 17
+unfoldable pub dropLinkOf : World → ℕ → Outcome
+dropLinkOf W i =
+    unless validOf W then refuse W ForeignState
+    else unless ltb i (W .bench .crew) then refuse W NoSuchWorker
+    else unless holdsLink (W .bench .queue) i then refuse W NoLink
+    else record { world = requeued W (linkSet (W .bench .queue) i false); answer = Accepted }
+
 -- FRONT. The written front of the log: as many words as its length says, or all if the slice is shorter
 unfoldable pub frontOf : Bench → List ℕ → List ℕ
 frontOf b l = take (b .written) l
@@ -223,7 +254,9 @@ frontOf b l = take (b .written) l
 pub data Call : Type 0 where
   begin : ℕ → Operation → Call
   step : ℕ → Call
+  dropLink : ℕ → Call
 
 abbrev pub callOf : World → Call → Outcome
 callOf W (begin i op) = beginOf W i op
 callOf W (step i) = stepOf W i
+callOf W (dropLink i) = dropLinkOf W i

@@ -1,9 +1,9 @@
 -- The state limits of refusal 12, in document 01's order.
-use mathlib.Core.Bool.{Bool, true, false}
+use mathlib.Core.Bool.{Bool, true, false, not}
 use mathlib.Core.List.{List}
 use Prim.Native.Nat.{ℕ, zero, suc, _+_, _-_, _*_, _^_}
 use lib.Dec.{eqb, ltb, leb}
-use lib.ListN.{length}
+use lib.ListN.{length, getD}
 use Rattle.model.specs.declared.Kind.{Kind}
 use Rattle.model.specs.declared.Kind.the-variants.{Lifo, Fifo, Deque}
 use Rattle.model.specs.declared.Task.{Task}
@@ -40,15 +40,21 @@ use Rattle.model.specs.declared.Bench.{Bench}
 use Rattle.model.specs.Tests.{if_then_else_, _and_, _or_}
 use Rattle.model.specs.Tasks.{noneFrom}
 use Rattle.model.specs.Memory.{offsetAt, lengthAt, sizeAt}
+use Rattle.model.specs.Figures.{anchor, isSame}
 use Rattle.model.specs.Lines.{size}
-use Rattle.model.specs.World.{World, lineAt, isIdle, isExpanding, isOwners, isThiefs}
+use Rattle.model.specs.World.{World, tagBits, lineAt, isIdle, isPast1, isExpanding, isOwners, isThiefs}
 
 -- a power of two from 1 to 2^e; sizes go up to 2^10 = 1,024
 abbrev pub isSize : ℕ → ℕ → Bool
 isSize zero c = eqb c 1
 isSize (suc e) c = eqb c (2 ^ suc e) or isSize e c
 
--- fresh's ranges: the tag's width, the crew, the payload words
+-- fresh's ranges: a FIFO queue is not linked; the tag's width, the crew, the payload words
+abbrev pub kindOk : Kind → Bool → Bool
+kindOk Lifo x = true
+kindOk Fifo x = not x
+kindOk Deque x = true
+
 abbrev pub widthOk : ℕ → Bool
 widthOk w = ltb 0 w and leb w 16
 
@@ -175,6 +181,39 @@ lineOk κ w v q (StealWord r k t j) =
 lineOk κ w v q (StealNext r t) = readOk κ w (size v q) r and someOk κ r and isDeque κ and taskOk (v + 1) t
 lineOk κ w v q (StealCompare r e t) = readOk κ w (size v q) r and someOk κ r and nextOk κ e and taskOk (v + 1) t
 
+-- the anchor that a thief past its line 1 has read
+abbrev pub readBy : Line → Anchor
+readBy Idle = anchor 0 0 0
+readBy (PutRead t) = anchor 0 0 0
+readBy (PutTail t h) = anchor 0 0 0
+readBy (PutTest t r) = anchor 0 0 0
+readBy (PutWord t r j) = anchor 0 0 0
+readBy (PutFinish t r) = anchor 0 0 0
+readBy (Claim t) = anchor 0 0 0
+readBy (Note t) = anchor 0 0 0
+readBy (Copy t h n k) = anchor 0 0 0
+readBy (Publish t) = anchor 0 0 0
+readBy TakeRead = anchor 0 0 0
+readBy (TakeTail h) = anchor 0 0 0
+readBy (TakeTest r) = anchor 0 0 0
+readBy (TakeWord r t j) = anchor 0 0 0
+readBy (TakeFinish r t) = anchor 0 0 0
+readBy StealRead = anchor 0 0 0
+readBy (StealTail h) = anchor 0 0 0
+readBy (StealTest r) = r
+readBy (StealNote r) = r
+readBy (StealWord r k t j) = r
+readBy (StealNext r t) = r
+readBy (StealCompare r e t) = r
+
+-- a link is held from line 1 of a linked kind's steal on, and only while the anchor is unwritten; workers 0 to k-1
+abbrev pub linkOk : Kind → Queue → Line → Bool
+linkOk κ q l = q .linked and isPast1 l and isSame κ (q .anchor) (readBy l)
+
+abbrev pub linksOk : Kind → Queue → List Worker → ℕ → Bool
+linksOk κ q l zero = true
+linksOk κ q l (suc k) = linksOk κ q l k and (not (getD (q .links) k false) or linkOk κ q (lineAt l k))
+
 -- each worker at a line of its own operation: the owner; thieves 1 to k, those outside the crew of n idle
 abbrev pub ownerOk : Kind → ℕ → ℕ → Queue → Line → Bool
 ownerOk κ w v q l = isOwners l and lineOk κ w v q l
@@ -189,15 +228,17 @@ thievesOk κ w v q n l (suc k) =
 
 abbrev pub benchOk : Bench → List ℕ → List ℕ → Bool
 benchOk b m l =
-    widthOk (b .width)
+    kindOk (b .kind) (b .queue .linked)
+    and widthOk (b .width)
     and wordsOk (b .words)
     and crewOk (b .crew)
     and directoryOk (b .words) (b .queue) m (lineAt (b .workers) 0)
     and leb (b .written) (length l)
-    and anchorOk (b .kind) (b .width) (size (b .words) (b .queue)) (b .queue .anchor)
+    and anchorOk (b .kind) (tagBits b) (size (b .words) (b .queue)) (b .queue .anchor)
     and numberOk (b .used)
-    and ownerOk (b .kind) (b .width) (b .words) (b .queue) (lineAt (b .workers) 0)
-    and thievesOk (b .kind) (b .width) (b .words) (b .queue) (b .crew) (b .workers) 7
+    and linksOk (b .kind) (b .queue) (b .workers) 8
+    and ownerOk (b .kind) (tagBits b) (b .words) (b .queue) (lineAt (b .workers) 0)
+    and thievesOk (b .kind) (tagBits b) (b .words) (b .queue) (b .crew) (b .workers) 7
 
 -- the state, with the lengths of its lent memory, is no foreign one
 unfoldable pub validOf : World → Bool

@@ -3,7 +3,7 @@ use mathlib.Core.Bool.{Bool, false, not}
 use mathlib.Core.List.{List}
 use Prim.Native.Nat.{ℕ, zero, suc, _+_, _-_, _*_, _%_}
 use lib.Dec.{eqb, leb}
-use lib.ListN.{length, set}
+use lib.ListN.{length, getD, set, replicate}
 use Rattle.model.specs.declared.Kind.{Kind}
 use Rattle.model.specs.declared.Task.{Task}
 use Rattle.model.specs.declared.Anchor.{Anchor}
@@ -77,10 +77,18 @@ len q = lengthAt (q .arrays) (q .published - 1)
 abbrev pub size : ℕ → Queue → ℕ
 size v q = sizeAt v (q .arrays) (q .published - 1)
 
--- the queue with another anchor
+-- a write of the anchor, which breaks every link, even if the value is equal
 abbrev pub anchored : Queue → Anchor → Queue
 anchored q a =
-    record { anchor = a; arrays = q .arrays; published = q .published; claimed = q .claimed; initial = q .initial }
+    record {
+      linked = q .linked;
+      anchor = a;
+      arrays = q .arrays;
+      published = q .published;
+      claimed = q .claimed;
+      initial = q .initial;
+      links = replicate 8 false;
+    }
 
 -- word j of index i of the array at place k of the directory
 abbrev pub wordOf : Kind → ℕ → Queue → List ℕ → ℕ → ℕ → ℕ → ℕ
@@ -107,11 +115,13 @@ fits v q m = leb (2 * size v q) 1024 and leb (off q + len q + 2 * len q) (length
 abbrev pub claiming : Queue → Queue
 claiming q =
     record {
+      linked = q .linked;
       anchor = q .anchor;
       arrays = set (q .arrays) (q .published) (record { offset = off q + len q; length = 2 * len q });
       published = q .published;
       claimed = q .published + 1;
       initial = q .initial;
+      links = q .links;
     }
 
 abbrev pub claims : ℕ → Queue → List ℕ → ℕ → Task → Effect
@@ -136,25 +146,35 @@ copyOn t h n k = if eqb (k + 1) n then Publish t else Copy t h n (k + 1)
 abbrev pub publishing : Queue → Queue
 publishing q =
     record {
+      linked = q .linked;
       anchor = q .anchor;
       arrays = q .arrays;
       published = q .published + 1;
       claimed = q .claimed;
       initial = q .initial;
+      links = q .links;
     }
 
 -- the test for EMPTY, at worker i; the line l follows it
 abbrev pub unlessEmpty : Kind → Queue → List ℕ → ℕ → Anchor → Line → Effect
 unlessEmpty κ q m i r l = if isEmpty κ r then eff q m Idle (Empty i) else eff q m l GoesOn
 
+-- worker i holds a link
+abbrev pub holdsLink : Queue → ℕ → Bool
+holdsLink q i = getD (q .links) i false
+
+-- worker i's compare finds the anchor as it was read; of a linked kind it is a store that succeeds exactly if its link is held
+abbrev pub succeeds : Kind → Queue → ℕ → Anchor → Bool
+succeeds κ q i r = if q .linked then holdsLink q i else isSame κ (q .anchor) r
+
 -- the compare: the task is handed out, or back to line 1
 abbrev pub compares : Kind → Queue → List ℕ → ℕ → Anchor → ℕ → Task → Effect
 compares κ q m i r e t =
-    if isSame κ (q .anchor) r
+    if succeeds κ q i r
     then eff (anchored q (afterSteal κ (q .anchor) r e)) m Idle (HandedOut i t)
     else eff q m StealRead GoesOn
 
--- worker i does the line l of a queue of kind κ with a tag of w bits and v payload words
+-- worker i does the line l of a queue of kind κ with a tag of w bits (a linked one has none) and v payload words
 unfoldable pub lineStep : Kind → ℕ → ℕ → Queue → List ℕ → ℕ → Line → Effect
 -- no line: a step of an idle worker is refused before it comes here
 lineStep κ w v q m i Idle = eff q m Idle GoesOn
@@ -187,27 +207,27 @@ lineStep κ w v q m i (StealWord r k t j) =
 lineStep κ w v q m i (StealNext r t) = eff q m (StealCompare r ((r .head + 1) % 2048) t) GoesOn
 lineStep κ w v q m i (StealCompare r e t) = compares κ q m i r e t
 
--- a restart: a worker at line l compares, and the anchor a is not the one it read
-abbrev pub failsCompare : Kind → Anchor → Line → Bool
-failsCompare κ a Idle = false
-failsCompare κ a (PutRead t) = false
-failsCompare κ a (PutTail t h) = false
-failsCompare κ a (PutTest t r) = false
-failsCompare κ a (PutWord t r j) = false
-failsCompare κ a (PutFinish t r) = false
-failsCompare κ a (Claim t) = false
-failsCompare κ a (Note t) = false
-failsCompare κ a (Copy t h n k) = false
-failsCompare κ a (Publish t) = false
-failsCompare κ a TakeRead = false
-failsCompare κ a (TakeTail h) = false
-failsCompare κ a (TakeTest r) = false
-failsCompare κ a (TakeWord r t j) = false
-failsCompare κ a (TakeFinish r t) = false
-failsCompare κ a StealRead = false
-failsCompare κ a (StealTail h) = false
-failsCompare κ a (StealTest r) = false
-failsCompare κ a (StealNote r) = false
-failsCompare κ a (StealWord r k t j) = false
-failsCompare κ a (StealNext r t) = false
-failsCompare κ a (StealCompare r e t) = not (isSame κ a r)
+-- a restart: worker i at line l compares, and in vain
+abbrev pub failsCompare : Kind → Queue → ℕ → Line → Bool
+failsCompare κ q i Idle = false
+failsCompare κ q i (PutRead t) = false
+failsCompare κ q i (PutTail t h) = false
+failsCompare κ q i (PutTest t r) = false
+failsCompare κ q i (PutWord t r j) = false
+failsCompare κ q i (PutFinish t r) = false
+failsCompare κ q i (Claim t) = false
+failsCompare κ q i (Note t) = false
+failsCompare κ q i (Copy t h n k) = false
+failsCompare κ q i (Publish t) = false
+failsCompare κ q i TakeRead = false
+failsCompare κ q i (TakeTail h) = false
+failsCompare κ q i (TakeTest r) = false
+failsCompare κ q i (TakeWord r t j) = false
+failsCompare κ q i (TakeFinish r t) = false
+failsCompare κ q i StealRead = false
+failsCompare κ q i (StealTail h) = false
+failsCompare κ q i (StealTest r) = false
+failsCompare κ q i (StealNote r) = false
+failsCompare κ q i (StealWord r k t j) = false
+failsCompare κ q i (StealNext r t) = false
+failsCompare κ q i (StealCompare r e t) = not (succeeds κ q i r)

@@ -29,12 +29,13 @@ use Rattle.model.specs.declared.Line.the-variants.{
   StealNext,
   StealCompare,
 }
+use Rattle.model.specs.declared.Queue.{Queue}
 use Rattle.model.specs.declared.Worker.{Worker}
 use Rattle.model.specs.declared.Bench.{Bench}
 use Rattle.model.specs.declared.Refusal.{Refusal}
 use Rattle.model.specs.declared.Answer.{Answer}
 use Rattle.model.specs.declared.Answer.the-variants.{Refused}
-use Rattle.model.specs.Tests.{_or_}
+use Rattle.model.specs.Tests.{if_then_else_, _or_}
 
 pub record World : Type 0 where
   pub bench : Bench
@@ -48,6 +49,30 @@ pub record Outcome : Type 0 where
 -- a refusal leaves state, store and log as they were handed in
 abbrev pub refuse : World → Refusal → Outcome
 refuse W r = record { world = W; answer = Refused r }
+
+-- the same with another queue
+abbrev pub requeued : World → Queue → World
+requeued W q =
+    record {
+      bench =
+          record {
+            kind = W .bench .kind;
+            width = W .bench .width;
+            words = W .bench .words;
+            crew = W .bench .crew;
+            queue = q;
+            used = W .bench .used;
+            restarts = W .bench .restarts;
+            written = W .bench .written;
+            workers = W .bench .workers;
+          };
+      store = W .store;
+      log = W .log;
+    }
+
+-- the tag's bits: kinds 4 and 5 have no tag, and theirs stays 0
+abbrev pub tagBits : Bench → ℕ
+tagBits b = if b .queue .linked then 0 else b .width
 
 -- the line of worker i
 abbrev pub resting : Worker
@@ -83,6 +108,14 @@ stage (StealCompare r e t) = 5
 
 abbrev pub isIdle : Line → Bool
 isIdle l = eqb (stage l) 0
+
+-- a thief at its line 1
+abbrev pub isSteal1 : Line → Bool
+isSteal1 l = eqb (stage l) 4
+
+-- a thief past it
+abbrev pub isPast1 : Line → Bool
+isPast1 l = eqb (stage l) 5
 
 abbrev pub isExpanding : Line → Bool
 isExpanding l = eqb (stage l) 2

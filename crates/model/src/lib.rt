@@ -2,7 +2,7 @@
 // call does to them, and every crate above (theorems, code) speaks of these same types.
 // Uses no other crate. All others are built on it.
 
-// Figures 1, 2 and 3. The double-ended queue is the field's deque.
+// Figures 1, 2 and 3. The double-ended queue is the field's deque. Kinds 4 and 5 are LIFO and double-ended, linked (`Queue.linked`).
 pub enum Kind {
     Lifo,
     Fifo,
@@ -151,13 +151,16 @@ pub struct Region {
 
 // The shared words outside the store: the anchor, and the directory of arrays (sizes 1 to 1,024 are
 // at most 11). The first `published` pairs are published, the first `claimed` are claimed. `initial` is the first array's size, in
-// tasks: it never changes, and array k's is this, doubled k times, so that no line has to divide a length for a size.
+// tasks: it never changes, and array k's is this, doubled k times, so that no line has to divide a length for a size. On a machine
+// with load-linked and store-conditional the anchor is `linked`, and `links` says which workers hold a link to it.
 pub struct Queue {
+    pub linked: bool,
     pub anchor: Anchor,
     pub arrays: [Region; 11],
     pub published: u32,
     pub claimed: u32,
     pub initial: u32,
+    pub links: [bool; 8],
 }
 
 // The bench's state. `width` is the tag's, `words` counts the payload words of a task, `crew` the workers, `used` the put numbers
@@ -207,9 +210,10 @@ pub enum Refusal {
     ForeignState,
     BadLine,
     PayloadWords,
+    NoLink,
 }
 
-// What a call answers: a fresh or a begin is accepted (a put with its number); a step goes on, or ends its operation with an
+// What a call answers: a fresh, a begin or an event is accepted (a put with its number); a step goes on, or ends its operation with an
 // entry of the log; or the call is refused. A hand-out is what the field calls an extraction: a take or a steal returns a task.
 // FULL is the bench's own: the figures' `expand` always finds memory.
 pub enum Answer {

@@ -57,7 +57,14 @@ pub fn fresh(setup: Setup, store: &mut [u32]) -> Returned
     }
     memory::zero(store, 0, long);
     Returned {
-        bench: state::made(admission::kind_of(kind), width, size, crew, words),
+        bench: state::made(
+            admission::kind_of(kind),
+            admission::linked_of(kind),
+            width,
+            size,
+            crew,
+            words,
+        ),
         answer: Answer::Accepted,
     }
 }

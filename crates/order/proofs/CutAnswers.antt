@@ -1,7 +1,7 @@
 -- The tasks of a list's answers have no words past the payload's: what a line answers is a task that its worker holds whole.
 use mathlib.Core.Path.{_≡_, refl, _∙_, subst}
 use mathlib.Core.Bool.{Bool, true, false}
-use mathlib.Core.Logic.{_⊎_, inl, inr}
+use mathlib.Core.Logic.{inl, inr}
 use mathlib.Core.List.{List, [], _∷_}
 use Prim.Native.Nat.{ℕ, zero, suc, _+_, _≤_}
 use Rattle.model.specs.declared.Kind.{Kind}
@@ -12,13 +12,13 @@ use Rattle.model.specs.declared.Operation.{Operation}
 use Rattle.model.specs.declared.Operation.the-variants.{Put, Take, Steal}
 use Rattle.model.specs.Tests.{if_then_else_}
 use Rattle.model.specs.Tasks.{noTask, wordIn, gathered, firstWords}
-use Rattle.model.specs.Figures.{isEmpty, isSame}
-use Rattle.model.specs.Lines.{Effect, size, fits, lineStep}
+use Rattle.model.specs.Figures.{isEmpty}
+use Rattle.model.specs.Lines.{Effect, fits, succeeds, lineStep}
 use Rattle.model.specs.World.{World, Outcome, lineAt}
 use Rattle.model.specs.Calls.{beginAnswer, nextEffect, Call, callOf}
 use Rattle.model.specs.Run.{played}
 use Rattle.theorems.specs.Demand3.{FromFresh}
-use Rattle.theorems.proofs.Shape.{OwnShape, ThiefShape}
+use Rattle.theorems.proofs.Links.{Held}
 use Rattle.theorems.proofs.Valid.{Whole}
 use Rattle.theorems.proofs.Cases.{call-cases}
 use Rattle.theorems.proofs.WholeRun.{call-whole}
@@ -40,10 +40,6 @@ either : (ω : ℕ) (x : Bool) (E E′ : Effect) → Cut ω (E .answer) → Cut 
 unfolding if_then_else_
 either ω true E E′ p q = p
 either ω false E E′ p q = q
-
--- the owner's line, or a thief's
-abbrev Held : Kind → ℕ → ℕ → Queue → ℕ → ℕ → Line → Type 0
-Held κ w ω q low τ l = OwnShape κ w ω (size ω q) low τ l ⊎ ThiefShape κ w ω q τ l
 
 line-cut : (κ : Kind) (w ω : ℕ) (q : Queue) (m : List ℕ) (i low τ : ℕ) (l : Line) → Held κ w ω q low τ l → Cut ω (lineStep κ w ω q m i l .answer)
 unfolding lineStep
@@ -72,7 +68,7 @@ line-cut κ w ω q m i low τ (StealNote r) s = none-cut (ω + 1)
 line-cut κ w ω q m i low τ (StealWord r k t j) s = none-cut (ω + 1)
 line-cut κ w ω q m i low τ (StealNext r t) s = none-cut (ω + 1)
 line-cut κ w ω q m i low τ (StealCompare r e t) (inl s) = absurd s
-line-cut κ w ω q m i low τ (StealCompare r e t) (inr s) = either ω (isSame κ (q .anchor) r) _ _ (s .3 .1) (none-cut (ω + 1))
+line-cut κ w ω q m i low τ (StealCompare r e t) (inr s) = either ω (succeeds κ q i r) _ _ (s .3 .1) (none-cut (ω + 1))
 
 begin-cut : (ω : ℕ) (op : Operation) (u : ℕ) → Cut ω (beginAnswer op u)
 begin-cut ω (Put p) u = none-cut (ω + 1)
@@ -81,7 +77,7 @@ begin-cut ω Steal u = none-cut (ω + 1)
 
 call-cut : (W : World) → Whole W → (c : Call) → Cut (W .bench .words) (callOf W c .answer)
 call-cut W H c =
-    call-cases (λ (D : Outcome). Cut (W .bench .words) (D .answer)) W (λ r l. none-cut _) (λ i op B. begin-cut _ op (W .bench .used)) (λ i M. step-cut i) c
+    call-cases (λ (D : Outcome). Cut (W .bench .words) (D .answer)) W (λ r l. none-cut _) (λ i op B. begin-cut _ op (W .bench .used)) (λ i M. step-cut i) (λ i. none-cut _) c
   where
     step-cut : (i : ℕ) → Cut (W .bench .words) (nextEffect W i .answer)
     step-cut zero = line-cut _ _ _ _ _ 0 _ _ (lineAt (W .bench .workers) 0) (inl (H .shape .own))

@@ -23,9 +23,9 @@ use Rattle.model.specs.Tests.{if_then_else_}
 use Rattle.model.specs.Tasks.{task}
 use Rattle.model.proofs.Tasks.{first-number}
 use Rattle.model.specs.Answers.{entryOf}
-use Rattle.model.specs.Figures.{isSame, isFull, isEmpty, putRead, takeRead, stealRead, note, stealLast}
-use Rattle.model.specs.Lines.{Effect, size, fits, copyOn, putOn, takeOn, stealOn, lineStep}
-use Rattle.model.specs.World.{World, Outcome, lineAt}
+use Rattle.model.specs.Figures.{isFull, isEmpty, putRead, takeRead, stealRead, note, stealLast}
+use Rattle.model.specs.Lines.{Effect, size, fits, succeeds, copyOn, putOn, takeOn, stealOn, lineStep}
+use Rattle.model.specs.World.{World, Outcome, tagBits, lineAt}
 use Rattle.model.specs.Calls.{usedBy, firstLine, beginAnswer, begun, stepped, nextEffect, freshOf, Call, callOf}
 use Rattle.model.specs.Run.{Played, played}
 use Rattle.theorems.specs.Demand3.{At, finishes, FromFresh}
@@ -151,7 +151,7 @@ line-leaves u κ w ω q m i (StealNote r) l = omega arith
 line-leaves u κ w ω q m i (StealWord r k t j) l =
     same-put u (StealWord r k t j) (stealOn κ ω r k _ j) l (λ d. either-line d d (eqb j ω) (stealLast κ r _) (StealWord r k _ (j + 1)) (steal-lasts κ r _ d) refl)
 line-leaves u κ w ω q m i (StealNext r t) l = omega arith
-line-leaves u κ w ω q m i (StealCompare r e t) l = either u (StealCompare r e t) (isSame κ (q .anchor) r) _ _ (omega arith) (omega arith)
+line-leaves u κ w ω q m i (StealCompare r e t) l = either u (StealCompare r e t) (succeeds κ q i r) _ _ (omega arith) (omega arith)
 
 -- a thief has no put open, and so ends none
 thief-open : (κ : Kind) (w ω : ℕ) (q : Queue) (τ : ℕ) (θ : Line) → ThiefShape κ w ω q τ θ → (d : ℕ) → openPut θ d ≡ d
@@ -228,7 +228,7 @@ module _ {W : World} (H : Whole W) (J : OpenUsed W) where
 
   line-of : (i : ℕ) → Within (W .bench .used) (lineAt (W .bench .workers) i)
       → Leaves (W .bench .used) (lineAt (W .bench .workers) i) (nextEffect W i)
-  line-of i l = line-leaves (W .bench .used) (W .bench .kind) (W .bench .width) (W .bench .words) (W .bench .queue) (W .store) i (lineAt (W .bench .workers) i) l
+  line-of i l = line-leaves (W .bench .used) (W .bench .kind) (tagBits (W .bench)) (W .bench .words) (W .bench .queue) (W .store) i (lineAt (W .bench .workers) i) l
 
   thief-ends-none : (k z : ℕ) → Next z z (nextEffect W (suc k) .answer)
   thief-ends-none k z =
@@ -243,7 +243,7 @@ module _ {W : World} (H : Whole W) (J : OpenUsed W) where
   stepped-moves (suc k) M = thief-moves k (nextEffect W (suc k) .line) (nextEffect W (suc k) .answer) (thief-ends-none k)
 
   pub call-moves : (c : Call) → Moves W (callOf W c)
-  call-moves c = call-cases (Moves W) W (λ r l. (J, omega arith)) begun-moves stepped-moves c
+  call-moves c = call-cases (Moves W) W (λ r l. (J, omega arith)) begun-moves stepped-moves (λ i. (J, omega arith)) c
 
 -- A LIST. What ends a put ends the next one, and the next number only rises
 pub next-rises : (x y : ℕ) (a : Answer) → Next x y a → finishes a + x ≤ y
@@ -291,11 +291,11 @@ ended-rise (c ∷ cs) W H J zero (suc j) m n l (e, q) b =
 ended-rise (c ∷ cs) W H J (suc i) (suc j) m n l a b =
     ended-rise cs (callOf W c .world) (call-whole H c) (call-moves H J c .0) i j m n (omega arith) a b
 
-pub started-open : (W : World) (w : ℕ) → Started W w → OpenUsed W
-started-open W w F = subst (Within (W .bench .used)) (sym (F .idle)) (omega arith)
+pub started-open : (W : World) → Started W → OpenUsed W
+started-open W F = subst (Within (W .bench .used)) (sym (F .idle)) (omega arith)
 
 -- THE CLAIM: of two puts that end, the later one has the larger number
 pub ended-puts-rise : FromFresh (λ W. (cs : List Call) (i j m n : ℕ) → i < j → At (played W cs) i (EndsPut m) → At (played W cs) j (EndsPut n) → m < n)
 ended-puts-rise s m l e cs =
     let F = fresh-started s m l e in
-    ended-rise cs (freshOf s m l .world) (F .whole) (started-open _ _ F)
+    ended-rise cs (freshOf s m l .world) (F .whole) (started-open _ F)

@@ -10,8 +10,8 @@ use Rattle.model.specs.declared.Setup.{Setup}
 use Rattle.model.specs.declared.Kind.{Kind}
 use Rattle.model.specs.declared.Kind.the-variants.{Fifo}
 use Rattle.model.specs.declared.Task.{Task}
-use Rattle.model.specs.Tests.{if_then_else_}
-use Rattle.model.specs.World.{World}
+use Rattle.model.specs.Tests.{if_then_else_, _or_}
+use Rattle.model.specs.World.{World, tagBits}
 use Rattle.model.specs.declared.Answer.the-variants.{Accepted}
 use Rattle.model.specs.Calls.{freshOf, kindOf, Call, callOf}
 use Rattle.model.specs.Run.{Played, played, after}
@@ -21,8 +21,8 @@ use Rattle.theorems.proofs.Events.{Event, quiet, line-1, finished-put, handed-o
 use Rattle.theorems.proofs.Window.{View}
 use Rattle.theorems.proofs.Order.{Given, InTurn, Rises, Order}
 use Rattle.theorems.proofs.Places.{EventAt, rev, said-rev, mem-rev, at-mem}
-use Rattle.theorems.proofs.SoundRun.{event-at, events, InvOf, run-kept, call-like}
-use Rattle.theorems.proofs.Fresh.{Started, fresh-started, fresh-is}
+use Rattle.theorems.proofs.SoundRun.{event-at, events, InvOf, Runs, run-kept, call-like}
+use Rattle.theorems.proofs.Fresh.{Started, fresh-runs, fresh-started, fresh-is}
 use Rattle.order.proofs.LogFront.{log-is-answers}
 use Rattle.order.proofs.CutAnswers.{answers-cut, words-le}
 use Rattle.order.proofs.LogOrder.{log-in-order}
@@ -102,7 +102,7 @@ fifo-run s m l e second cs = in-order (played U cs) (rises-of _ _ _ _ kind (R .0
     U : World
     U = freshOf s m l .world
 
-    F : Started U (s .width)
+    F : Started U
     F = fresh-started s m l e
 
     fifo : U .bench .kind ≡ Fifo
@@ -112,10 +112,12 @@ fifo-run s m l e second cs = in-order (played U cs) (rises-of _ _ _ _ kind (R .0
     kind = kind-kept cs U ∙ fifo
 
     R : InvOf (after U cs) (rev (events (played U cs)) []) × GoodHistory (rev (events (played U cs)) [])
-    R = run-kept Fifo (U .bench .width) cs U [] fifo refl (F .whole) (F .inv) tt (λ u d. absurd (List·Memᴰ·not-nil d)) (no-premise (U .bench .width) (rev (events (played U cs)) []))
+    R =
+        run-kept Fifo (tagBits (U .bench)) cs U [] (subst (λ (κ : Kind). Runs κ (tagBits (U .bench)) U []) fifo (fresh-runs U F))
+        (no-premise (tagBits (U .bench)) (rev (events (played U cs)) []))
 
 pub fifo-in-order : FifoInOrder
-unfolding if_then_else_
+unfolding if_then_else_ _or_
 fifo-in-order s m l is e cs = fifo-run s m l e (ap kindOf is) cs
 
 pub fifo-log-in-order : FifoLogInOrder

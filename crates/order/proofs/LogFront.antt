@@ -12,12 +12,12 @@ use borrow.Author.Tests.{ltb-false}
 use Rattle.model.specs.declared.Operation.{Operation}
 use Rattle.model.specs.declared.Operation.the-variants.{Put, Take, Steal}
 use Rattle.model.specs.declared.Answer.{Answer}
-use Rattle.model.specs.declared.Answer.the-variants.{Refused}
+use Rattle.model.specs.declared.Answer.the-variants.{Accepted, Refused}
 use Rattle.model.specs.Tests.{if_then_else_, _and_}
 use Rattle.model.specs.Memory.{setAll}
 use Rattle.model.specs.Answers.{entryOf, ends, entryLength, entryWords}
 use Rattle.model.specs.World.{World, Outcome}
-use Rattle.model.specs.Calls.{beginAnswer, logFull, frontOf, kindOf, Call, callOf, nextEffect}
+use Rattle.model.specs.Calls.{beginAnswer, logFull, frontOf, kindOf, linkedOf, Call, callOf, nextEffect}
 use Rattle.model.specs.Run.{played, after}
 use Rattle.model.proofs.Tests.{or-false}
 use Rattle.theorems.specs.Demand3.{FromFresh}
@@ -82,7 +82,7 @@ call-adds : (W : World) → W .bench .words ≤ 4 → W .bench .written ≤ leng
 call-adds W g h c =
     call-cases (Adds W) W (λ r l. (h, adds-none (W .bench .words) front (Refused r) refl))
     (λ i op B. (h, adds-none (W .bench .words) front (beginAnswer op (W .bench .used)) (begin-ends-none op (W .bench .used))))
-    (λ i M. step-adds (W .bench .words) (W .log) (W .bench .written) (nextEffect W i .answer) (ends (nextEffect W i .answer)) g h (M .room)) c
+    (λ i M. step-adds (W .bench .words) (W .log) (W .bench .written) (nextEffect W i .answer) (ends (nextEffect W i .answer)) g h (M .room)) (λ i. (h, adds-none (W .bench .words) front Accepted refl)) c
   where
     front : List ℕ
     front = take (W .bench .written) (W .log)
@@ -103,7 +103,8 @@ pub log-is-answers : LogIsAnswers
 log-is-answers s m l e =
     let F = fresh-is s m l e in
     subst (λ (W : World). (cs : List Call) → logFront (after W cs) ≡ entries (W .bench .words) (played W cs))
-    (sym (F .0)) (λ cs. front-grows (s .words) cs (start (kindOf (s .kind)) (s .width) (s .size) (s .crew) (s .words) m l) refl (F .1 .words .1) (omega arith))
+    (sym (F .0))
+    (λ cs. front-grows (s .words) cs (start (kindOf (s .kind)) (linkedOf (s .kind)) (s .width) (s .size) (s .crew) (s .words) m l) refl (F .1 .words .1) (omega arith))
 
 -- which lies in the log, so that the front has as many words as are written
 pub written-is : FromFresh (λ W. (cs : List Call) → after W cs .bench .written ≡ length (entries (W .bench .words) (played W cs)))

@@ -48,7 +48,7 @@ stepItems W i zero = []
 stepItems W i (suc m) =
     plays (step i) ∷ (if isRefused (stepOf W i .answer) then [] else stepItems (stepOf W i .world) i m)
 
--- a `put` with another count of words than the queue's is a bad line
+-- a `put` with another count of words than the queue's is a bad line; no line drops a link
 abbrev pub lineItems : World → Command → List Item
 lineItems W (Open k w c n s v) = badLine ∷ []
 lineItems W (BeginPut v p) = if eqb v (W .bench .words) then plays (begin 0 (Put p)) ∷ [] else badLine ∷ []

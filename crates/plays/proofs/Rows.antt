@@ -10,7 +10,7 @@ use Rattle.model.specs.Tasks.{payload, wordIn, withWord, gathered}
 use Rattle.model.specs.Lines.{lineStep}
 use Rattle.model.specs.World.{World}
 use Rattle.model.specs.Limits.{validOf}
-use Rattle.model.specs.Calls.{freshOf, setup, beginOf, stepOf, begin, step}
+use Rattle.model.specs.Calls.{freshOf, setup, beginOf, stepOf, begin, step, dropLink}
 use Rattle.model.specs.Run.{played, after}
 use Rattle.plays.specs.Words.{callsFrom, allAsWords}
 
@@ -22,8 +22,8 @@ abbrev answer : ℕ → ℕ → ℕ → ℕ → List ℕ → List ℕ
 answer k i n p rest = k ∷ i ∷ n ∷ p ∷ 0 ∷ 0 ∷ 0 ∷ rest
 
 -- Calls: a word that is no operation is a step, a payload is looked at in a put alone, and words past the last whole call say nothing
-said : callsFrom (1 ∷ 0 ∷ 65 ∷ 66 ∷ 67 ∷ 68 ∷ call 2 4 9 (call 3 5 9 (call 0 6 9 (call 4 7 9 (1 ∷ 0 ∷ 1 ∷ 2 ∷ 3 ∷ []))))) 5
-    ≡ begin 0 (Put (payload 65 66 67 68)) ∷ begin 4 Take ∷ begin 5 Steal ∷ step 6 ∷ step 7 ∷ []
+said : callsFrom (1 ∷ 0 ∷ 65 ∷ 66 ∷ 67 ∷ 68 ∷ call 2 4 9 (call 3 5 9 (call 0 6 9 (call 4 7 9 (call 5 8 9 (1 ∷ 0 ∷ 1 ∷ 2 ∷ 3 ∷ [])))))) 6
+    ≡ begin 0 (Put (payload 65 66 67 68)) ∷ begin 4 Take ∷ begin 5 Steal ∷ step 6 ∷ dropLink 7 ∷ step 8 ∷ []
 unfolding callsFrom if_then_else_
 said = refl
 

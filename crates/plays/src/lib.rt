@@ -27,7 +27,7 @@ pub struct Ended {
     pub made: usize,
 }
 
-// Operation 1 is put, 2 take, 3 steal, and any other number a step.
+// Operation 1 is put, 2 take, 3 steal, 4 a link that fails, and any other number a step.
 fn call(
     bench: Bench,
     operation: u32,
@@ -50,6 +50,9 @@ fn call(
     }
     if operation == 3 {
         return bench.begin(worker, Operation::Steal, store, log);
+    }
+    if operation == 4 {
+        return bench.drop_link(worker, store, log);
     }
     bench.step(worker, store, log)
 }

@@ -1,3 +1,4 @@
+pub mod LinkedKinds
 pub mod WidestTag
 pub mod Rounds
 pub mod TightList

@@ -19,8 +19,8 @@ use Rattle.model.specs.declared.Answer.the-variants.{Accepted, Numbered, GoesOn
 use Rattle.model.specs.declared.Refusal.the-variants.{NumbersSpent, LogFull, ForeignState}
 use Rattle.model.specs.Tests.{if_then_else_, _and_, _or_}
 use Rattle.model.specs.Lines.{Effect, eff, anchored, lineStep}
-use Rattle.model.specs.World.{World, Outcome, refuse, resting, lineAt}
-use Rattle.model.specs.Calls.{logFull, begun, beginIn, beginOf, oneMore, stepped, noRoom, stepIn, stepOf, Call, begin, step, callOf}
+use Rattle.model.specs.World.{World, Outcome, refuse, tagBits, resting, lineAt}
+use Rattle.model.specs.Calls.{logFull, begun, beginIn, beginOf, oneMore, stepped, noRoom, stepIn, stepOf, Call, begin, step, dropLink, callOf}
 use Rattle.model.specs.Tasks.{payload, task, wordsIn, wordIn, withWord, gathered}
 use Rattle.model.specs.Answers.{Entry, entry, entryLength, entryWords}
 use Rattle.model.specs.Memory.{wordAt, setWord, setAll, nowhere, offsetAt, lengthAt, sizeAt}
@@ -34,11 +34,13 @@ use Rattle.theorems.proofs.Events.{is-line-1}
 abbrev pub rawOf : World → Call → Outcome
 rawOf U (begin i op) = beginIn U i op
 rawOf U (step i) = stepIn U i
+rawOf U (dropLink i) = callOf U (dropLink i)
 
 pub raw-is : (U : World) (c : Call) → Whole U → callOf U c ≡ rawOf U c
 unfolding beginOf stepOf if_then_else_
 raw-is U (begin i op) H = ap (λ (x : Bool). if x then rawOf U (begin i op) else refuse U ForeignState) (valid U H)
 raw-is U (step i) H = ap (λ (x : Bool). if x then rawOf U (step i) else refuse U ForeignState) (valid U H)
+raw-is U (dropLink i) H = refl
 
 abbrev pub rawAfter : World → List Call → World
 rawAfter U [] = U
@@ -117,7 +119,16 @@ here κ v w a n wr o θ m lg =
             width = w;
             words = many v;
             crew = 2;
-            queue = record { anchor = a; arrays = record { offset = 0; length = (many v + 1) * 1 } ∷ replicate 10 nowhere; published = 1; claimed = 1; initial = 1 };
+            queue =
+                record {
+                  linked = false;
+                  anchor = a;
+                  arrays = record { offset = 0; length = (many v + 1) * 1 } ∷ replicate 10 nowhere;
+                  published = 1;
+                  claimed = 1;
+                  initial = 1;
+                  links = replicate 8 false;
+                };
             used = n;
             restarts = 0;
             written = wr;
@@ -163,7 +174,7 @@ past (suc n) U = not (is-line-1 (lineAt (U .bench .workers) 1)) and past n (rawO
 
 -- the last step of an operation, with room in the log or without
 abbrev ending : World → ℕ → Line → Bool → Outcome
-ending S i l b = if b then refuse S LogFull else stepped S i (lineStep (S .bench .kind) (S .bench .width) (S .bench .words) (S .bench .queue) (S .store) i l)
+ending S i l b = if b then refuse S LogFull else stepped S i (lineStep (S .bench .kind) (tagBits (S .bench)) (S .bench .words) (S .bench .queue) (S .store) i l)
 
 abbrev begun-or : World → Payload → Bool → Outcome
 begun-or U p b = if b then begun U 0 (Put p) else refuse U NumbersSpent

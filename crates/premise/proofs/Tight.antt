@@ -28,6 +28,7 @@ use Rattle.model.specs.Answers.{entry, entryLength, entryWords}
 use Rattle.model.specs.Memory.{zeros}
 use Rattle.model.specs.Run.{Played, played, after}
 use Rattle.model.specs.Figures.{anchor}
+use Rattle.model.specs.Limits.{kindOk}
 use Rattle.model.specs.Window.{tasks}
 use Rattle.theorems.specs.Demand3.{At, Begins, Finishes, Line1, Compares, Attempt, puts, between, Stands}
 use Rattle.premise.specs.Premise.{Loses, Tight}
@@ -149,6 +150,11 @@ emptied four m = refl
 regroup : (a b c d e f : List Answer) → (a ++ (b ++ (c ++ (d ++ e)))) ++ f ≡ (((a ++ b) ++ c) ++ d) ++ (e ++ f)
 regroup a b c d e f = simp append-assoc
 
+-- neither is linked
+tagged-kind : (κ : Tagged) → kindOk (theKind κ) false ≡ true
+tagged-kind lifo = refl
+tagged-kind deque = refl
+
 -- a count of 0 leaves no window
 no-tasks : (κ : Tagged) (h g : ℕ) → tasks (theKind κ) (anchor h 0 g) ≡ 0
 no-tasks lifo h g = refl
@@ -156,7 +162,7 @@ no-tasks deque h g = refl
 
 module _ (κ : Tagged) (v : Wide) (w : ℕ) (m l : List ℕ) (low : 0 < w) (high : w ≤ 15) (slot : many v + 1 ≤ length m) (long : 2 * entryLength (many v) * (2 ^ w + 1) ≤ length l) where
   abbrev B : World
-  B = start (theKind κ) w 1 2 (many v) m l
+  B = start (theKind κ) false w 1 2 (many v) m l
 
   abbrev rest : List ℕ
   rest = drop (many v + 1) m
@@ -165,9 +171,9 @@ module _ (κ : Tagged) (v : Wide) (w : ℕ) (m l : List ℕ) (low : 0 < w) (high
   abbrev d : ℕ
   d = entryLength (many v)
 
-  H : Whole (start (theKind κ) w 1 2 (many v) m l)
+  H : Whole (start (theKind κ) false w 1 2 (many v) m l)
   unfolding if_then_else_ _or_
-  H = fresh-whole (theKind κ) w 1 2 (many v) m l (record { width = (low, omega arith); test = refl; crew = (omega arith, omega arith); words = many-in v; room = omega (arith, slot) })
+  H = fresh-whole (theKind κ) false w 1 2 (many v) m l (record { width = (low, omega arith); test = refl; crew = (omega arith, omega arith); words = many-in v; room = omega (arith, slot) }) (tagged-kind κ)
 
   few : 2 ^ w ≤ 32768
   few = omega (arith, pow-mono high)
@@ -182,7 +188,7 @@ module _ (κ : Tagged) (v : Wide) (w : ℕ) (m l : List ℕ) (low : 0 < w) (high
   room-for : (lg : List ℕ) (wr j : ℕ) → length lg ≡ length l → wr ≡ d * j → suc j ≤ 2 * (2 ^ w + 1) → logFull (many v) lg wr ≡ false
   room-for lg wr j e q h = has-room (many v) lg wr (omega (arith, e, q, fits (suc j) h .0)) (omega (arith, q, fits (suc j) h .1))
 
-  blank-is : start (theKind κ) w 1 2 (many v) m l ≡ here κ v w (anchor 0 0 0) 0 0 Idle Idle (holding v 0 0 rest) l
+  blank-is : start (theKind κ) false w 1 2 (many v) m l ≡ here κ v w (anchor 0 0 0) 0 0 Idle Idle (holding v 0 0 rest) l
   blank-is = ap (λ (s : List ℕ). here κ v w (anchor 0 0 0) 0 0 Idle Idle s l) (emptied v m)
 
   abbrev g0 : ℕ
@@ -516,7 +522,7 @@ module _ (κ : Tagged) (v : Wide) (w : ℕ) (m l : List ℕ) (low : 0 < w) (high
       none : Stands emptied-at lostTask → ⊥
       none (i, l, a) = omega (arith, no-tasks κ (h2 κ) g0)
 
-  pub loses : Loses (start (theKind κ) w 1 2 (many v) m l) (tightList v κ w) (2 ^ w)
+  pub loses : Loses (start (theKind κ) false w 1 2 (many v) m l) (tightList v κ w) (2 ^ w)
   loses =
       record {
         thief = 1;
@@ -543,7 +549,7 @@ tagged k (inl e) = (lifo, e)
 tagged k (inr e) = (deque, e)
 
 accepted : (κ : Tagged) (v : Wide) (w : ℕ) (m l : List ℕ) → 0 < w → w ≤ 15 → many v + 1 ≤ length m
-    → freshOf (setup (number κ) w 1 2 (many v)) m l ≡ record { world = start (theKind κ) w 1 2 (many v) m l; answer = Accepted }
+    → freshOf (setup (number κ) w 1 2 (many v)) m l ≡ record { world = start (theKind κ) false w 1 2 (many v) m l; answer = Accepted }
 unfolding freshOf _and_ if_then_else_ _or_
 accepted lifo v w m l a b c =
     rw (lt-ltb 0 w a, le-leb w 16 (omega arith), lt-ltb 0 (many v) (many-in v .0), le-leb (many v) 4 (many-in v .1), le-leb ((many v + 1) * 1) (length m) (omega (arith, c)))

@@ -17,6 +17,7 @@ use Rattle.theorems.proofs.WholeRun.{call-whole, whole-run}
 use Rattle.theorems.proofs.Fresh.{Started, fresh-started}
 use Rattle.order.proofs.EndedPuts.{openPut, next, OpenUsed, call-moves, next-rises, started-open}
 use Rattle.theorems.proofs.NothingLost.{demand3}
+use Rattle.premise.proofs.LinkedKinds.{few-linked}
 
 -- a list finishes no more puts than it uses numbers
 run-count : (cs : List Call) (U : World) → Whole U → OpenUsed U → puts (played U cs) + next U ≤ suc (after U cs .bench .used)
@@ -37,19 +38,19 @@ puts-take [] (suc n) = omega arith
 puts-take (s ∷ T) (suc n) = omega (arith, puts-take T n)
 
 -- at most 65,535 puts finish
-few-puts : (W : World) (w : ℕ) → Started W w → (cs : List Call) → puts (played W cs) ≤ 65535
-few-puts W w F cs =
+few-puts : (W : World) → Started W → (cs : List Call) → puts (played W cs) ≤ 65535
+few-puts W F cs =
     omega (
       arith,
-      run-count cs W (F .whole) (started-open W w F),
+      run-count cs W (F .whole) (started-open W F),
       whole-run cs W (F .whole) .used,
       ap (λ (o : Line). openPut o (suc (W .bench .used))) (F .idle),
     )
 
 few16 : (κ : Kind) (w d : ℕ) → w ≡ 16 → d ≤ 65535 → Few κ w d
-few16 Lifo w d e h = rw e (omega arith)
+few16 Lifo w d e h = λ some. rw e (omega arith)
 few16 Fifo w d e h = tt
-few16 Deque w d e h = rw e (omega arith)
+few16 Deque w d e h = λ some. rw e (omega arith)
 
 pub widest-tag : WidestTag
 widest-tag s m l e is16 cs = demand3 s m l e cs few
@@ -59,10 +60,11 @@ widest-tag s m l e is16 cs = demand3 s m l e cs few
 
     few : FewPuts U cs
     few i l′ j x a =
-        few16 (U .bench .kind) (U .bench .width) _ (omega (arith, is16))
+        few-linked (U .bench .kind) (U .bench .queue .linked) (U .bench .width) _
+        (λ z. few16 (U .bench .kind) (U .bench .width) _ (omega (arith, is16))
         (omega (
           arith,
-          few-puts U (s .width) (fresh-started s m l e) cs,
+          few-puts U (fresh-started s m l e) cs,
           puts-take (drop (suc l′) (played U cs)) (j - suc l′),
           puts-drop (played U cs) (suc l′),
-        ))
+        )))

@@ -1,9 +1,10 @@
--- The premise of demand 3: at width 16 it is not needed, and at every other width it is tight.
+-- The premise of demand 3: linked kinds and width 16 do not need it, and without a link it is tight at every other width.
 use mathlib.Core.Path.{_≡_}
 use mathlib.Core.Logic.{_⊎_}
 use mathlib.Core.List.{List}
 use Prim.Native.Nat.{ℕ, _+_, _*_, _^_, _≤_, _<_}
 use lib.ListN.{length}
+use Rattle.model.specs.declared.Setup.{Setup}
 use Rattle.model.specs.declared.Task.{Task}
 use Rattle.model.specs.declared.Answer.the-variants.{Accepted}
 use Rattle.model.specs.Answers.{entryLength}
@@ -11,6 +12,12 @@ use Rattle.model.specs.World.{World}
 use Rattle.model.specs.Calls.{freshOf, setup, Call}
 use Rattle.model.specs.Run.{played, after}
 use Rattle.theorems.specs.Demand3.{At, Compares, Attempt, Done, Out, Stands, puts, between, Demand3, FromFresh}
+
+-- The linked kinds, 4 and 5, need no premise: from any accepted fresh of them, whatever the store and the log held before
+abbrev pub LinkedKinds : Type 0
+LinkedKinds =
+    (s : Setup) (store log : List ℕ) → (s .kind ≡ 4) ⊎ (s .kind ≡ 5) → freshOf s store log .answer ≡ Accepted
+    → (cs : List Call) → Demand3 (freshOf s store log .world) cs
 
 -- At width 16 demand 3 needs no premise: there are not 2^16 puts
 abbrev pub WidestTag : Type 0

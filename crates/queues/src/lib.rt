@@ -2,14 +2,14 @@
 // a time in the order that the caller chooses. A bench is a value; each call takes it and hands the
 // next one back, beside the store and the log that the caller lends. A call may be handed any state,
 // any numbers and any memory: it is refused where document 01 says so, and then changes nothing.
-// Uses `model`, `answers`, `limits`, `memory`, `state`, `opening` and `machine`. It is used by `plays`, `calls`, `exercise` and
+// Uses `model`, `answers`, `limits`, `memory`, `state`, `opening`, `events` and `machine`. It is used by `plays`, `calls`, `exercise` and
 // `pace`.
 ghost use mathlib.Core.Path.{_≡_};
 ghost use mathlib.Core.List.{List};
 ghost use Prim.Native.Nat.{ℕ};
 ghost use Rattle.model.specs.declared.Answer.the-variants.{Refused};
 ghost use Rattle.model.specs.Answers.{numberOf, entryOf};
-ghost use Rattle.model.specs.Calls.{lent, freshOf, beginOf, stepOf, frontOf};
+ghost use Rattle.model.specs.Calls.{lent, freshOf, beginOf, stepOf, dropLinkOf, frontOf};
 ghost use Rattle.answers.specs.Entries.{asDefined};
 ghost use Rattle.queues.specs.Left.{left};
 use answers::Entry;
@@ -119,6 +119,13 @@ impl Bench {
             bench: Bench { state: next },
             answer: Answer::GoesOn,
         }
+    }
+
+    // A thief's link fails for no reason.
+    pub fn drop_link(self, worker: u32, store: &[u32], log: &[u32]) -> Reply
+        ensures { λ r. ⌜ left r (now (store .entry)) (now (log .entry)) ≡ dropLinkOf (lent (self .state) (now (store .entry)) (now (log .entry))) worker ⌝ }
+    {
+        reply_of(events::drop_link(self.state, worker, store, log))
     }
 
     // The written front of the log, a part of the caller's own slice.

@@ -1,8 +1,11 @@
-// Where a worker stands in its operation, and the counter of restarts.
+// Where a worker stands in its operation, what a thief has read, the tag's bits, and the counter of restarts.
 // Uses `model`. It is used by `limits`, `opening`, `machine` and `listing`.
 ghost use mathlib.Core.Path.{_≡_};
+ghost use Rattle.model.specs.Tests.{if_then_else_};
 ghost use Rattle.model.specs.World.{stage, isIdle};
+ghost use Rattle.model.specs.Limits.{readBy};
 ghost use Rattle.model.specs.Calls.{oneMore};
+use model::Anchor;
 use model::Line;
 
 // Where a worker stands in its operation: the numbers are those of the definition.
@@ -61,6 +64,40 @@ pub fn is_idle(line: Line) -> bool
     ensures { λ r. ⌜ r ≡ isIdle line ⌝ }
 {
     stage(line) == 0
+}
+
+// The anchor that a thief past its line 1 has read.
+pub fn read_by(line: Line) -> Anchor
+    ensures { λ r. ⌜ r ≡ readBy line ⌝ }
+{
+    match line {
+        Line::StealTest { read } => read,
+        Line::StealNote { read } => read,
+        Line::StealWord {
+            read,
+            place: _,
+            task: _,
+            word: _,
+        } => read,
+        Line::StealNext { read, task: _ } => read,
+        Line::StealCompare {
+            read,
+            next: _,
+            task: _,
+        } => read,
+        _ => Anchor {
+            head: 0,
+            count: 0,
+            tag: 0,
+        },
+    }
+}
+
+// The tag's bits: a linked queue has no tag.
+pub fn tag_bits(linked: bool, width: u32) -> u32
+    ensures { λ r. ⌜ r ≡ if_then_else_ linked 0 width ⌝ }
+{
+    if linked { 0 } else { width }
 }
 
 // One more restart; the counter stays at its ceiling.

@@ -5,7 +5,7 @@ ghost use mathlib.Core.Path.{_≡_};
 ghost use Prim.Native.Nat.{_≤_, _<_};
 ghost use Rattle.model.specs.declared.Answer.the-variants.{Refused};
 ghost use Rattle.model.specs.Lines.{anchored, publishing};
-ghost use Rattle.model.specs.Calls.{blank, noBench};
+ghost use Rattle.model.specs.Calls.{blank, noBench, linkSet};
 ghost use Rattle.state.specs.Pieces.{opened};
 use model::Anchor;
 use model::Answer;
@@ -41,10 +41,10 @@ pub fn refused(bench: Bench, why: Refusal) -> Returned
 }
 
 // A state with no operation open, over one array of `size` tasks of `words` payload words.
-pub fn made(kind: Kind, width: u32, size: u32, crew: u32, words: u32) -> Bench
+pub fn made(kind: Kind, linked: bool, width: u32, size: u32, crew: u32, words: u32) -> Bench
     requires { ⌜ size ≤ 1024 ⌝ }
     requires { ⌜ words ≤ 4 ⌝ }
-    ensures { λ r. ⌜ r ≡ blank kind width size crew words ⌝ }
+    ensures { λ r. ⌜ r ≡ blank kind linked width size crew words ⌝ }
 {
     let long = (words + 1) * size;
     let mut arrays = [Region {
@@ -61,6 +61,7 @@ pub fn made(kind: Kind, width: u32, size: u32, crew: u32, words: u32) -> Bench
         words: words,
         crew: crew,
         queue: Queue {
+            linked: linked,
             anchor: Anchor {
                 head: 0,
                 count: 0,
@@ -70,6 +71,7 @@ pub fn made(kind: Kind, width: u32, size: u32, crew: u32, words: u32) -> Bench
             published: 1,
             claimed: 1,
             initial: size,
+            links: [false; 8],
         },
         used: 0,
         restarts: 0,
@@ -82,7 +84,7 @@ pub fn made(kind: Kind, width: u32, size: u32, crew: u32, words: u32) -> Bench
 pub fn none() -> Bench
     ensures { λ r. ⌜ r ≡ noBench ⌝ }
 {
-    made(Kind::Lifo, 0, 0, 0, 0)
+    made(Kind::Lifo, false, 0, 0, 0, 0)
 }
 
 // A worker gets its first line.
@@ -106,10 +108,22 @@ pub fn publish(queue: Queue) -> Queue
     next
 }
 
+// A write of the anchor, which breaks every link.
 pub fn with_anchor(queue: Queue, anchor: Anchor) -> Queue
     ensures { λ r. ⌜ r ≡ anchored queue anchor ⌝ }
 {
     let mut next = queue;
     next.anchor = anchor;
+    next.links = [false; 8];
+    next
+}
+
+// A worker's link, held or not.
+pub fn with_link(queue: Queue, worker: usize, held: bool) -> Queue
+    requires { ⌜ worker < 8 ⌝ }
+    ensures { λ r. ⌜ r ≡ linkSet queue worker held ⌝ }
+{
+    let mut next = queue;
+    next.links[worker] = held;
     next
 }

@@ -1,18 +1,21 @@
 -- A call's outcome: a refusal, which leaves all as it was, or what the call does once every test is passed.
 use mathlib.Core.Path.{_≡_, refl, ap}
 use mathlib.Core.Bool.{Bool, true, false}
+use mathlib.Core.Logic.{_≢_}
 use Prim.Native.Nat.{ℕ, _<_}
 use native.Mathlib.Omega.{arith}
 use lib.Dec.{ltb}
 use borrow.Author.Tests.{ltb-true}
 use Rattle.model.specs.declared.Operation.{Operation}
 use Rattle.model.specs.declared.Refusal.{Refusal}
-use Rattle.model.specs.declared.Refusal.the-variants.{NoSuchWorker, BusyWorker, IdleWorker, WrongHand, NumbersSpent, LogFull, ForeignState}
+use Rattle.model.specs.declared.Refusal.the-variants.{NoSuchWorker, BusyWorker, IdleWorker, WrongHand, NumbersSpent, LogFull, ForeignState, NoLink}
+use Rattle.model.specs.declared.Answer.the-variants.{Accepted}
 use Rattle.model.specs.Tests.{if_then_else_}
 use Rattle.model.specs.Answers.{numberOf}
-use Rattle.model.specs.World.{World, Outcome, refuse, lineAt, isIdle}
+use Rattle.model.specs.Lines.{holdsLink}
+use Rattle.model.specs.World.{World, Outcome, refuse, requeued, lineAt, isIdle}
 use Rattle.model.specs.Limits.{validOf}
-use Rattle.model.specs.Calls.{rightHand, numbersLeft, begun, beginOf, stepped, noRoom, nextEffect, stepOf, Call, begin, step, callOf}
+use Rattle.model.specs.Calls.{rightHand, numbersLeft, begun, beginOf, stepped, noRoom, nextEffect, stepOf, linkSet, dropLinkOf, Call, begin, step, dropLink, callOf}
 
 -- a property of both branches
 pub pick : (P : Outcome → Type 0) (x : Bool) (D D′ : Outcome) → (x ≡ true → P D) → (x ≡ false → P D′) → P (if x then D else D′)
@@ -23,6 +26,10 @@ pick P false D D′ f g = g refl
 -- a call is refused 12 only where a limit is broken
 abbrev pub Lawful : World → Refusal → Type 0
 Lawful W r = r ≡ ForeignState → validOf W ≡ false
+
+-- what the event leaves
+abbrev pub dropped : World → ℕ → World
+dropped W i = requeued W (linkSet (W .bench .queue) i false)
 
 -- a begin passed its tests; a step did
 pub record MayBegin (W : World) (i : ℕ) (op : Operation) : Type 0 where
@@ -37,7 +44,7 @@ pub record MayStep (W : World) (i : ℕ) : Type 0 where
   pub room : noRoom W (nextEffect W i) ≡ false
 
 module _ (P : Outcome → Type 0) (W : World) (refused : (r : Refusal) → Lawful W r → P (refuse W r)) where
-  other : (r : Refusal) → numberOf r < 12 → P (refuse W r)
+  other : (r : Refusal) → numberOf r ≢ 12 → P (refuse W r)
   other r l = refused r (λ q. absurd (omega (arith, ap numberOf q)))
 
   foreign : validOf W ≡ false → P (refuse W ForeignState)
@@ -68,7 +75,17 @@ module _ (P : Outcome → Type 0) (W : World) (refused : (r : Refusal) → Lawfu
       (λ u. other NoSuchWorker (omega arith)))
       foreign
 
+  pub drop-cases : (i : ℕ) → P (record { world = dropped W i; answer = Accepted }) → P (dropLinkOf W i)
+  unfolding dropLinkOf
+  drop-cases i f =
+      pick P (validOf W) _ _
+      (λ v. pick P (ltb i (W .bench .crew)) _ _
+      (λ u. pick P (holdsLink (W .bench .queue) i) _ _ (λ e. f) (λ e. other NoLink (omega arith)))
+      (λ u. other NoSuchWorker (omega arith)))
+      foreign
+
   pub call-cases : ((i : ℕ) (op : Operation) → MayBegin W i op → P (begun W i op)) → ((i : ℕ) → MayStep W i → P (stepped W i (nextEffect W i)))
-      → (c : Call) → P (callOf W c)
-  call-cases b s (begin i op) = begin-cases i op (b i op)
-  call-cases b s (step i) = step-cases i (s i)
+      → ((i : ℕ) → P (record { world = dropped W i; answer = Accepted })) → (c : Call) → P (callOf W c)
+  call-cases b s d (begin i op) = begin-cases i op (b i op)
+  call-cases b s d (step i) = step-cases i (s i)
+  call-cases b s d (dropLink i) = drop-cases i (d i)

@@ -10,7 +10,7 @@ use Rattle.model.specs.declared.Operation.the-variants.{Put, Take, Steal}
 use Rattle.model.specs.declared.Answer.{Answer}
 use Rattle.model.specs.declared.Answer.the-variants.{Accepted, Numbered, GoesOn, Finished, HandedOut, Empty, Full, Refused}
 use Rattle.model.specs.declared.Task.{Task}
-use Rattle.model.specs.Calls.{Call, begin, step}
+use Rattle.model.specs.Calls.{Call, begin, step, dropLink}
 use Rattle.model.specs.Tasks.{task, firstWords}
 use Rattle.theorems.specs.Demand3.{Few}
 
@@ -79,14 +79,17 @@ event-of-begin ω (begin (suc k) (Put p)) n = quiet
 event-of-begin ω (begin i Take) n = quiet
 event-of-begin ω (begin i Steal) n = quiet
 event-of-begin ω (step i) n = quiet
+event-of-begin ω (dropLink i) n = quiet
 
 abbrev pub event-of-going-on : Call → Line → Event
 event-of-going-on (begin i o) l = quiet
+event-of-going-on (dropLink i) l = quiet
 event-of-going-on (step i) l = cond (is-line-1 l) (line-1 i) (cond (is-compare l) (failed-compare i) quiet)
 
 -- 0 for the owner's take, which compares nothing
 abbrev pub event-of-hand-out : Call → Line → Task → Event
 event-of-hand-out (begin i o) l t = handed-out 0 t
+event-of-hand-out (dropLink i) l t = handed-out 0 t
 event-of-hand-out (step i) l t = cond (is-compare l) (handed-out i t) (handed-out 0 t)
 
 abbrev pub event-of : ℕ → Call → Line → Answer → Event

@@ -36,7 +36,7 @@ use Rattle.theorems.proofs.Directory.{both}
 -- another directory with the same published arrays
 own-dir : (κ : Kind) (w ω : ℕ) (Q : Queue) (μ : List ℕ) (φ : ℕ → Line) (h : History) (o o′ : Line) (d : List Region) (c : ℕ) (I : Inv κ w ω Q μ o φ h)
     → ((k : ℕ) → k < Q .published → (offsetAt d k ≡ offsetAt (Q .arrays) k) × (sizeAt ω d k ≡ sizeAt ω (Q .arrays) k)) → 0 < Q .published
-    → let Q′ : Queue = record { anchor = Q .anchor; arrays = d; published = Q .published; claimed = c; initial = Q .initial } in
+    → let Q′ : Queue = record { linked = Q .linked; anchor = Q .anchor; arrays = d; published = Q .published; claimed = c; initial = Q .initial; links = Q .links } in
     OwnerOk κ (view ω Q′ μ (I .own-lo) (I .own-hi)) (Q .anchor .tag) h o′ → Inv κ w ω Q′ μ o′ φ h
 own-dir κ w ω Q μ φ h o o′ d c I same pos k =
     record {

@@ -16,13 +16,13 @@ use Rattle.model.specs.declared.Line.the-variants.{Idle}
 use Rattle.model.specs.declared.Refusal.{Refusal}
 use Rattle.model.specs.declared.Refusal.the-variants.{UnknownQueue, TagWidth, ArraySize, Crew, ShortStore, PayloadWords}
 use Rattle.model.specs.declared.Answer.the-variants.{Accepted}
-use Rattle.model.specs.Tests.{if_then_else_, _and_}
+use Rattle.model.specs.Tests.{if_then_else_, _and_, _or_}
 use Rattle.model.proofs.Tests.{and-both}
-use Rattle.model.specs.World.{World, Outcome, refuse, resting, lineAt}
+use Rattle.model.specs.World.{World, Outcome, refuse, tagBits, resting, lineAt}
 use Rattle.model.specs.Answers.{logged}
 use Rattle.model.specs.Memory.{zeros, offsetAt, lengthAt, sizeAt}
-use Rattle.model.specs.Limits.{isSize, widthOk, crewOk, wordsOk}
-use Rattle.model.specs.Calls.{blank, noBench, lent, kindOf, freshOf}
+use Rattle.model.specs.Limits.{isSize, kindOk, widthOk, crewOk, wordsOk}
+use Rattle.model.specs.Calls.{blank, noBench, lent, kindOf, linkedOf, freshOf}
 use Rattle.model.specs.Figures.{anchor}
 use Rattle.model.proofs.Directory.{Size, size-pos, size-yes}
 use Rattle.theorems.proofs.Words.{zeros-length}
@@ -32,7 +32,8 @@ use Rattle.theorems.proofs.Order.{order-fresh}
 use Rattle.theorems.proofs.Directory.{both, numbers-zeros, Arrays}
 use Rattle.theorems.proofs.Shape.{Bounded, Spent}
 use Rattle.theorems.proofs.Valid.{Whole}
-use Rattle.theorems.proofs.SoundRun.{InvOf}
+use Rattle.theorems.proofs.SoundRun.{InvOf, Since, Runs}
+use Rattle.theorems.proofs.Links.{none-held}
 
 -- what an accepted fresh was given
 pub record Given (w c n ω : ℕ) (m : List ℕ) : Type 0 where
@@ -43,8 +44,8 @@ pub record Given (w c n ω : ℕ) (m : List ℕ) : Type 0 where
   pub room : (ω + 1) * c ≤ length m
 
 -- the bench that it hands back, with the memory lent to it
-abbrev pub start : Kind → ℕ → ℕ → ℕ → ℕ → List ℕ → List ℕ → World
-start κ w c n ω m l = lent (blank κ w c n ω) (zeros m 0 ((ω + 1) * c)) l
+abbrev pub start : Kind → Bool → ℕ → ℕ → ℕ → ℕ → List ℕ → List ℕ → World
+start κ x w c n ω m l = lent (blank κ x w c n ω) (zeros m 0 ((ω + 1) * c)) l
 
 -- a test that an accepted call passed
 passed : (x : Bool) (D : Outcome) (U : World) (r : Refusal) → (if x then D else refuse U r) .answer ≡ Accepted
@@ -53,12 +54,24 @@ unfolding if_then_else_
 passed true D U r e = (refl, refl, e)
 passed false D U r e = absurd (let z : _≡_ {A = ℕ} 0 1 = cc in omega arith)
 
+-- kinds 0 to 5: the FIFO queue is not linked
+known-kind : (k : ℕ) → k ≤ 5 → kindOk (kindOf k) (linkedOf k) ≡ true
+unfolding if_then_else_ _or_
+known-kind zero h = refl
+known-kind (suc zero) h = refl
+known-kind (suc (suc zero)) h = refl
+known-kind (suc (suc (suc zero))) h = refl
+known-kind (suc (suc (suc (suc zero)))) h = refl
+known-kind (suc (suc (suc (suc (suc zero))))) h = refl
+known-kind (suc (suc (suc (suc (suc (suc k)))))) h = absurd (omega arith)
+
 pub fresh-is : (s : Setup) (m l : List ℕ) → freshOf s m l .answer ≡ Accepted
-    → (freshOf s m l .world ≡ start (kindOf (s .kind)) (s .width) (s .size) (s .crew) (s .words) m l) × Given (s .width) (s .size) (s .crew) (s .words) m
+    → (freshOf s m l .world ≡ start (kindOf (s .kind)) (linkedOf (s .kind)) (s .width) (s .size) (s .crew) (s .words) m l)
+    × Given (s .width) (s .size) (s .crew) (s .words) m × (kindOk (kindOf (s .kind)) (linkedOf (s .kind)) ≡ true)
 unfolding freshOf
 fresh-is s m l e =
     let U = lent noBench m l in
-    let a = passed (ltb 0 (s .kind) and leb (s .kind) 3) _ U UnknownQueue e in
+    let a = passed (ltb 0 (s .kind) and leb (s .kind) 5) _ U UnknownQueue e in
     let b = passed (widthOk (s .width)) _ U TagWidth (a .2) in
     let d = passed (isSize 10 (s .size)) _ U ArraySize (b .2) in
     let f = passed (crewOk (s .crew)) _ U Crew (d .2) in
@@ -75,6 +88,7 @@ fresh-is s m l e =
         words = (ltb-true 0 (s .words) (x .0), leb-true (s .words) 4 (x .1));
         room = leb-true ((s .words + 1) * s .size) (length m) (g .0);
       },
+      known-kind (s .kind) (leb-true (s .kind) 5 (both (ltb 0 (s .kind)) (leb (s .kind) 5) (a .0) .1)),
     )
 
 rests : (q k : ℕ) → lineAt (replicate q resting) k ≡ Idle
@@ -82,16 +96,16 @@ rests zero k = refl
 rests (suc q) zero = refl
 rests (suc q) (suc k) = rests q k
 
-module _ (κ : Kind) (w c n ω : ℕ) (m l : List ℕ) (A : Given w c n ω m) where
-  first-size : sizeAt ω (blank κ w c n ω .queue .arrays) 0 ≡ c
+module _ (κ : Kind) (x : Bool) (w c n ω : ℕ) (m l : List ℕ) (A : Given w c n ω m) (F : kindOk κ x ≡ true) where
+  first-size : sizeAt ω (blank κ x w c n ω .queue .arrays) 0 ≡ c
   unfolding lengthAt sizeAt
   first-size = mul-div-cancel-left c (omega arith)
 
-  first-long : lengthAt (blank κ w c n ω .queue .arrays) 0 ≡ (ω + 1) * c
+  first-long : lengthAt (blank κ x w c n ω .queue .arrays) 0 ≡ (ω + 1) * c
   unfolding lengthAt
   first-long = refl
 
-  first-off : offsetAt (blank κ w c n ω .queue .arrays) 0 ≡ 0
+  first-off : offsetAt (blank κ x w c n ω .queue .arrays) 0 ≡ 0
   unfolding offsetAt
   first-off = refl
 
@@ -101,17 +115,17 @@ module _ (κ : Kind) (w c n ω : ℕ) (m l : List ℕ) (A : Given w c n ω m) wh
   zero-length : length (zeros m 0 ((ω + 1) * c)) ≡ length m
   zero-length = zeros-length m 0 ((ω + 1) * c) (omega (arith, A .room))
 
-  zero-anchor : (κ : Kind) (z : ℕ) → Bounded κ w z 0 (anchor 0 0 0)
-  zero-anchor Lifo z = (refl, omega arith, pow-pos w)
-  zero-anchor Fifo z = (omega arith, omega arith, omega arith, refl)
-  zero-anchor Deque z = (omega arith, omega arith, pow-pos w)
+  zero-anchor : (κ : Kind) (w z : ℕ) → Bounded κ w z 0 (anchor 0 0 0)
+  zero-anchor Lifo w z = (refl, omega arith, pow-pos w)
+  zero-anchor Fifo w z = (omega arith, omega arith, omega arith, refl)
+  zero-anchor Deque w z = (omega arith, omega arith, pow-pos w)
 
   zero-spent : (κ : Kind) → Spent κ 0 Idle 0
   zero-spent Lifo = tt
   zero-spent Fifo = omega arith
   zero-spent Deque = tt
 
-  arrays-ok : Arrays ω (blank κ w c n ω .queue) (zeros m 0 ((ω + 1) * c))
+  arrays-ok : Arrays ω (blank κ x w c n ω .queue) (zeros m 0 ((ω + 1) * c))
   arrays-ok =
       record {
         some = omega arith;
@@ -125,13 +139,15 @@ module _ (κ : Kind) (w c n ω : ℕ) (m l : List ℕ) (A : Given w c n ω m) wh
         numbers = λ a h. numbers-zeros ω m 0 ((ω + 1) * c) (omega arith) (λ a h. absurd (omega arith)) a (omega (arith, first-off, first-long));
       }
     where
-      long : lengthAt (blank κ w c n ω .queue .arrays) 0 ≡ (ω + 1) * sizeAt ω (blank κ w c n ω .queue .arrays) 0
+      long : lengthAt (blank κ x w c n ω .queue .arrays) 0 ≡ (ω + 1) * sizeAt ω (blank κ x w c n ω .queue .arrays) 0
       long = first-long ∙ sym (ap (λ (x : ℕ). (ω + 1) * x) first-size)
 
-  pub fresh-whole : Whole (start κ w c n ω m l)
+  pub fresh-whole : Whole (start κ x w c n ω m l)
   unfolding if_then_else_
   fresh-whole =
       record {
+        kinds = F;
+        links = λ k h. absurd (none-held 8 k h);
         width = A .width;
         words = A .words;
         crew = A .crew;
@@ -142,7 +158,7 @@ module _ (κ : Kind) (w c n ω : ℕ) (m l : List ℕ) (A : Given w c n ω m) wh
         shape =
             record {
               low = 0;
-              anchor = zero-anchor κ _;
+              anchor = zero-anchor κ _ _;
               arrays = arrays-ok;
               claims = refl;
               spent = zero-spent κ;
@@ -156,7 +172,7 @@ module _ (κ : Kind) (w c n ω : ℕ) (m l : List ℕ) (A : Given w c n ω m) wh
   rep-zero Fifo = (refl, refl)
   rep-zero Deque = (refl, refl)
 
-  pub fresh-inv : InvOf (start κ w c n ω m l) []
+  pub fresh-inv : InvOf (start κ x w c n ω m l) []
   fresh-inv =
       record {
         lo = 0;
@@ -179,20 +195,37 @@ module _ (κ : Kind) (w c n ω : ℕ) (m l : List ℕ) (A : Given w c n ω m) wh
         order = order-fresh κ _ refl refl;
         sized = rw first-size sized;
         room = rw (first-off, first-size) (omega (arith, zero-length, A .room));
-        tag = pow-pos w;
+        tag = pow-pos _;
         own = tt;
         th = λ k. rw (rests 8 (suc k)) tt;
       }
 
 -- what is needed of an accepted fresh
-pub record Started (W : World) (w : ℕ) : Type 0 where
+pub record Started (W : World) : Type 0 where
   pub whole : Whole W
   pub inv : InvOf W []
   pub idle : lineAt (W .bench .workers) 0 ≡ Idle
-  pub width : W .bench .width ≡ w
+  pub since : Since W []
 
-pub fresh-started : (s : Setup) (m l : List ℕ) → freshOf s m l .answer ≡ Accepted → Started (freshOf s m l .world) (s .width)
+pub fresh-started : (s : Setup) (m l : List ℕ) → freshOf s m l .answer ≡ Accepted → Started (freshOf s m l .world)
 fresh-started s m l e =
     let F = fresh-is s m l e in
-    subst (λ (W : World). Started W (s .width)) (sym (F .0))
-    (record { whole = fresh-whole (kindOf (s .kind)) (s .width) (s .size) (s .crew) (s .words) m l (F .1); inv = fresh-inv (kindOf (s .kind)) (s .width) (s .size) (s .crew) (s .words) m l (F .1); idle = refl; width = refl })
+    subst Started (sym (F .0))
+    (record {
+      whole = fresh-whole (kindOf (s .kind)) (linkedOf (s .kind)) (s .width) (s .size) (s .crew) (s .words) m l (F .1) (F .2);
+      inv = fresh-inv (kindOf (s .kind)) (linkedOf (s .kind)) (s .width) (s .size) (s .crew) (s .words) m l (F .1) (F .2);
+      idle = refl;
+      since = λ i h. absurd (none-held 8 (suc i) h);
+    })
+
+pub fresh-runs : (W : World) → Started W → Runs (W .bench .kind) (tagBits (W .bench)) W []
+fresh-runs W F =
+    record {
+      kind = refl;
+      bits = refl;
+      whole = F .whole;
+      inv = F .inv;
+      since = F .since;
+      good = tt;
+      numbers = λ u d. absurd (List·Memᴰ·not-nil d);
+    }

@@ -1,5 +1,6 @@
 -- The invariant, and what a step of one worker does to what another has read.
 use mathlib.Core.Path.{_≡_, refl, sym, _∙_, subst}
+use mathlib.Core.Bool.{Bool}
 use mathlib.Core.Logic.{_≢_, _⊎_, inl, inr}
 use mathlib.Core.List.{List, _∷_, List·Memᴰ, List·Memᴰ·tail}
 use Prim.Native.Nat.{ℕ, suc, _+_, _*_, _%_, _^_, _≤_, _<_}
@@ -16,6 +17,7 @@ use Rattle.model.specs.declared.Anchor.{Anchor}
 use Rattle.model.specs.Tasks.{wordIn, gathered}
 use Rattle.model.specs.Memory.{offsetAt, sizeAt}
 use Rattle.model.specs.Lines.{off, size}
+use Rattle.model.specs.Calls.{linkSet}
 use Rattle.model.specs.Figures.{anchor}
 use Rattle.model.proofs.Directory.{Size}
 use Rattle.theorems.proofs.Events.{Event, quiet, line-1, finished-put, handed-out, failed-compare, found-empty, began-put, found-full, History, Out, puts-since, history-at}
@@ -406,3 +408,22 @@ pub grow-read : (κ : Kind) (v v′ : View) (hi : ℕ) → v′ .own-hi ≡ hi �
 grow-read Lifo v v′ hi e t = tt
 grow-read Fifo v v′ hi e t = omega arith
 grow-read Deque v v′ hi e t = tt
+
+-- links are no part of it
+pub inv-relink : {κ : Kind} {w ω : ℕ} {Q : Queue} {μ : List ℕ} {o : Line} {φ : ℕ → Line} {h : History} (i : ℕ) (x : Bool) → Inv κ w ω Q μ o φ h → Inv κ w ω (linkSet Q i x) μ o φ h
+inv-relink i x I =
+    record {
+      lo = I .lo;
+      hi = I .hi;
+      own-lo = I .own-lo;
+      own-hi = I .own-hi;
+      rep = I .rep;
+      tops = I .tops;
+      core = I .core;
+      order = I .order;
+      sized = I .sized;
+      room = I .room;
+      tag = I .tag;
+      own = I .own;
+      th = I .th;
+    }

@@ -12,6 +12,7 @@ pub mod Expand
 pub mod OwnerLines
 pub mod ThiefLines
 pub mod Shape
+pub mod Links
 pub mod ShapeOwner
 pub mod ShapeThief
 pub mod Valid

@@ -15,8 +15,8 @@ use Rattle.model.specs.declared.Refusal.the-variants.{ForeignState}
 use Rattle.model.specs.declared.Answer.{Answer}
 use Rattle.model.specs.declared.Answer.the-variants.{Refused}
 use Rattle.model.specs.Tests.{if_then_else_}
-use Rattle.model.specs.Figures.{isEmpty, isSame}
-use Rattle.model.specs.Lines.{Effect, fits, lineStep}
+use Rattle.model.specs.Figures.{isEmpty}
+use Rattle.model.specs.Lines.{Effect, fits, succeeds, lineStep}
 use Rattle.model.specs.World.{World, Outcome, refuse, lineAt}
 use Rattle.model.specs.Limits.{validOf}
 use Rattle.model.specs.Calls.{beginAnswer, Call, callOf}
@@ -58,7 +58,7 @@ line-answers κ w ω q m i (StealTest r) = either (isEmpty κ r) _ _ refl refl
 line-answers κ w ω q m i (StealNote r) = refl
 line-answers κ w ω q m i (StealWord r k t j) = refl
 line-answers κ w ω q m i (StealNext r t) = refl
-line-answers κ w ω q m i (StealCompare r e t) = either (isSame κ (q .anchor) r) _ _ refl refl
+line-answers κ w ω q m i (StealCompare r e t) = either (succeeds κ q i r) _ _ refl refl
 
 begin-answers : (op : Operation) (u : ℕ) → isRefused (beginAnswer op u) ≡ false
 begin-answers (Put p) u = refl
@@ -73,7 +73,7 @@ no-refusal a p q = let z : _≡_ {A = Bool} (isRefused a) true = ap isRefused q 
 
 not-foreign : (U : World) (c : Call) → validOf U ≡ true → NotForeign (callOf U c)
 not-foreign U c ok =
-    call-cases NotForeign U lawful (λ i op B. no-refusal _ (begin-answers op (U .bench .used))) (λ i M. no-refusal _ (line-answers _ _ _ _ _ i (lineAt (U .bench .workers) i))) c
+    call-cases NotForeign U lawful (λ i op B. no-refusal _ (begin-answers op (U .bench .used))) (λ i M. no-refusal _ (line-answers _ _ _ _ _ i (lineAt (U .bench .workers) i))) (λ i. no-refusal _ refl) c
   where
     lawful : (r : Refusal) → Lawful U r → NotForeign (refuse U r)
     lawful r l q = let s : r ≡ ForeignState = cc in let f = l s in let y : _≡_ {A = ℕ} 0 1 = cc in omega arith

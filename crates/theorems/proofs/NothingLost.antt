@@ -1,7 +1,7 @@
 -- Demand 3. The calls' events, newest first, are a history. From fresh on, each call keeps the invariant and adds an event
 -- that is good in its history (`run-kept`), where the premise holds at each compare (`prem-at`). A good event says what the
 -- claim says of its call; the places of the list and the history tell the same (Places, Translate).
-use mathlib.Core.Path.{_≡_, refl, sym, _∙_, ap, subst}
+use mathlib.Core.Path.{_≡_, sym, _∙_, ap, subst}
 use mathlib.Core.Logic.{_⊎_, inl, inr}
 use mathlib.Core.List.{List, [], List·Memᴰ, List·Memᴰ·not-nil}
 use Prim.Native.Nat.{ℕ, _+_, _-_, _%_, _≤_, _<_}
@@ -16,7 +16,7 @@ use Rattle.model.specs.Tasks.{gathered}
 use Rattle.model.proofs.Tasks.{same-words}
 use Rattle.model.specs.Figures.{slot}
 use Rattle.model.specs.Lines.{off, size}
-use Rattle.model.specs.World.{World}
+use Rattle.model.specs.World.{World, tagBits}
 use Rattle.model.specs.Calls.{freshOf}
 use Rattle.model.specs.Run.{Played, played, after}
 use Rattle.model.specs.Window.{tasks, windowIndex}
@@ -28,7 +28,7 @@ use Rattle.theorems.proofs.Indices.{start-ix}
 use Rattle.theorems.proofs.Invariant.{Inv}
 use Rattle.theorems.proofs.Places.{EventAt, EventLine1, rev, past, said-rev, prem-rev, mem-rev, at-mem, at-rev, rev-at, line1-at, prem-at, newest, at-one}
 use Rattle.theorems.proofs.SoundRun.{event-at, events, InvOf, run-kept}
-use Rattle.theorems.proofs.Fresh.{Started, fresh-started}
+use Rattle.theorems.proofs.Fresh.{Started, fresh-runs, fresh-started}
 use Rattle.theorems.proofs.PutNumbers.{one-number}
 use Rattle.theorems.proofs.Translate.{at-map, at-some, to-ev, from-ev, done-ev, ev-done, ev-began, empty-ev, out-ev, ev-out, ev-attempt, few-ev}
 
@@ -65,7 +65,7 @@ demand3 s m l e cs f =
     U : World
     U = freshOf s m l .world
 
-    F : Started U (s .width)
+    F : Started U
     F = fresh-started s m l e
 
     T : List Played
@@ -76,8 +76,8 @@ demand3 s m l e cs f =
 
     R : InvOf (after U cs) (rev E []) × GoodHistory (rev E [])
     R =
-        run-kept (U .bench .kind) (U .bench .width) cs U [] refl refl (F .whole) (F .inv) tt (λ u d. absurd (List·Memᴰ·not-nil d))
-        (prem-rev (U .bench .kind) (U .bench .width) E [] (prem-at (U .bench .kind) (U .bench .width) E (few-ev cs U f)) tt)
+        run-kept (U .bench .kind) (tagBits (U .bench)) cs U [] (fresh-runs U F)
+        (prem-rev (U .bench .kind) (tagBits (U .bench)) E [] (prem-at (U .bench .kind) (tagBits (U .bench)) E (few-ev cs U f)) tt)
 
     ev : (j : ℕ) (x : Event) → At T j (λ s. event-at s ≡ x) → EventAt E j x
     ev j x a = to-ev T j x a

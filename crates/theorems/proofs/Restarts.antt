@@ -35,11 +35,11 @@ use Rattle.model.specs.declared.Anchor.{Anchor}
 use Rattle.model.specs.declared.Refusal.{Refusal}
 use Rattle.model.specs.declared.Answer.the-variants.{Refused}
 use Rattle.model.specs.Tests.{if_then_else_}
-use Rattle.model.specs.Figures.{isFull, isEmpty, isSame, putRead, takeRead, stealRead, note, stealLast}
-use Rattle.model.specs.Lines.{Effect, size, fits, lineStep, failsCompare}
-use Rattle.model.specs.World.{Outcome, lineAt}
+use Rattle.model.specs.Figures.{isFull, isEmpty, putRead, takeRead, stealRead, note, stealLast}
+use Rattle.model.specs.Lines.{Effect, size, fits, succeeds, lineStep, failsCompare}
+use Rattle.model.specs.World.{Outcome, lineAt, isSteal1}
 use Rattle.model.specs.Calls.{oneMore}
-use Rattle.theorems.specs.Restarts.{RestartsAreFailedCompares, isSteal1, BackToLine1}
+use Rattle.theorems.specs.Restarts.{RestartsAreFailedCompares, BackToLine1}
 use Rattle.theorems.proofs.Cases.{step-cases}
 
 -- neither of two lines is a thief's line 1
@@ -78,7 +78,7 @@ last Lifo r t = refl
 last Fifo r t = refl
 last Deque r t = refl
 
--- the compare: back to line 1 where the anchor is another
+-- the compare: back to line 1 where it fails
 back : (x : Bool) (a b : Effect) → isSteal1 (a .line) ≡ false → isSteal1 (b .line) ≡ true → isSteal1 ((if x then a else b) .line) ≡ not x
 unfolding if_then_else_
 back true a b e f = e
@@ -107,7 +107,7 @@ back-to-line-1 κ w ω q m i (StealTest r) = either-left (isEmpty κ r) _ _ refl
 back-to-line-1 κ w ω q m i (StealNote r) = refl
 back-to-line-1 κ w ω q m i (StealWord r k t j) = either (eqb j ω) (stealLast κ r _) (StealWord r k _ (j + 1)) (last κ r _) refl
 back-to-line-1 κ w ω q m i (StealNext r t) = refl
-back-to-line-1 κ w ω q m i (StealCompare r e t) = back (isSame κ (q .anchor) r) _ _ refl refl
+back-to-line-1 κ w ω q m i (StealCompare r e t) = back (succeeds κ q i r) _ _ refl refl
 
 pub restarts-are-failed-compares : RestartsAreFailedCompares
 restarts-are-failed-compares W i =
@@ -115,6 +115,6 @@ restarts-are-failed-compares W i =
     (λ (D : Outcome).
     ((r : Refusal) → D .answer ≡ Refused r → ⊥)
     → D .world .bench .restarts
-    ≡ (if failsCompare (W .bench .kind) (W .bench .queue .anchor) (lineAt (W .bench .workers) i) then oneMore (W .bench .restarts) else W .bench .restarts))
+    ≡ (if failsCompare (W .bench .kind) (W .bench .queue) i (lineAt (W .bench .workers) i) then oneMore (W .bench .restarts) else W .bench .restarts))
     W (λ r l f. absurd (f r refl)) i
     (λ M f. refl)

@@ -1,5 +1,5 @@
 -- Each line of the owner keeps the shape.
-use mathlib.Core.Path.{_≡_, refl, _∙_, subst}
+use mathlib.Core.Path.{_≡_, refl, sym, _∙_, subst}
 use mathlib.Core.Bool.{Bool, true, false}
 use mathlib.Core.List.{List}
 use Prim.Native.Nat.{ℕ, zero, suc, _+_, _-_, _*_, _≤_, _<_}
@@ -22,6 +22,7 @@ use Rattle.model.specs.Memory.{wordAt, setWord, zeros, offsetAt, sizeAt}
 use Rattle.model.specs.Lines.{Effect, eff, off, len, size, claiming, publishing, anchored, wordOf, writeWord, fits, copyWords, copied, lineStep}
 use Rattle.model.specs.Figures.{slot, putIndex, takeIndex, isFull, isEmpty, afterPut, afterTake, noteAll, anchor}
 use Rattle.model.specs.World.{isExpanding}
+use Rattle.model.specs.Calls.{linkSet}
 use Rattle.model.specs.Limits.{taken}
 use Rattle.model.specs.Tasks.{noTask, wordIn, withWord}
 use Rattle.model.proofs.Tasks.{number-word}
@@ -65,6 +66,26 @@ module _ {κ : Kind} {w ω used : ℕ} {q : Queue} {m : List ℕ} {o : Line} {φ
         own = k;
         th = λ i. thief-keep κ w ω q (anchored q r) (larger-anchor κ ω q r l) (φ i) (S .th i);
       }
+
+-- links are no part of it
+tail-relink : (κ : Kind) (q : Queue) (i : ℕ) (x : Bool) → tail κ (linkSet q i x) ≡ tail κ q
+tail-relink Lifo q i x = refl
+tail-relink Fifo q i x = refl
+tail-relink Deque q i x = refl
+
+pub shape-relink : {κ : Kind} {w ω used : ℕ} {q : Queue} {m : List ℕ} {o : Line} {φ : ℕ → Line} (i : ℕ) (x : Bool) → Shape κ w ω used q m o φ
+    → Shape κ w ω used (linkSet q i x) m o φ
+shape-relink {κ} {w} {ω} {used} {q} {m} {o} {φ} i x S =
+    let e = tail-relink κ q i x in
+    record {
+      low = S .low;
+      anchor = S .anchor;
+      arrays = record { some = S .arrays .some; below = S .arrays .below; few = S .arrays .few; slots = S .arrays .slots; tidied = S .arrays .tidied; kept = S .arrays .kept; power = S .arrays .power; room = S .arrays .room; numbers = S .arrays .numbers };
+      claims = S .claims;
+      spent = S .spent;
+      own = subst (λ (τ : ℕ). OwnShape κ w ω (size ω q) (S .low) τ o) (sym e) (S .own);
+      th = λ k. thief-keep κ w ω q (linkSet q i x) (record { sized = omega arith; later = omega (arith, e); more = omega arith; same = λ k u. refl }) (φ k) (S .th k);
+    }
 
 -- FIFO's owner reads the head
 low-now : (w z low : ℕ) (r : Anchor) → Bounded Fifo w z low r → Bounded Fifo w z (r .head) r

@@ -1,6 +1,6 @@
 -- Each line of a thief keeps the shape.
 use mathlib.Core.Path.{_≡_, refl, sym, subst}
-use mathlib.Core.Bool.{Bool, true, false}
+use mathlib.Core.Bool.{Bool, true, false, not, true≢false}
 use mathlib.Core.Logic.{_≢_, _⊎_, inl, inr}
 use mathlib.Core.List.{List}
 use Prim.Native.Nat.{ℕ, suc, _+_, _-_, _%_, _≤_, _<_}
@@ -16,8 +16,9 @@ use Rattle.model.specs.declared.Queue.{Queue}
 use Rattle.model.specs.declared.Answer.the-variants.{GoesOn, HandedOut, Empty}
 use Rattle.model.specs.declared.Task.{Task}
 use Rattle.model.specs.declared.Anchor.{Anchor}
+use Rattle.model.specs.Limits.{kindOk}
 use Rattle.model.specs.Tests.{if_then_else_}
-use Rattle.model.specs.Lines.{Effect, eff, size, anchored, wordOf, stealOn, lineStep}
+use Rattle.model.specs.Lines.{Effect, eff, size, anchored, succeeds, wordOf, stealOn, lineStep, holdsLink}
 use Rattle.model.specs.Tasks.{noTask, withWord}
 use Rattle.model.specs.Figures.{isSame, slot, stealIndex, isEmpty, afterSteal, stealRead, stealLast, anchor}
 use Rattle.model.proofs.Directory.{size-pos}
@@ -75,25 +76,31 @@ steal-to {κ} {w} {ω} {used} {q} {m} {o} {φ} S k r a u e φ′ is rest =
       th = others κ w ω q (anchored q r) φ φ′ k Idle (larger-anchor κ ω q r (omega arith)) is rest (S .th) tt;
     }
 
-win : (κ : Kind) (w ω used : ℕ) (q : Queue) (m : List ℕ) (o : Line) (φ : ℕ → Line) (k : ℕ) (r : Anchor) (e : ℕ) (t : Task) → isSame κ (q .anchor) r ≡ true → (S : Shape κ w ω used q m o φ)
+-- a FIFO queue is not linked
+fifo-same : (q : Queue) (i : ℕ) (r : Anchor) (x : Bool) → not x ≡ true → (if x then holdsLink q i else isSame Fifo (q .anchor) r) ≡ true → q .anchor .head ≡ r .head
+unfolding if_then_else_
+fifo-same q i r true n z = absurd (true≢false (sym n))
+fifo-same q i r false n z = eqb-true (q .anchor .head) (r .head) z
+
+win : (κ : Kind) (w ω used : ℕ) (q : Queue) (m : List ℕ) (o : Line) (φ : ℕ → Line) (k : ℕ) (r : Anchor) (e : ℕ) (t : Task) → succeeds κ q (suc k) r ≡ true → kindOk κ (q .linked) ≡ true → (S : Shape κ w ω used q m o φ)
     → ThiefShape κ w ω q (tail κ q) (StealCompare r e t) → ShapeKeptT κ w ω used o φ k (eff (anchored q (afterSteal κ (q .anchor) r e)) m Idle (HandedOut (suc k) t))
-win Lifo w ω used q m o φ k r e t z S (R, s, n, u) =
+win Lifo w ω used q m o φ k r e t z n S (R, s, a, u) =
     steal-to S k _ (R .0, omega (arith, R .1), R .2) tt refl
-win Fifo w ω used q m o φ k r e t z S (R, s, n, u) =
+win Fifo w ω used q m o φ k r e t z n S (R, s, a, u) =
     steal-to S k _
     (omega (arith, S .anchor .0, is), omega (arith, R .1, is), S .anchor .2, S .anchor .3) (S .spent) refl
   where
     is : q .anchor .head ≡ r .head
-    is = eqb-true (q .anchor .head) (r .head) z
-win Deque w ω used q m o φ k r e t z S (R, s, n, u) =
-    steal-to S k _ (n, omega (arith, R .1), R .2) tt refl
+    is = fifo-same q (suc k) r (q .linked) n z
+win Deque w ω used q m o φ k r e t z n S (R, s, a, u) =
+    steal-to S k _ (a, omega (arith, R .1), R .2) tt refl
 
-compare : (κ : Kind) (w ω used : ℕ) (q : Queue) (m : List ℕ) (o : Line) (φ : ℕ → Line) (k : ℕ) (r : Anchor) (e : ℕ) (t : Task) (z : Bool) → isSame κ (q .anchor) r ≡ z → (S : Shape κ w ω used q m o φ)
+compare : (κ : Kind) (w ω used : ℕ) (q : Queue) (m : List ℕ) (o : Line) (φ : ℕ → Line) (k : ℕ) (r : Anchor) (e : ℕ) (t : Task) (z : Bool) → succeeds κ q (suc k) r ≡ z → kindOk κ (q .linked) ≡ true → (S : Shape κ w ω used q m o φ)
     → ThiefShape κ w ω q (tail κ q) (StealCompare r e t)
     → ShapeKeptT κ w ω used o φ k (if z then eff (anchored q (afterSteal κ (q .anchor) r e)) m Idle (HandedOut (suc k) t) else eff q m StealRead GoesOn)
 unfolding if_then_else_
-compare κ w ω used q m o φ k r e t true i S s = win κ w ω used q m o φ k r e t i S s
-compare κ w ω used q m o φ k r e t false i S s = thief-stay S k StealRead tt
+compare κ w ω used q m o φ k r e t true i n S s = win κ w ω used q m o φ k r e t i n S s
+compare κ w ω used q m o φ k r e t false i n S s = thief-stay S k StealRead tt
 
 thief-some : (κ : Kind) (w z τ : ℕ) (r : Anchor) → ThiefRead κ w z τ r → isEmpty κ r ≡ false → Some κ r
 thief-some Lifo w z τ r R e = omega (arith, eqb-false (r .count) 0 e)
@@ -160,30 +167,30 @@ next-steal Lifo h d = absurd d
 next-steal Fifo h d = absurd d
 next-steal Deque h d = mod-lt (h + 1) (omega arith)
 
-pub thief-shaped : (κ : Kind) (w ω used : ℕ) (q : Queue) (m : List ℕ) (o : Line) (φ : ℕ → Line) (k : ℕ) (θ : Line) → ω ≤ 4 → (S : Shape κ w ω used q m o φ) → ThiefShape κ w ω q (tail κ q) θ
+pub thief-shaped : (κ : Kind) (w ω used : ℕ) (q : Queue) (m : List ℕ) (o : Line) (φ : ℕ → Line) (k : ℕ) (θ : Line) → ω ≤ 4 → kindOk κ (q .linked) ≡ true → (S : Shape κ w ω used q m o φ) → ThiefShape κ w ω q (tail κ q) θ
     → ShapeKeptT κ w ω used o φ k (lineStep κ w ω q m (suc k) θ)
 unfolding lineStep
-thief-shaped κ w ω used q m o φ k Idle wide S s = thief-stay S k Idle tt
-thief-shaped κ w ω used q m o φ k StealRead wide S s = thief-stay S k (stealRead κ (q .anchor)) (read-steal κ w ω used q m o φ S)
-thief-shaped κ w ω used q m o φ k (StealTail h) wide S s = thief-stay S k (StealTest (anchor h (q .anchor .count) (q .anchor .tag))) (tail-steal κ w ω used q m o φ h S s)
-thief-shaped κ w ω used q m o φ k (StealTest r) wide S s = test-steal κ w ω used q m o φ k r (isEmpty κ r) refl S s
-thief-shaped κ w ω used q m o φ k (StealNote r) wide S (R, s) =
+thief-shaped κ w ω used q m o φ k Idle wide n S s = thief-stay S k Idle tt
+thief-shaped κ w ω used q m o φ k StealRead wide n S s = thief-stay S k (stealRead κ (q .anchor)) (read-steal κ w ω used q m o φ S)
+thief-shaped κ w ω used q m o φ k (StealTail h) wide n S s = thief-stay S k (StealTest (anchor h (q .anchor .count) (q .anchor .tag))) (tail-steal κ w ω used q m o φ h S s)
+thief-shaped κ w ω used q m o φ k (StealTest r) wide n S s = test-steal κ w ω used q m o φ k r (isEmpty κ r) refl S s
+thief-shaped κ w ω used q m o φ k (StealNote r) wide n S (R, s) =
     thief-stay S k (StealWord r (q .published - 1) noTask 0) (R, s, omega (arith, S .arrays .some), slot-now κ w (size ω q) (tail κ q) r R, none-known, omega arith)
-thief-shaped κ w ω used q m o φ k (StealWord r b t j) wide S s =
+thief-shaped κ w ω used q m o φ k (StealWord r b t j) wide n S s =
     thief-stay S k (stealOn κ ω r b (withWord t j (wordOf κ ω q m b (stealIndex κ r) j)) j) (word-steal κ w ω used q m o φ r b t j (eqb j ω) refl wide S s)
-thief-shaped κ w ω used q m o φ k (StealNext r t) wide S (R, s, d, u) = thief-stay S k (StealCompare r ((r .head + 1) % 2048) t) (R, s, next-steal κ (r .head) d, u)
-thief-shaped κ w ω used q m o φ k (StealCompare r e t) wide S s = compare κ w ω used q m o φ k r e t (isSame κ (q .anchor) r) refl S s
-thief-shaped κ w ω used q m o φ k (PutRead t) wide S s = absurd s
-thief-shaped κ w ω used q m o φ k (PutTail t h) wide S s = absurd s
-thief-shaped κ w ω used q m o φ k (PutTest t r) wide S s = absurd s
-thief-shaped κ w ω used q m o φ k (PutWord t r j) wide S s = absurd s
-thief-shaped κ w ω used q m o φ k (PutFinish t r) wide S s = absurd s
-thief-shaped κ w ω used q m o φ k (Claim t) wide S s = absurd s
-thief-shaped κ w ω used q m o φ k (Note t) wide S s = absurd s
-thief-shaped κ w ω used q m o φ k (Copy t h j i) wide S s = absurd s
-thief-shaped κ w ω used q m o φ k (Publish t) wide S s = absurd s
-thief-shaped κ w ω used q m o φ k TakeRead wide S s = absurd s
-thief-shaped κ w ω used q m o φ k (TakeTail h) wide S s = absurd s
-thief-shaped κ w ω used q m o φ k (TakeTest r) wide S s = absurd s
-thief-shaped κ w ω used q m o φ k (TakeWord r t j) wide S s = absurd s
-thief-shaped κ w ω used q m o φ k (TakeFinish r t) wide S s = absurd s
+thief-shaped κ w ω used q m o φ k (StealNext r t) wide n S (R, s, d, u) = thief-stay S k (StealCompare r ((r .head + 1) % 2048) t) (R, s, next-steal κ (r .head) d, u)
+thief-shaped κ w ω used q m o φ k (StealCompare r e t) wide n S s = compare κ w ω used q m o φ k r e t (succeeds κ q (suc k) r) refl n S s
+thief-shaped κ w ω used q m o φ k (PutRead t) wide n S s = absurd s
+thief-shaped κ w ω used q m o φ k (PutTail t h) wide n S s = absurd s
+thief-shaped κ w ω used q m o φ k (PutTest t r) wide n S s = absurd s
+thief-shaped κ w ω used q m o φ k (PutWord t r j) wide n S s = absurd s
+thief-shaped κ w ω used q m o φ k (PutFinish t r) wide n S s = absurd s
+thief-shaped κ w ω used q m o φ k (Claim t) wide n S s = absurd s
+thief-shaped κ w ω used q m o φ k (Note t) wide n S s = absurd s
+thief-shaped κ w ω used q m o φ k (Copy t h j i) wide n S s = absurd s
+thief-shaped κ w ω used q m o φ k (Publish t) wide n S s = absurd s
+thief-shaped κ w ω used q m o φ k TakeRead wide n S s = absurd s
+thief-shaped κ w ω used q m o φ k (TakeTail h) wide n S s = absurd s
+thief-shaped κ w ω used q m o φ k (TakeTest r) wide n S s = absurd s
+thief-shaped κ w ω used q m o φ k (TakeWord r t j) wide n S s = absurd s
+thief-shaped κ w ω used q m o φ k (TakeFinish r t) wide n S s = absurd s

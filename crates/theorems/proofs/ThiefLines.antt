@@ -2,7 +2,7 @@
 use mathlib.Core.Path.{_≡_, refl, sym, _∙_, ap, subst}
 use mathlib.Core.Bool.{Bool, true, false}
 use mathlib.Core.Logic.{_≢_, _⊎_, inl, inr}
-use mathlib.Core.List.{List, _∷_, List·Memᴰ, List·Memᴰ·head, List·Memᴰ·tail}
+use mathlib.Core.List.{List, _∷_, List·Memᴰ·head, List·Memᴰ·tail}
 use Prim.Native.Nat.{ℕ, suc, _+_, _-_, _%_, _^_, _≤_, _<_}
 use native.Mathlib.Omega.{arith}
 use native.Mathlib.Nat.{mod-eq-of-lt, add-zero, mod-add-mod}
@@ -19,7 +19,8 @@ use Rattle.model.specs.declared.Anchor.{Anchor}
 use Rattle.model.specs.Tests.{if_then_else_, _and_}
 use Rattle.model.specs.Memory.{offsetAt, sizeAt}
 use Rattle.model.specs.Calls.{step}
-use Rattle.model.specs.Lines.{Effect, eff, size, anchored, wordOf, stealOn, lineStep}
+use Rattle.model.specs.Lines.{Effect, eff, size, anchored, succeeds, wordOf, stealOn, lineStep, holdsLink}
+use Rattle.model.specs.Limits.{readBy}
 use Rattle.model.specs.Tasks.{noTask, withWord}
 use Rattle.model.proofs.Tasks.{no-words, next-is, number-gathered}
 use Rattle.model.specs.Figures.{isSame, stealLast, stealIndex, isEmpty, afterSteal, stealRead, anchor}
@@ -33,7 +34,7 @@ use Rattle.theorems.proofs.Window.{word, taskAt, View, Plain, plain-don
 use Rattle.theorems.proofs.Order.{Tops, Order, order-ev, plain-out, rising-out}
 use Rattle.theorems.proofs.Seen.{frame-same}
 use Rattle.theorems.proofs.Indices.{StandsFor, Small, stolen-ix, steal-ix, empty-yes, empty-no}
-use Rattle.theorems.proofs.Invariant.{view, Hold, stale, Reads, GotV, NotedV, Next, ThiefOk, Inv, Calm, move-calm, thief-holds, own-keep, emp-now, since-now, emp-calm, grow-same}
+use Rattle.theorems.proofs.Invariant.{view, Tag, Hold, stale, Reads, GotV, NotedV, Next, ThiefOk, Inv, Calm, move-calm, thief-holds, own-keep, emp-now, since-now, emp-calm, grow-same}
 
 -- thief k's line θ leaves E: the lines φ′ are as φ but for k's
 abbrev pub ThiefKept : Kind → ℕ → ℕ → Line → (ℕ → Line) → History → ℕ → Line → Effect → Type 0
@@ -116,10 +117,10 @@ steal-end κ w ω Q μ o φ h k r e t r′ A C n I l m u ln un only R eg tops is
     leave i p q z = (suc k, List·Memᴰ·head {x = handed-out (suc k) t} (rw (only i p q z, is-t)))
 
 -- the compare finds the anchor that was read
-steal-wins : (κ : Kind) (w ω : ℕ) (Q : Queue) (μ : List ℕ) (o : Line) (φ : ℕ → Line) (h : History) (k : ℕ) (r : Anchor) (e : ℕ) (t : Task) → isSame κ (Q .anchor) r ≡ true → (List·Memᴰ (line-1 (suc k)) h → Few κ w (puts-since (suc k) h))
+steal-wins : (κ : Kind) (w ω : ℕ) (Q : Queue) (μ : List ℕ) (o : Line) (φ : ℕ → Line) (h : History) (k : ℕ) (r : Anchor) (e : ℕ) (t : Task) → isSame κ (Q .anchor) r ≡ true → stale κ (puts-since (suc k) h) ≡ 0
     → (I : Inv κ w ω Q μ o φ h) → ThiefOk κ w (view ω Q μ (I .own-lo) (I .own-hi)) (Q .anchor .tag) h (suc k) (StealCompare r e t)
     → ThiefKept κ w ω o φ h k (StealCompare r e t) (eff (anchored Q (afterSteal κ (Q .anchor) r e)) μ Idle (HandedOut (suc k) t))
-steal-wins Lifo w ω Q μ o φ h k r e t q f I (R, l, G, N) =
+steal-wins Lifo w ω Q μ o φ h k r e t q none I (R, l, G, N) =
     steal-end Lifo w ω Q μ o φ h k r e t _ (I .lo) (I .hi - 1) (R .hi - 1) I (omega (arith, hi-is, lo-is)) (omega (arith, hi-is, lo-is)) (omega (arith, hi-is, lo-is)) (omega (arith, hi-is, lo-is)) (omega (arith, hi-is, lo-is))
     only (R .rep .0, I .rep .1, omega (arith, hi-is, lo-is, I .rep .2)) (sym tag) tt
     (G none (omega (arith, hi-is, lo-is, I .core .low)) top) tt
@@ -129,9 +130,6 @@ steal-wins Lifo w ω Q μ o φ h k r e t q f I (R, l, G, N) =
 
     tag : Q .anchor .tag ≡ r .tag
     tag = eqb-true (Q .anchor .tag) (r .tag) (tests .1)
-
-    none : puts-since (suc k) h ≡ 0
-    none = tag-zero (r .tag) (puts-since (suc k) h) (2 ^ w) (R .tag .0) (omega (arith, f (R .begun))) (sym tag ∙ R .tag .1)
 
     hi-is : I .hi ≡ R .hi
     hi-is = I .rep .2 ∙ eqb-true (Q .anchor .count) (r .count) (tests .0) ∙ sym (R .rep .2)
@@ -145,7 +143,7 @@ steal-wins Lifo w ω Q μ o φ h k r e t q f I (R, l, G, N) =
     only : (i : ℕ) → I .lo ≤ i → i < I .hi → (i < I .lo) ⊎ (I .hi - 1 ≤ i) → i ≡ R .hi - 1
     only i a b (inl z) = omega (arith, hi-is)
     only i a b (inr z) = omega (arith, hi-is)
-steal-wins Fifo w ω Q μ o φ h k r e t q f I (R, l, G, N) =
+steal-wins Fifo w ω Q μ o φ h k r e t q none I (R, l, G, N) =
     steal-end Fifo w ω Q μ o φ h k r e t _ (I .lo + 1) (I .hi) (R .lo) I (omega (arith, lo-is, in-window)) (omega (arith, lo-is, in-window)) (omega (arith, lo-is, in-window)) (omega (arith, lo-is, in-window)) (omega (arith, lo-is, in-window))
     only (omega (arith, lo-is, in-window, R .rep .0), I .rep .1) refl (I .tops)
     is-t
@@ -170,7 +168,7 @@ steal-wins Fifo w ω Q μ o φ h k r e t q f I (R, l, G, N) =
     only : (i : ℕ) → I .lo ≤ i → i < I .hi → (i < I .lo + 1) ⊎ (I .hi ≤ i) → i ≡ R .lo
     only i a b (inl z) = omega (arith, lo-is)
     only i a b (inr z) = omega (arith, lo-is)
-steal-wins Deque w ω Q μ o φ h k r e t q f I (R, l, G, N) =
+steal-wins Deque w ω Q μ o φ h k r e t q none I (R, l, G, N) =
     steal-end Deque w ω Q μ o φ h k r e t _ (I .lo + 1) (I .hi) (R .lo) I (omega (arith, lo-is, hi-is)) (omega (arith, lo-is, hi-is)) (omega (arith, lo-is, hi-is)) (omega (arith, lo-is, hi-is)) (omega (arith, lo-is, hi-is))
     only (head, omega (arith, lo-is, hi-is, R .rep .1)) (sym tag) (I .tops)
     (G none (omega (arith, lo-is, hi-is, I .core .low)) top) tt
@@ -183,9 +181,6 @@ steal-wins Deque w ω Q μ o φ h k r e t q f I (R, l, G, N) =
 
     tag : Q .anchor .tag ≡ r .tag
     tag = eqb-true (Q .anchor .tag) (r .tag) (tests′ .1)
-
-    none : puts-since (suc k) h ≡ 0
-    none = tag-zero (r .tag) (puts-since (suc k) h) (2 ^ w) (R .tag .0) (omega (arith, f (R .begun))) (sym tag ∙ R .tag .1)
 
     count : Q .anchor .count ≡ r .count
     count = eqb-true (Q .anchor .count) (r .count) (tests′ .0)
@@ -211,13 +206,40 @@ steal-wins Deque w ω Q μ o φ h k r e t q f I (R, l, G, N) =
     only i a b (inl z) = omega (arith, lo-is)
     only i a b (inr z) = omega (arith, lo-is)
 
-steal-compare : (κ : Kind) (w ω : ℕ) (Q : Queue) (μ : List ℕ) (o : Line) (φ : ℕ → Line) (h : History) (k : ℕ) (r : Anchor) (e : ℕ) (t : Task) (z : Bool) → isSame κ (Q .anchor) r ≡ z
-    → (I : Inv κ w ω Q μ o φ h) → ThiefOk κ w (view ω Q μ (I .own-lo) (I .own-hi)) (Q .anchor .tag) h (suc k) (StealCompare r e t)
+-- no put has finished since line 1: a link is held, or the tag is as it was read and few puts finish
+none-tagged : (κ : Kind) (w d : ℕ) (a r : Anchor) → isSame κ a r ≡ true → Tag κ w (a .tag) d (r .tag) → Few κ w d → 0 < w → stale κ d ≡ 0
+none-tagged Lifo w d a r q (l, t) f some =
+    tag-zero (r .tag) d (2 ^ w) l (omega (arith, f some)) (sym (eqb-true (a .tag) (r .tag) (both (eqb (a .count) (r .count)) _ q .1)) ∙ t)
+none-tagged Fifo w d a r q t f some = refl
+none-tagged Deque w d a r q (l, t) f some =
+    tag-zero (r .tag) d (2 ^ w) l (omega (arith, f some))
+    (sym (eqb-true (a .tag) (r .tag) (both (eqb (a .count) (r .count)) _ (both (eqb (a .head) (r .head)) _ q .1) .1)) ∙ t)
+
+none-linked : (κ : Kind) (d : ℕ) → d ≡ 0 → stale κ d ≡ 0
+none-linked Lifo d e = e
+none-linked Fifo d e = refl
+none-linked Deque d e = e
+
+-- what a held link says
+abbrev pub LinkSound : Kind → Queue → History → ℕ → Line → Type 0
+LinkSound κ Q h k θ = holdsLink Q (suc k) ≡ true → (isSame κ (Q .anchor) (readBy θ) ≡ true) × (puts-since (suc k) h ≡ 0)
+
+won : (κ : Kind) (w : ℕ) (Q : Queue) (h : History) (k : ℕ) (r : Anchor) (e : ℕ) (t : Task) (x : Bool) → (if x then holdsLink Q (suc k) else isSame κ (Q .anchor) r) ≡ true
+    → Tag κ w (Q .anchor .tag) (puts-since (suc k) h) (r .tag) → Few κ w (puts-since (suc k) h) → (x ≡ false → 0 < w) → LinkSound κ Q h k (StealCompare r e t)
+    → (isSame κ (Q .anchor) r ≡ true) × (stale κ (puts-since (suc k) h) ≡ 0)
+unfolding if_then_else_
+won κ w Q h k r e t true q T f some L = let (a, b) = L q in (a, none-linked κ _ b)
+won κ w Q h k r e t false q T f some L = (q, none-tagged κ w _ (Q .anchor) r q T f (some refl))
+
+steal-compare : (κ : Kind) (w ω : ℕ) (Q : Queue) (μ : List ℕ) (o : Line) (φ : ℕ → Line) (h : History) (k : ℕ) (r : Anchor) (e : ℕ) (t : Task) (z : Bool) → succeeds κ Q (suc k) r ≡ z
+    → (I : Inv κ w ω Q μ o φ h) → ThiefOk κ w (view ω Q μ (I .own-lo) (I .own-hi)) (Q .anchor .tag) h (suc k) (StealCompare r e t) → (Q .linked ≡ false → 0 < w) → LinkSound κ Q h k (StealCompare r e t)
     → let R : Effect = (if z then eff (anchored Q (afterSteal κ (Q .anchor) r e)) μ Idle (HandedOut (suc k) t) else eff Q μ StealRead GoesOn) in
     PremiseAt κ w (event-of ω (step (suc k)) (StealCompare r e t) (R .answer)) h → ThiefKept κ w ω o φ h k (StealCompare r e t) R
 unfolding if_then_else_
-steal-compare κ w ω Q μ o φ h k r e t true q I ok f = steal-wins κ w ω Q μ o φ h k r e t q f I ok
-steal-compare κ w ω Q μ o φ h k r e t false q I ok f = (thief-same κ w ω Q μ o φ h k StealRead (failed-compare (suc k)) tt tt (λ i q. tt) I tt, tt)
+steal-compare κ w ω Q μ o φ h k r e t true q I ok some L f =
+    let (a, b) = won κ w Q h k r e t (Q .linked) q (ok .0 .tag) (f (ok .0 .begun)) some L in
+    steal-wins κ w ω Q μ o φ h k r e t a b I ok
+steal-compare κ w ω Q μ o φ h k r e t false q I ok some L f = (thief-same κ w ω Q μ o φ h k StealRead (failed-compare (suc k)) tt tt (λ i q. tt) I tt, tt)
 
 -- what a thief has read, after a step that goes on
 soon : (κ : Kind) (w : ℕ) (v : View) (g : ℕ) (h : History) (k : ℕ) (θ : Line) → ThiefOk κ w v g h k θ → ThiefOk κ w v g (quiet ∷ h) k θ
@@ -306,20 +328,20 @@ steal-next Lifo a = tt
 steal-next Fifo a = tt
 steal-next Deque a = refl
 
-pub thief-kept : (κ : Kind) (w ω : ℕ) (Q : Queue) (μ : List ℕ) (o : Line) (φ : ℕ → Line) (h : History) (k : ℕ) (θ : Line) (I : Inv κ w ω Q μ o φ h) → ThiefOk κ w (view ω Q μ (I .own-lo) (I .own-hi)) (Q .anchor .tag) h (suc k) θ → 0 < Q .published → ω ≤ 4
+pub thief-kept : (κ : Kind) (w ω : ℕ) (Q : Queue) (μ : List ℕ) (o : Line) (φ : ℕ → Line) (h : History) (k : ℕ) (θ : Line) (I : Inv κ w ω Q μ o φ h) → ThiefOk κ w (view ω Q μ (I .own-lo) (I .own-hi)) (Q .anchor .tag) h (suc k) θ → 0 < Q .published → ω ≤ 4 → (Q .linked ≡ false → 0 < w) → LinkSound κ Q h k θ
     → PremiseAt κ w (event-of ω (step (suc k)) θ (lineStep κ w ω Q μ (suc k) θ .answer)) h → ThiefKept κ w ω o φ h k θ (lineStep κ w ω Q μ (suc k) θ)
 unfolding lineStep
-thief-kept κ w ω Q μ o φ h k Idle I ok pos wide f = (thief-same κ w ω Q μ o φ h k Idle quiet tt tt (λ i q. tt) I tt, tt)
-thief-kept κ w ω Q μ o φ h k StealRead I ok pos wide f =
+thief-kept κ w ω Q μ o φ h k Idle I ok pos wide some L f = (thief-same κ w ω Q μ o φ h k Idle quiet tt tt (λ i q. tt) I tt, tt)
+thief-kept κ w ω Q μ o φ h k StealRead I ok pos wide some L f =
     (thief-same κ w ω Q μ o φ h k (stealRead κ (Q .anchor)) (line-1 (suc k)) tt (omega arith) (λ i ne. omega arith) I (steal-read κ w ω Q μ o φ h k I), tt)
-thief-kept κ w ω Q μ o φ h k (StealTail a) I ok pos wide f = (thief-same κ w ω Q μ o φ h k (StealTest (anchor a (Q .anchor .count) (Q .anchor .tag))) quiet tt tt (λ i q. tt) I (steal-tail κ w ω Q μ o φ h k a I ok), tt)
-thief-kept κ w ω Q μ o φ h k (StealTest r) I ok pos wide f = steal-test κ w ω Q μ o φ h k r (isEmpty κ r) refl I ok
-thief-kept κ w ω Q μ o φ h k (StealNote r) I (R, l) pos wide f = (
+thief-kept κ w ω Q μ o φ h k (StealTail a) I ok pos wide some L f = (thief-same κ w ω Q μ o φ h k (StealTest (anchor a (Q .anchor .count) (Q .anchor .tag))) quiet tt tt (λ i q. tt) I (steal-tail κ w ω Q μ o φ h k a I ok), tt)
+thief-kept κ w ω Q μ o φ h k (StealTest r) I ok pos wide some L f = steal-test κ w ω Q μ o φ h k r (isEmpty κ r) refl I ok
+thief-kept κ w ω Q μ o φ h k (StealNote r) I (R, l) pos wide some L f = (
   thief-same κ w ω Q μ o φ h k _ quiet tt tt (λ i q. tt) I
       (soon κ w _ (Q .anchor .tag) h (suc k) (StealWord r _ noTask 0) (R, l, (omega arith, (I .sized, small-now κ ω Q (R .lo) (R .hi) (view ω Q μ (I .own-lo) (I .own-hi)) _ (R .hold) refl), ((size-pos (I .sized), inl (refl, refl)), λ j q x y z. refl)), omega arith, λ x y z. no-words _)),
   tt,
 )
-thief-kept κ w ω Q μ o φ h k (StealWord r b t j) I (R, l, (p, n, (d, q)), u, G) pos wide f =
+thief-kept κ w ω Q μ o φ h k (StealWord r b t j) I (R, l, (p, n, (d, q)), u, G) pos wide some L f =
     let x = wordOf κ ω Q μ b (stealIndex κ r) j in (
       thief-same κ w ω Q μ o φ h k (stealOn κ ω r b (withWord t j x) j) quiet tt tt (λ i q. tt) I
           (soon κ w _ (Q .anchor .tag) h (suc k) (stealOn κ ω r b (withWord t j x) j)
@@ -327,23 +349,23 @@ thief-kept κ w ω Q μ o φ h k (StealWord r b t j) I (R, l, (p, n, (d, q)), u,
           (λ s y z. word-W ω μ (offsetAt (Q .arrays) b) (sizeAt ω (Q .arrays) b) _ _ j (steal-ix (n .0) κ r (R .lo) (R .hi) l (n .1) (R .rep)) ∙ q j (omega arith) s y z))),
       tt,
     )
-thief-kept κ w ω Q μ o φ h k (StealNext r t) I (R, l, G) pos wide f = (
+thief-kept κ w ω Q μ o φ h k (StealNext r t) I (R, l, G) pos wide some L f = (
   thief-same κ w ω Q μ o φ h k _ quiet tt tt (λ i q. tt) I
       (soon κ w _ (Q .anchor .tag) h (suc k) (StealCompare r _ t) (R, l, G, steal-next κ (r .head))),
   tt,
 )
-thief-kept κ w ω Q μ o φ h k (StealCompare r e t) I ok pos wide f = steal-compare κ w ω Q μ o φ h k r e t (isSame κ (Q .anchor) r) refl I ok f
-thief-kept κ w ω Q μ o φ h k (PutRead t) I ok pos wide f = absurd ok
-thief-kept κ w ω Q μ o φ h k (PutTail t a) I ok pos wide f = absurd ok
-thief-kept κ w ω Q μ o φ h k (PutTest t r) I ok pos wide f = absurd ok
-thief-kept κ w ω Q μ o φ h k (PutWord t r j) I ok pos wide f = absurd ok
-thief-kept κ w ω Q μ o φ h k (PutFinish t r) I ok pos wide f = absurd ok
-thief-kept κ w ω Q μ o φ h k (Claim t) I ok pos wide f = absurd ok
-thief-kept κ w ω Q μ o φ h k (Note t) I ok pos wide f = absurd ok
-thief-kept κ w ω Q μ o φ h k (Copy t a q j) I ok pos wide f = absurd ok
-thief-kept κ w ω Q μ o φ h k (Publish t) I ok pos wide f = absurd ok
-thief-kept κ w ω Q μ o φ h k TakeRead I ok pos wide f = absurd ok
-thief-kept κ w ω Q μ o φ h k (TakeTail a) I ok pos wide f = absurd ok
-thief-kept κ w ω Q μ o φ h k (TakeTest r) I ok pos wide f = absurd ok
-thief-kept κ w ω Q μ o φ h k (TakeWord r t j) I ok pos wide f = absurd ok
-thief-kept κ w ω Q μ o φ h k (TakeFinish r t) I ok pos wide f = absurd ok
+thief-kept κ w ω Q μ o φ h k (StealCompare r e t) I ok pos wide some L f = steal-compare κ w ω Q μ o φ h k r e t (succeeds κ Q (suc k) r) refl I ok some L f
+thief-kept κ w ω Q μ o φ h k (PutRead t) I ok pos wide some L f = absurd ok
+thief-kept κ w ω Q μ o φ h k (PutTail t a) I ok pos wide some L f = absurd ok
+thief-kept κ w ω Q μ o φ h k (PutTest t r) I ok pos wide some L f = absurd ok
+thief-kept κ w ω Q μ o φ h k (PutWord t r j) I ok pos wide some L f = absurd ok
+thief-kept κ w ω Q μ o φ h k (PutFinish t r) I ok pos wide some L f = absurd ok
+thief-kept κ w ω Q μ o φ h k (Claim t) I ok pos wide some L f = absurd ok
+thief-kept κ w ω Q μ o φ h k (Note t) I ok pos wide some L f = absurd ok
+thief-kept κ w ω Q μ o φ h k (Copy t a q j) I ok pos wide some L f = absurd ok
+thief-kept κ w ω Q μ o φ h k (Publish t) I ok pos wide some L f = absurd ok
+thief-kept κ w ω Q μ o φ h k TakeRead I ok pos wide some L f = absurd ok
+thief-kept κ w ω Q μ o φ h k (TakeTail a) I ok pos wide some L f = absurd ok
+thief-kept κ w ω Q μ o φ h k (TakeTest r) I ok pos wide some L f = absurd ok
+thief-kept κ w ω Q μ o φ h k (TakeWord r t j) I ok pos wide some L f = absurd ok
+thief-kept κ w ω Q μ o φ h k (TakeFinish r t) I ok pos wide some L f = absurd ok

@@ -19,8 +19,8 @@ use Rattle.model.specs.Tasks.{task, firstWords}
 use Rattle.model.specs.declared.Anchor.{Anchor}
 use Rattle.model.specs.declared.Refusal.{Refusal}
 use Rattle.model.specs.Lines.{lineStep}
-use Rattle.model.specs.World.{World, Outcome, lineAt}
-use Rattle.model.specs.Calls.{nextEffect, Call, begin, step, callOf}
+use Rattle.model.specs.World.{World, Outcome, tagBits, lineAt}
+use Rattle.model.specs.Calls.{nextEffect, Call, begin, step, dropLink, callOf}
 use Rattle.model.specs.Run.{Played, played}
 use Rattle.theorems.specs.Demand3.{At, Begins, Finishes, HandsOut, Empties, Line1, Compares, Attempt, finishes, puts, between, Few, FewPuts}
 use Rattle.theorems.proofs.Events.{Event, quiet, line-1, finished-put, handed-out, failed-compare, found-empty, began-put, found-full, is-line-1, is-compare, event-of-begin, event-of-going-on, event-of-hand-out, event-of}
@@ -89,10 +89,13 @@ says ω (begin (suc k) (Put p)) l (Numbered n) = tt
 says ω (begin i Take) l (Numbered n) = tt
 says ω (begin i Steal) l (Numbered n) = tt
 says ω (step i) l (Numbered n) = tt
+says ω (dropLink i) l (Numbered n) = tt
 says ω (begin i op) l GoesOn = tt
+says ω (dropLink i) l GoesOn = tt
 says ω (step i) l GoesOn = says-go ω i l (is-line-1 l) (is-compare l) refl refl
 says ω c l (Finished i t) = (i, refl)
 says ω (begin i op) l (HandedOut j t) = (j, refl)
+says ω (dropLink i) l (HandedOut j t) = (j, refl)
 says ω (step i) l (HandedOut j t) = says-out ω i l j t (is-compare l) refl
 says ω c l (Empty i) = refl
 says ω c l (Full i t) = tt
@@ -120,6 +123,7 @@ empty-ev i s e = ap (event-of (s .before .bench .words) (s .call) (lineOf s)) e
 -- handed out
 out-is : (c : Call) (l : Line) (t : Task) → (i : ℕ) × (event-of-hand-out c l t ≡ handed-out i t)
 out-is (begin i op) l t = (0, refl)
+out-is (dropLink i) l t = (0, refl)
 out-is (step i) l t = go (is-compare l)
   where
     go : (x : Bool) → (j : ℕ) × (cond x (handed-out i t) (handed-out 0 t) ≡ handed-out j t)
@@ -252,6 +256,7 @@ stolen-compares k t s e =
 -- how many puts finish
 done-go : (c : Call) (l : Line) → finishes-put (event-of-going-on c l) ≡ 0
 done-go (begin i op) l = refl
+done-go (dropLink i) l = refl
 done-go (step i) l = go (is-line-1 l) (is-compare l)
   where
     go : (x y : Bool) → finishes-put (cond x (line-1 i) (cond y (failed-compare i) quiet)) ≡ 0
@@ -265,6 +270,7 @@ done-begin ω (begin (suc k) (Put p)) n = refl
 done-begin ω (begin i Take) n = refl
 done-begin ω (begin i Steal) n = refl
 done-begin ω (step i) n = refl
+done-begin ω (dropLink i) n = refl
 
 done-is : (ω : ℕ) (c : Call) (l : Line) (a : Answer) → finishes-put (event-of ω c l a) ≡ finishes a
 done-is ω c l Accepted = refl
@@ -304,9 +310,9 @@ ev-attempt cs W i l j L =
       newest = λ k a b x. L .newest k a b (to-ev (played W cs) k (line-1 i) (at-true cs W k (Line1 i) (λ s. event-at s ≡ line-1 i) (line1-ev i) x));
     }
 
-pub few-ev : (cs : List Call) (W : World) → FewPuts W cs → EventFew (W .bench .kind) (W .bench .width) (events (played W cs))
+pub few-ev : (cs : List Call) (W : World) → FewPuts W cs → EventFew (W .bench .kind) (tagBits (W .bench)) (events (played W cs))
 few-ev cs W f i l j c L =
-    subst (Few (W .bench .kind) (W .bench .width)) (sym (between-is (played W cs) l j)) (f i l j (go c) (ev-attempt cs W i l j L))
+    subst (Few (W .bench .kind) (tagBits (W .bench))) (sym (between-is (played W cs) l j)) (f i l j (go c) (ev-attempt cs W i l j L))
   where
     stolen : (i : ℕ) (t : Task) → 0 < i → EventAt (events (played W cs)) j (handed-out i t) → At (played W cs) j (Compares i)
     stolen zero t z a = absurd (omega arith)

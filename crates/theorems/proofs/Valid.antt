@@ -1,6 +1,7 @@
 -- A state of this shape is within the limits.
-use mathlib.Core.Path.{_≡_, refl}
-use mathlib.Core.Bool.{Bool, true, false}
+use mathlib.Core.Path.{_≡_, refl, sym, subst}
+use mathlib.Core.Bool.{Bool, true, false, not}
+use mathlib.Core.Logic.{inl, inr}
 use mathlib.Core.List.{List}
 use Prim.Native.Nat.{ℕ, zero, suc, _+_, _-_, _^_, _≤_, _<_}
 use native.Mathlib.Omega.{arith}
@@ -16,11 +17,11 @@ use Rattle.model.specs.declared.Worker.{Worker}
 use Rattle.model.specs.declared.Anchor.{Anchor}
 use Rattle.model.specs.declared.Task.{Task}
 use Rattle.model.proofs.Tasks.{none-from}
-use Rattle.model.specs.Tests.{if_then_else_, _and_, _or_}
-use Rattle.model.proofs.Tests.{and-both}
-use Rattle.model.specs.Lines.{size}
-use Rattle.model.specs.World.{World, lineAt, isIdle}
-use Rattle.model.specs.Limits.{taskOk, anchorOk, readOk, headOk, roomOk, someOk, notedOk, slotOk, isDeque, nextOk, ownerOk, thiefOk, thievesOk, validOf}
+use Rattle.model.specs.Tests.{if_then_else_, _or_}
+use Rattle.model.proofs.Tests.{and-both, or-either}
+use Rattle.model.specs.Lines.{size, holdsLink}
+use Rattle.model.specs.World.{World, tagBits, lineAt, isIdle}
+use Rattle.model.specs.Limits.{kindOk, linkOk, linksOk, taskOk, anchorOk, readOk, headOk, roomOk, someOk, notedOk, slotOk, isDeque, nextOk, ownerOk, thiefOk, thievesOk, validOf}
 use Rattle.model.specs.Figures.{anchor}
 use Rattle.theorems.proofs.Directory.{Arrays}
 use Rattle.theorems.proofs.Shape.{tail, Bounded, Head, OwnRead, Room, Some, Span, Early, ThiefRead, Slot, Double, After, Known, pending, Spent, OwnShape, ThiefShape, Shape}
@@ -169,6 +170,18 @@ ok-thieves κ w ω q τ team l u s ρ (suc k) = and-both _ _ (ok-thieves κ w ω
     pick true e = ok-thief κ w ω q τ (lineAt l (suc k)) u (s k)
     pick false e = ρ (suc k) (ltb-false (suc k) team e)
 
+-- every link is that of a thief past its line 1, which has read the anchor as it is
+abbrev pub LinksOk : Kind → Queue → List Worker → Type 0
+LinksOk κ q l = (k : ℕ) → holdsLink q k ≡ true → linkOk κ q (lineAt l k) ≡ true
+
+ok-links : (κ : Kind) (q : Queue) (l : List Worker) → LinksOk κ q l → (n : ℕ) → linksOk κ q l n ≡ true
+ok-links κ q l f zero = refl
+ok-links κ q l f (suc k) = and-both _ _ (ok-links κ q l f k) (pick (holdsLink q k) refl)
+  where
+    pick : (x : Bool) → holdsLink q k ≡ x → (not x or linkOk κ q (lineAt l k)) ≡ true
+    pick true e = or-either _ _ (inr (f k e))
+    pick false e = or-either _ _ (inl refl)
+
 pending-le : (o : Line) → pending o ≤ 1
 pending-le Idle = omega arith
 pending-le (PutRead t) = omega arith
@@ -198,6 +211,7 @@ thieves l k = lineAt l (suc k)
 
 -- a world's state, store and log
 pub record Whole (W : World) : Type 0 where
+  pub kinds : kindOk (W .bench .kind) (W .bench .queue .linked) ≡ true
   pub width : (0 < W .bench .width) × (W .bench .width ≤ 16)
   pub words : (0 < W .bench .words) × (W .bench .words ≤ 4)
   pub crew : (0 < W .bench .crew) × (W .bench .crew ≤ 8)
@@ -205,26 +219,34 @@ pub record Whole (W : World) : Type 0 where
   pub rest : (k : ℕ) → W .bench .crew ≤ k → isIdle (lineAt (W .bench .workers) k) ≡ true
   pub used : W .bench .used ≤ 65535
   pub logged : W .bench .written ≤ length (W .log)
-  pub shape : Shape (W .bench .kind) (W .bench .width) (W .bench .words) (W .bench .used) (W .bench .queue) (W .store) (lineAt (W .bench .workers) 0) (thieves (W .bench .workers))
+  pub links : LinksOk (W .bench .kind) (W .bench .queue) (W .bench .workers)
+  pub shape : Shape (W .bench .kind) (tagBits (W .bench)) (W .bench .words) (W .bench .used) (W .bench .queue) (W .store) (lineAt (W .bench .workers) 0) (thieves (W .bench .workers))
+
+-- a queue that is not linked has a tag
+pub tagged : {W : World} → Whole W → W .bench .queue .linked ≡ false → 0 < tagBits (W .bench)
+unfolding if_then_else_
+tagged {W} H e = subst (λ (x : Bool). 0 < (if x then 0 else W .bench .width)) (sym e) (H .width .0)
 
 pub valid : (W : World) → Whole W → validOf W ≡ true
 unfolding validOf
 valid W H =
-    and-both _ _ (and-both _ _ (lt-ltb _ _ (H .width .0)) (le-leb _ _ (H .width .1)))
+    and-both _ _ (H .kinds)
+    (and-both _ _ (and-both _ _ (lt-ltb _ _ (H .width .0)) (le-leb _ _ (H .width .1)))
     (and-both _ _ (and-both _ _ (lt-ltb _ _ (H .words .0)) (le-leb _ _ (H .words .1)))
     (and-both _ _ (and-both _ _ (lt-ltb _ _ (H .crew .0)) (le-leb _ _ (H .crew .1)))
     (and-both _ _ (and-both _ _ (lt-ltb _ _ (A .some)) (and-both _ _ (le-leb _ _ (A .few)) (and-both _ _ (eq-eqb _ _ (S .claims)) (and-both _ _ (A .tidied) (and-both _ _ (le-leb _ _ (A .room)) (eq-eqb _ _ (A .kept)))))))
     (and-both _ _ (le-leb _ _ (H .logged))
     (and-both _ _ (ok-anchor κ w (size ω q) (S .low) q (omega (arith, T)) (S .anchor))
     (and-both _ _ (le-leb _ _ (H .used))
+    (and-both _ _ (ok-links κ q (W .bench .workers) (H .links) 8)
     (and-both _ _ (ok-owner κ w ω q (S .low) (tail κ q) o T (low-ok κ w (size ω q) (S .low) q (S .anchor)) (S .own))
-    (ok-thieves κ w ω q (tail κ q) (W .bench .crew) (W .bench .workers) (omega (arith, T)) (S .th) (H .rest) 7))))))))
+    (ok-thieves κ w ω q (tail κ q) (W .bench .crew) (W .bench .workers) (omega (arith, T)) (S .th) (H .rest) 7))))))))))
   where
     κ : Kind
     κ = W .bench .kind
 
     w : ℕ
-    w = W .bench .width
+    w = tagBits (W .bench)
 
     ω : ℕ
     ω = W .bench .words

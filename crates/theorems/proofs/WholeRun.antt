@@ -1,7 +1,7 @@
 -- Every call keeps a whole state whole.
 use mathlib.Core.Path.{_≡_, refl, sym, _∙_, ap, subst, subst₂, fun-ext}
-use mathlib.Core.Bool.{Bool, true, false}
-use mathlib.Core.Logic.{_≢_}
+use mathlib.Core.Bool.{Bool, true, false, true≢false}
+use mathlib.Core.Logic.{_≢_, _⊎_, inl, inr}
 use mathlib.Core.List.{List, [], _∷_}
 use Prim.Native.Nat.{ℕ, zero, suc, _+_, _≤_, _<_}
 use native.Mathlib.Omega.{arith}
@@ -19,20 +19,23 @@ use Rattle.model.specs.declared.Operation.{Operation}
 use Rattle.model.specs.declared.Operation.the-variants.{Put, Take, Steal}
 use Rattle.model.specs.Tests.{if_then_else_, _and_, _or_}
 use Rattle.model.specs.Answers.{entryOf, ends, entryLength, entryWords, logged}
-use Rattle.model.specs.Lines.{Effect}
-use Rattle.model.specs.World.{World, Outcome, resting, lineAt, isIdle}
-use Rattle.model.specs.Calls.{logFull, usedBy, firstLine, begun, stepped, nextEffect, Call, callOf}
+use Rattle.model.specs.Lines.{Effect, holdsLink}
+use Rattle.model.specs.World.{World, Outcome, tagBits, resting, lineAt, isIdle, isSteal1, isPast1}
+use Rattle.model.specs.Limits.{kindOk, linkOk}
+use Rattle.model.specs.Calls.{linkSet, relinked, logFull, usedBy, firstLine, begun, stepped, nextEffect, Call, callOf}
 use Rattle.model.specs.Run.{after}
 use Rattle.model.proofs.Tests.{or-false}
 use Rattle.model.specs.declared.Payload.{Payload}
 use Rattle.model.specs.Tasks.{task, firstWords}
 use Rattle.model.proofs.Tasks.{gathered-again, first-number}
 use Rattle.theorems.proofs.Words.{set-all-length}
-use Rattle.theorems.proofs.Cases.{MayBegin, MayStep, call-cases}
-use Rattle.theorems.proofs.Shape.{Spent, Known, Shape}
-use Rattle.theorems.proofs.ShapeOwner.{own-shaped, stay, spent-put}
+use Rattle.theorems.proofs.Cases.{dropped, MayBegin, MayStep, call-cases}
+use Rattle.theorems.proofs.Shape.{tail, Spent, Known, Shape}
+use Rattle.theorems.proofs.Links.{held-set, LinksKept, line-links, Held, link-parts, link-as, linked-now}
+use Rattle.theorems.proofs.ShapeOwner.{own-shaped, stay, spent-put, shape-relink}
 use Rattle.theorems.proofs.ShapeThief.{thief-shaped, thief-stay}
-use Rattle.theorems.proofs.Valid.{thieves, Whole}
+use Rattle.theorems.proofs.Valid.{thieves, LinksOk, Whole}
+use Rattle.theorems.proofs.Remainders.{le-or-lt}
 
 pub idle-is : (o : Line) → isIdle o ≡ true → o ≡ Idle
 idle-is Idle e = refl
@@ -94,7 +97,7 @@ module _ {W : World} (H : Whole W) where
 
   -- BEGIN
   abbrev ShapeOf : ℕ → Line → (ℕ → Line) → Type 0
-  ShapeOf n o φ = Shape (W .bench .kind) (W .bench .width) (W .bench .words) n (W .bench .queue) (W .store) o φ
+  ShapeOf n o φ = Shape (W .bench .kind) (tagBits (W .bench)) (W .bench .words) n (W .bench .queue) (W .store) o φ
 
   idle-shape : isIdle (lineAt (W .bench .workers) 0) ≡ true → ShapeOf (W .bench .used) Idle (thieves (W .bench .workers))
   idle-shape e = subst (λ (o : Line). ShapeOf (W .bench .used) o (thieves (W .bench .workers))) (idle-is _ e) (H .shape)
@@ -135,9 +138,35 @@ module _ {W : World} (H : Whole W) where
   used-in Take i B = H .used
   used-in Steal i B = H .used
 
+  -- worker i's line becomes x, and worker k holds a link
+  link-line : (κ : Kind) (q : Queue) (i k : ℕ) (x : Line) → i < W .bench .crew → (k ≡ i → linkOk κ q x ≡ true) → (k ≢ i → linkOk κ q (lineAt (W .bench .workers) k) ≡ true)
+      → linkOk κ q (lineAt (set (W .bench .workers) i (record { line = x })) k) ≡ true
+  link-line κ q i k x l f g = go (le-or-lt i k) (le-or-lt k i)
+    where
+      other : k ≢ i → linkOk κ q (lineAt (set (W .bench .workers) i (record { line = x })) k) ≡ true
+      other ne = subst (λ (θ : Line). linkOk κ q θ ≡ true) (sym (line-other (W .bench .workers) i k x ne)) (g ne)
+
+      go : (i ≤ k) ⊎ (k < i) → (k ≤ i) ⊎ (i < k) → linkOk κ q (lineAt (set (W .bench .workers) i (record { line = x })) k) ≡ true
+      go (inr a) b = other (omega arith)
+      go (inl a) (inr b) = other (omega arith)
+      go (inl a) (inl b) =
+          let e : k ≡ i = omega arith in
+          subst (λ (θ : Line). linkOk κ q θ ≡ true) (sym (ap (lineAt (set (W .bench .workers) i (record { line = x }))) e ∙ line-same (W .bench .workers) i x (in-crew i l))) (f e)
+
+  begun-links : (i : ℕ) (x : Line) → i < W .bench .crew → isIdle (lineAt (W .bench .workers) i) ≡ true
+      → LinksOk (W .bench .kind) (W .bench .queue) (set (W .bench .workers) i (record { line = x }))
+  begun-links i x l e k h =
+      link-line (W .bench .kind) (W .bench .queue) i k x l
+      (λ q.
+      let idle : lineAt (W .bench .workers) k ≡ Idle = ap (lineAt (W .bench .workers)) q ∙ idle-is (lineAt (W .bench .workers) i) e in
+      absurd (true≢false (sym (link-parts (W .bench .kind) (W .bench .queue) (lineAt (W .bench .workers) k) (H .links k h) .1) ∙ ap isPast1 idle)))
+      (λ ne. H .links k h)
+
   begun-whole : (i : ℕ) (op : Operation) → MayBegin W i op → Whole (begun W i op .world)
   begun-whole i op B =
       record {
+        kinds = H .kinds;
+        links = begun-links i (firstLine op (W .bench .words) (W .bench .used)) (B .member) (B .idle);
         width = H .width;
         words = H .words;
         crew = H .crew;
@@ -150,7 +179,7 @@ module _ {W : World} (H : Whole W) where
 
   -- STEP
   abbrev ShapeAfter : Effect → Line → (ℕ → Line) → Type 0
-  ShapeAfter E o φ = Shape (W .bench .kind) (W .bench .width) (W .bench .words) (W .bench .used) (E .queue) (E .store) o φ
+  ShapeAfter E o φ = Shape (W .bench .kind) (tagBits (W .bench)) (W .bench .words) (W .bench .used) (E .queue) (E .store) o φ
 
   line-shape : (i : ℕ) → i < W .bench .crew → let x = nextEffect W i .line in
       ShapeAfter (nextEffect W i) (lineAt (set (W .bench .workers) i (record { line = x })) 0) (thieves (set (W .bench .workers) i (record { line = x })))
@@ -159,7 +188,48 @@ module _ {W : World} (H : Whole W) where
       (own-shaped _ _ _ _ _ _ _ (lineAt (W .bench .workers) 0) (H .words .1) (H .shape))
   line-shape (suc k) l =
       thief-back (ShapeAfter (nextEffect W (suc k))) (W .bench .workers) k (nextEffect W (suc k) .line) (in-crew (suc k) l)
-      (thief-shaped _ _ _ _ _ _ _ _ k (lineAt (W .bench .workers) (suc k)) (H .words .1) (H .shape) (H .shape .th k))
+      (thief-shaped _ _ _ _ _ _ _ _ k (lineAt (W .bench .workers) (suc k)) (H .words .1) (H .kinds) (H .shape) (H .shape .th k))
+
+  pub kept-links : (i : ℕ) → LinksKept (W .bench .queue) (nextEffect W i)
+  kept-links i = line-links (W .bench .kind) (tagBits (W .bench)) (W .bench .words) (W .bench .queue) (W .store) i (lineAt (W .bench .workers) i)
+
+  -- a line keeps the tag's bits
+  pub same-tag : (i : ℕ) → tagBits (W .bench) ≡ tagBits (stepped W i (nextEffect W i) .world .bench)
+  same-tag i = ap (λ (x : Bool). if x then 0 else W .bench .width) (sym (kept-links i .linked))
+
+  shape-tag : (i : ℕ) {q : Queue} {o : Line} {φ : ℕ → Line} → Shape (W .bench .kind) (tagBits (W .bench)) (W .bench .words) (W .bench .used) q (nextEffect W i .store) o φ
+      → Shape (W .bench .kind) (tagBits (stepped W i (nextEffect W i) .world .bench)) (W .bench .words) (W .bench .used) q (nextEffect W i .store) o φ
+  shape-tag i {q} {o} {φ} S = subst (λ (w : ℕ). Shape (W .bench .kind) w (W .bench .words) (W .bench .used) q (nextEffect W i .store) o φ) (same-tag i) S
+
+  held-by : (i : ℕ) → Held (W .bench .kind) (tagBits (W .bench)) (W .bench .words) (W .bench .queue) (H .shape .low) (tail (W .bench .kind) (W .bench .queue)) (lineAt (W .bench .workers) i)
+  held-by zero = inl (H .shape .own)
+  held-by (suc k) = inr (H .shape .th k)
+
+  -- worker i holds a link after its step
+  pub linked-step : (i : ℕ) → let E = nextEffect W i in
+      (isPast1 (E .line) and ((E .queue .linked and isSteal1 (lineAt (W .bench .workers) i)) or holdsLink (E .queue) i)) ≡ true
+      → ((lineAt (W .bench .workers) i ≡ StealRead) ⊎ (holdsLink (E .queue) i ≡ true))
+      × (linkOk (W .bench .kind) (relinked (E .queue) i (lineAt (W .bench .workers) i) (E .line)) (E .line) ≡ true)
+  linked-step i x = linked-now (W .bench .kind) (tagBits (W .bench)) (W .bench .words) (W .bench .queue) (W .store) i _ _ (lineAt (W .bench .workers) i) (H .kinds) (held-by i) (H .links i) x
+
+  stepped-links : (i : ℕ) → i < W .bench .crew → LinksOk (W .bench .kind) (stepped W i (nextEffect W i) .world .bench .queue) (stepped W i (nextEffect W i) .world .bench .workers)
+  stepped-links i l k h = go (held-set (nextEffect W i .queue .links) i k _ h)
+    where
+      E : Effect
+      E = nextEffect W i
+
+      q′ : Queue
+      q′ = relinked (E .queue) i (lineAt (W .bench .workers) i) (E .line)
+
+      go : ((k ≡ i) × ((isPast1 (E .line) and ((E .queue .linked and isSteal1 (lineAt (W .bench .workers) i)) or holdsLink (E .queue) i)) ≡ true)) ⊎ ((k ≢ i) × (holdsLink (E .queue) k ≡ true))
+          → linkOk (W .bench .kind) q′ (lineAt (set (W .bench .workers) i (record { line = E .line })) k) ≡ true
+      go (inl (e, x)) = link-line (W .bench .kind) q′ i k (E .line) l (λ q. linked-step i x .1) (λ ne. absurd (ne e))
+      go (inr (ne, x)) =
+          link-line (W .bench .kind) q′ i k (E .line) l (λ q. absurd (ne q))
+          (λ n. let (a, b, c) = kept-links i .held k x in
+          let θ = lineAt (W .bench .workers) k in
+          let o = H .links k a in
+          link-as (W .bench .kind) (W .bench .queue) q′ θ θ (kept-links i .linked) b (link-parts (W .bench .kind) (W .bench .queue) θ o .1) refl o)
 
   -- the log's length stays within the slice
   written-in : (i : ℕ) (E : Effect) (x y : Bool) → ends (E .answer) ≡ x → logFull (W .bench .words) (W .log) (W .bench .written) ≡ y → x and y ≡ false
@@ -178,6 +248,8 @@ module _ {W : World} (H : Whole W) where
   stepped-whole : (i : ℕ) → MayStep W i → Whole (stepped W i (nextEffect W i) .world)
   stepped-whole i M =
       record {
+        kinds = subst (λ (x : Bool). kindOk (W .bench .kind) x ≡ true) (sym (kept-links i .linked)) (H .kinds);
+        links = stepped-links i (M .member);
         width = H .width;
         words = H .words;
         crew = H .crew;
@@ -185,11 +257,32 @@ module _ {W : World} (H : Whole W) where
         rest = rested i (nextEffect W i .line) (M .member);
         used = H .used;
         logged = written-in i (nextEffect W i) _ _ refl refl (M .room);
-        shape = line-shape i (M .member);
+        shape = shape-tag i (shape-relink i _ (line-shape i (M .member)));
       }
 
+  -- LINK DROPPED
+  dropped-whole : (i : ℕ) → Whole (dropped W i)
+  dropped-whole i =
+      record {
+        kinds = H .kinds;
+        links = λ k h. go k (held-set (W .bench .queue .links) i k false h);
+        width = H .width;
+        words = H .words;
+        crew = H .crew;
+        workers = H .workers;
+        rest = H .rest;
+        used = H .used;
+        logged = H .logged;
+        shape = shape-relink i false (H .shape);
+      }
+    where
+      go : (k : ℕ) → ((k ≡ i) × (false ≡ true)) ⊎ ((k ≢ i) × (holdsLink (W .bench .queue) k ≡ true))
+          → linkOk (W .bench .kind) (linkSet (W .bench .queue) i false) (lineAt (W .bench .workers) k) ≡ true
+      go k (inl (e, x)) = absurd (true≢false (sym x))
+      go k (inr (ne, x)) = H .links k x
+
   pub call-whole : (c : Call) → Whole (callOf W c .world)
-  call-whole c = call-cases (λ (D : Outcome). Whole (D .world)) W (λ r l. H) begun-whole stepped-whole c
+  call-whole c = call-cases (λ (D : Outcome). Whole (D .world)) W (λ r l. H) begun-whole stepped-whole dropped-whole c
 
 pub whole-run : (cs : List Call) (W : World) → Whole W → Whole (after W cs)
 unfolding after

@@ -1,4 +1,4 @@
--- Demand 3: no sequence of begins and steps can lose or invent a task. Stated of the calls of a list, their answers and
+-- Demand 3: no sequence of begins, steps and dropped links can lose or invent a task. Stated of the calls of a list, their answers and
 -- the accepted steps, by the calls' places in the list.
 use mathlib.Core.Path.{_≡_}
 use mathlib.Core.Logic.{_⊎_}
@@ -27,7 +27,7 @@ use Rattle.model.specs.declared.Answer.the-variants.{
   Refused,
 }
 use Rattle.model.specs.Tasks.{task, firstWords}
-use Rattle.model.specs.World.{World, lineAt}
+use Rattle.model.specs.World.{World, tagBits, lineAt}
 use Rattle.model.specs.Calls.{freshOf, Call, begin, step}
 use Rattle.model.specs.Run.{Played, played, after}
 use Rattle.model.specs.Window.{windowSize, windowTask}
@@ -116,16 +116,16 @@ abbrev pub between : ℕ → ℕ → List Played → List Played
 between l j T = take (j - suc l) (drop (suc l) T)
 
 -- THE PREMISE: with a tag of w bits, fewer than 2^w puts finish between any steal attempt's line 1 and its compare. FIFO
--- has none
+-- has none; nor have the linked kinds, whose tag has 0 bits
 abbrev pub Few : Kind → ℕ → ℕ → Type 0
-Few Lifo w d = d < 2 ^ w
+Few Lifo w d = 0 < w → d < 2 ^ w
 Few Fifo w d = Unit {0}
-Few Deque w d = d < 2 ^ w
+Few Deque w d = 0 < w → d < 2 ^ w
 
 abbrev pub FewPuts : World → List Call → Type 0
 FewPuts W cs =
     (i l j : ℕ) → At (played W cs) j (Compares i) → Attempt (played W cs) i l j
-    → Few (W .bench .kind) (W .bench .width) (puts (between l j (played W cs)))
+    → Few (W .bench .kind) (tagBits (W .bench)) (puts (between l j (played W cs)))
 
 -- THE CLAIM, of the list cs from the world W
 pub record Demand3 (W : World) (cs : List Call) : Type 0 where

@@ -119,7 +119,7 @@ fn over(script: &Script, style: Style, steps: u64) -> bool {
 
 /// How the bench is made, and the words of its store.
 fn shape(random: &mut Random, style: Style) -> (Shape, u32) {
-    let kind = if style == Style::HeadRound { 3 } else { random.between(1, 3) };
+    let kind = if style == Style::HeadRound { *random.pick(&[3, 5]) } else { random.between(1, 5) };
     let width = match random.below(100) {
         0..=24 => 1,
         25..=49 => 2,
@@ -179,7 +179,10 @@ fn before_the_queue(script: &mut Script, words: u32) {
         let sixth = sixth(&mut script.random, payload_words);
         match script.random.below(14) {
             0 => script.say(&format!("queue {large} {width} {size} {crew} {words}{sixth}")),
-            1 => script.say(&format!("queue 0 {width} {size} {crew} {words}{sixth}")),
+            1 => {
+                let wrong = *script.random.pick(&[0, 6, 7, u32::MAX]);
+                script.say(&format!("queue {wrong} {width} {size} {crew} {words}{sixth}"));
+            }
             2 => script.say(&format!("queue {kind} {} {size} {crew} {words}{sixth}", large + 8)),
             3 => script.say(&format!("queue {kind} 0 {size} {crew} {words}{sixth}")),
             4 => script.say(&format!("queue {kind} {width} {} {crew} {words}{sixth}", 2 * large + 1)),
@@ -210,7 +213,7 @@ fn before_the_queue(script: &mut Script, words: u32) {
             11 => {
                 let line = *script.random.pick(&[
                     "put 1", "put 1 2 3 4", "put", "put 1 2 3 4 5", "take", "steal 1", "step 0 1", "step 0 0",
-                    "end", "steal 0",
+                    "end", "steal 0", "drop 1",
                 ]);
                 script.say(line);
             }
@@ -252,7 +255,8 @@ fn episode(script: &mut Script, style: Style) {
         // Workers caught in the middle when the log is full.
         Style::LogSoonFull if draw < 60 => act::uniform(script),
         Style::Bursts if draw < 70 => act::burst(script),
-        Style::Pauses if draw < 70 => act::owner_paused(script),
+        Style::Pauses if draw < 50 => act::owner_paused(script),
+        Style::Pauses if draw < 70 => act::equal_value(script),
         Style::Tags if draw < 70 => act::tag_comes_round(script),
         Style::Growth if draw < 35 => act::noted_before_growth(script),
         Style::Growth if draw < 60 => act::emptied_before_x2(script),

@@ -5,8 +5,9 @@
 //! The same seed gives the same list. CALLS is about how many calls it makes;
 //! without it the seed decides. A list has stretches, each with a bench of its
 //! own on the same memory. In a stretch workers are paused where the queues are
-//! delicate, as in the runs of `generate`; between that stand calls that the
-//! program has no line for, and looks at the shared state and at the log.
+//! delicate, as in the runs of `generate`, and links fail; between that stand
+//! calls that the program has no line for, and looks at the shared state and at
+//! the log.
 
 use std::io::Write;
 use std::process::ExitCode;
@@ -58,7 +59,8 @@ fn list(seed: u64, calls: Option<u64>) -> Vec<u8> {
             act::past_the_largest_array(&mut script);
         }
         First::HeadRound => {
-            script.fresh(Shape { kind: 3, crew: 2, payload_words: 1, ..shape });
+            let kind = *script.random.pick(&[3, 5]);
+            script.fresh(Shape { kind, crew: 2, payload_words: 1, ..shape });
             while script.entries_left() > 0 {
                 act::head_up(&mut script);
             }
@@ -154,7 +156,11 @@ fn stretch(script: &mut Script, store: u32) {
         act::noted_before_growth,
         act::emptied_before_x2,
         act::race,
+        act::equal_value,
+        act::links_fail,
     ]);
+    let linked = shape.kind >= 4;
+    let favourite = if linked && script.random.chance(60) { act::links_fail } else { favourite };
     let until = script.steps() + u64::from(script.random.between(50, 1500));
     while script.entries_left() > 0 && script.steps() < until {
         match script.random.below(100) {
@@ -199,14 +205,14 @@ fn shape(random: &mut Random, store: u32) -> Shape {
         14 | 15 => 8,
         _ => random.between(4, 8),
     };
-    Shape { kind: random.between(1, 3), width, size: 1 << exponent, crew, payload_words }
+    Shape { kind: random.between(1, 5), width, size: 1 << exponent, crew, payload_words }
 }
 
 /// The same with a number or more out of its range, or just within.
 fn damaged(random: &mut Random, mut shape: Shape) -> Shape {
     for _ in 0..*random.pick(&[1, 1, 1, 2, 4]) {
         match random.below(6) {
-            0 => shape.kind = *random.pick(&[0, 4, 5, 257, u32::MAX]),
+            0 => shape.kind = *random.pick(&[0, 6, 7, 257, 260, u32::MAX]),
             1 => shape.width = *random.pick(&[0, 17, 32, 33, 257, u32::MAX]),
             2 => {
                 let odd = 2 * random.between(1, 5000) + 1;
@@ -230,7 +236,7 @@ fn strays(script: &mut Script) {
             8 => script.random.between(8, 300),
             _ => *script.random.pick(&[256, 257, 1 << 31, u32::MAX - 1, u32::MAX]),
         };
-        match script.random.below(8) {
+        match script.random.below(10) {
             0 | 1 => script.begin_put(worker),
             2 | 3 => script.begin_take(worker),
             4 | 5 => script.steal(worker),
@@ -238,6 +244,7 @@ fn strays(script: &mut Script) {
                 let count = script.random.below(4);
                 script.step(worker, count);
             }
+            7 | 8 => script.drop_link(worker),
             _ => {
                 let count = script.random.below(25);
                 script.step(worker, count);
@@ -256,7 +263,7 @@ fn the_end(script: &mut Script) {
                 "", " ", "end", "put 1", "step 0", "step 0 1 1", "step 0 1 ", "step  0 1",
                 "step 0 4294967296", "step 0 18446744073709551617", "step 0 -1", "step 0 x",
                 "begin 0", "begin 0 put", "begin 0 put x", "begin 0 put 1 2 3 4 5", "begin 0 drop",
-                "fresh 1 1 1 1", "fresh 1 1 1 1 1 1",
+                "drop", "drop 1 1", "drop x", "unlink 1", "fresh 1 1 1 1", "fresh 1 1 1 1 1 1",
                 "memory 2 4", "State", "front 0",
             ]);
             script.say(line);

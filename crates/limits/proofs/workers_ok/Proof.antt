@@ -30,8 +30,8 @@ returns c =
     let d = start .pre .1 .1 .0 in
     let t = start .pre .1 .1 .1 .0 in
     sym
-    (no-workers (b .kind) (b .width) (b .words) (b .queue) (b .crew) (b .workers) 1 8 (omega arith)
-    (next-worker (b .kind) (b .width) (b .words) (b .queue) (b .crew) (b .workers) false 0 refl (refused {t = member (b .kind) (b .width) (b .words) (b .queue) (b .crew) (b .workers) 0} (c .before .busy-ok .ensures (b .queue) (refl, d, t)) (c .if2 .taken))))
+    (no-workers (b .kind) (start .args .bits) (b .words) (b .queue) (b .crew) (b .workers) 1 8 (omega arith)
+    (next-worker (b .kind) (start .args .bits) (b .words) (b .queue) (b .crew) (b .workers) false 0 refl (refused {t = member (b .kind) (start .args .bits) (b .words) (b .queue) (b .crew) (b .workers) 0} (c .before .busy-ok .ensures (b .queue) (refl, d, t)) (c .if2 .taken))))
 
 element-copy-out-rests-2 : tie.Need-element-copy-out-rests-2
 element-copy-out-rests-2 c = search needs
@@ -53,10 +53,10 @@ returns-2 c =
     let b = start .args .t1 in
     let d = start .pre .1 .1 .0 in
     let t = start .pre .1 .1 .1 .0 in
-    let p1 = next-worker (b .kind) (b .width) (b .words) (b .queue) (b .crew) (b .workers) true 0 refl (⊎-elim (λ x. passed {t = member (b .kind) (b .width) (b .words) (b .queue) (b .crew) (b .workers) 0} (x .2 .ensures (b .queue) (refl, d, t)) (x .3 .left)) (λ x. idle-passes (b .kind) (b .width) (b .words) (b .queue) (b .crew) (b .workers) 0 (passed (c .before .before .before .before .before .before .before .rests .ensures) (x .left))) (c .before .before .before .before .before .before .if1 .came)) in
+    let p1 = next-worker (b .kind) (start .args .bits) (b .words) (b .queue) (b .crew) (b .workers) true 0 refl (⊎-elim (λ x. passed {t = member (b .kind) (start .args .bits) (b .words) (b .queue) (b .crew) (b .workers) 0} (x .2 .ensures (b .queue) (refl, d, t)) (x .3 .left)) (λ x. idle-passes (b .kind) (start .args .bits) (b .words) (b .queue) (b .crew) (b .workers) 0 (passed (c .before .before .before .before .before .before .before .rests .ensures) (x .left))) (c .before .before .before .before .before .before .if1 .came)) in
     sym
-    (no-workers (b .kind) (b .width) (b .words) (b .queue) (b .crew) (b .workers) 2 8 (omega arith)
-    (next-worker (b .kind) (b .width) (b .words) (b .queue) (b .crew) (b .workers) false 1 p1 (refused {t = member (b .kind) (b .width) (b .words) (b .queue) (b .crew) (b .workers) 1} (c .before .busy-ok2 .ensures (b .queue) (refl, d, t)) (c .if4 .taken))))
+    (no-workers (b .kind) (start .args .bits) (b .words) (b .queue) (b .crew) (b .workers) 2 8 (omega arith)
+    (next-worker (b .kind) (start .args .bits) (b .words) (b .queue) (b .crew) (b .workers) false 1 p1 (refused {t = member (b .kind) (start .args .bits) (b .words) (b .queue) (b .crew) (b .workers) 1} (c .before .busy-ok2 .ensures (b .queue) (refl, d, t)) (c .if4 .taken))))
 
 element-copy-out-rests-3 : tie.Need-element-copy-out-rests-3
 element-copy-out-rests-3 c = search needs
@@ -78,11 +78,11 @@ returns-3 c =
     let b = start .args .t1 in
     let d = start .pre .1 .1 .0 in
     let t = start .pre .1 .1 .1 .0 in
-    let p1 = next-worker (b .kind) (b .width) (b .words) (b .queue) (b .crew) (b .workers) true 0 refl (⊎-elim (λ x. passed {t = member (b .kind) (b .width) (b .words) (b .queue) (b .crew) (b .workers) 0} (x .2 .ensures (b .queue) (refl, d, t)) (x .3 .left)) (λ x. idle-passes (b .kind) (b .width) (b .words) (b .queue) (b .crew) (b .workers) 0 (passed (c .before .before .before .before .before .before .before .before .before .before .rests .ensures) (x .left))) (c .before .before .before .before .before .before .before .before .before .if1 .came)) in
-    let p2 = next-worker (b .kind) (b .width) (b .words) (b .queue) (b .crew) (b .workers) true 1 p1 (⊎-elim (λ x. passed {t = member (b .kind) (b .width) (b .words) (b .queue) (b .crew) (b .workers) 1} (x .2 .ensures (b .queue) (refl, d, t)) (x .3 .left)) (λ x. idle-passes (b .kind) (b .width) (b .words) (b .queue) (b .crew) (b .workers) 1 (passed (c .before .before .before .before .before .before .before .rests2 .ensures) (x .left))) (c .before .before .before .before .before .before .if3 .came)) in
+    let p1 = next-worker (b .kind) (start .args .bits) (b .words) (b .queue) (b .crew) (b .workers) true 0 refl (⊎-elim (λ x. passed {t = member (b .kind) (start .args .bits) (b .words) (b .queue) (b .crew) (b .workers) 0} (x .2 .ensures (b .queue) (refl, d, t)) (x .3 .left)) (λ x. idle-passes (b .kind) (start .args .bits) (b .words) (b .queue) (b .crew) (b .workers) 0 (passed (c .before .before .before .before .before .before .before .before .before .before .rests .ensures) (x .left))) (c .before .before .before .before .before .before .before .before .before .if1 .came)) in
+    let p2 = next-worker (b .kind) (start .args .bits) (b .words) (b .queue) (b .crew) (b .workers) true 1 p1 (⊎-elim (λ x. passed {t = member (b .kind) (start .args .bits) (b .words) (b .queue) (b .crew) (b .workers) 1} (x .2 .ensures (b .queue) (refl, d, t)) (x .3 .left)) (λ x. idle-passes (b .kind) (start .args .bits) (b .words) (b .queue) (b .crew) (b .workers) 1 (passed (c .before .before .before .before .before .before .before .rests2 .ensures) (x .left))) (c .before .before .before .before .before .before .if3 .came)) in
     sym
-    (no-workers (b .kind) (b .width) (b .words) (b .queue) (b .crew) (b .workers) 3 8 (omega arith)
-    (next-worker (b .kind) (b .width) (b .words) (b .queue) (b .crew) (b .workers) false 2 p2 (refused {t = member (b .kind) (b .width) (b .words) (b .queue) (b .crew) (b .workers) 2} (c .before .busy-ok3 .ensures (b .queue) (refl, d, t)) (c .if6 .taken))))
+    (no-workers (b .kind) (start .args .bits) (b .words) (b .queue) (b .crew) (b .workers) 3 8 (omega arith)
+    (next-worker (b .kind) (start .args .bits) (b .words) (b .queue) (b .crew) (b .workers) false 2 p2 (refused {t = member (b .kind) (start .args .bits) (b .words) (b .queue) (b .crew) (b .workers) 2} (c .before .busy-ok3 .ensures (b .queue) (refl, d, t)) (c .if6 .taken))))
 
 element-copy-out-rests-4 : tie.Need-element-copy-out-rests-4
 element-copy-out-rests-4 c = search needs
@@ -104,12 +104,12 @@ returns-4 c =
     let b = start .args .t1 in
     let d = start .pre .1 .1 .0 in
     let t = start .pre .1 .1 .1 .0 in
-    let p1 = next-worker (b .kind) (b .width) (b .words) (b .queue) (b .crew) (b .workers) true 0 refl (⊎-elim (λ x. passed {t = member (b .kind) (b .width) (b .words) (b .queue) (b .crew) (b .workers) 0} (x .2 .ensures (b .queue) (refl, d, t)) (x .3 .left)) (λ x. idle-passes (b .kind) (b .width) (b .words) (b .queue) (b .crew) (b .workers) 0 (passed (c .before .before .before .before .before .before .before .before .before .before .before .before .before .rests .ensures) (x .left))) (c .before .before .before .before .before .before .before .before .before .before .before .before .if1 .came)) in
-    let p2 = next-worker (b .kind) (b .width) (b .words) (b .queue) (b .crew) (b .workers) true 1 p1 (⊎-elim (λ x. passed {t = member (b .kind) (b .width) (b .words) (b .queue) (b .crew) (b .workers) 1} (x .2 .ensures (b .queue) (refl, d, t)) (x .3 .left)) (λ x. idle-passes (b .kind) (b .width) (b .words) (b .queue) (b .crew) (b .workers) 1 (passed (c .before .before .before .before .before .before .before .before .before .before .rests2 .ensures) (x .left))) (c .before .before .before .before .before .before .before .before .before .if3 .came)) in
-    let p3 = next-worker (b .kind) (b .width) (b .words) (b .queue) (b .crew) (b .workers) true 2 p2 (⊎-elim (λ x. passed {t = member (b .kind) (b .width) (b .words) (b .queue) (b .crew) (b .workers) 2} (x .2 .ensures (b .queue) (refl, d, t)) (x .3 .left)) (λ x. idle-passes (b .kind) (b .width) (b .words) (b .queue) (b .crew) (b .workers) 2 (passed (c .before .before .before .before .before .before .before .rests3 .ensures) (x .left))) (c .before .before .before .before .before .before .if5 .came)) in
+    let p1 = next-worker (b .kind) (start .args .bits) (b .words) (b .queue) (b .crew) (b .workers) true 0 refl (⊎-elim (λ x. passed {t = member (b .kind) (start .args .bits) (b .words) (b .queue) (b .crew) (b .workers) 0} (x .2 .ensures (b .queue) (refl, d, t)) (x .3 .left)) (λ x. idle-passes (b .kind) (start .args .bits) (b .words) (b .queue) (b .crew) (b .workers) 0 (passed (c .before .before .before .before .before .before .before .before .before .before .before .before .before .rests .ensures) (x .left))) (c .before .before .before .before .before .before .before .before .before .before .before .before .if1 .came)) in
+    let p2 = next-worker (b .kind) (start .args .bits) (b .words) (b .queue) (b .crew) (b .workers) true 1 p1 (⊎-elim (λ x. passed {t = member (b .kind) (start .args .bits) (b .words) (b .queue) (b .crew) (b .workers) 1} (x .2 .ensures (b .queue) (refl, d, t)) (x .3 .left)) (λ x. idle-passes (b .kind) (start .args .bits) (b .words) (b .queue) (b .crew) (b .workers) 1 (passed (c .before .before .before .before .before .before .before .before .before .before .rests2 .ensures) (x .left))) (c .before .before .before .before .before .before .before .before .before .if3 .came)) in
+    let p3 = next-worker (b .kind) (start .args .bits) (b .words) (b .queue) (b .crew) (b .workers) true 2 p2 (⊎-elim (λ x. passed {t = member (b .kind) (start .args .bits) (b .words) (b .queue) (b .crew) (b .workers) 2} (x .2 .ensures (b .queue) (refl, d, t)) (x .3 .left)) (λ x. idle-passes (b .kind) (start .args .bits) (b .words) (b .queue) (b .crew) (b .workers) 2 (passed (c .before .before .before .before .before .before .before .rests3 .ensures) (x .left))) (c .before .before .before .before .before .before .if5 .came)) in
     sym
-    (no-workers (b .kind) (b .width) (b .words) (b .queue) (b .crew) (b .workers) 4 8 (omega arith)
-    (next-worker (b .kind) (b .width) (b .words) (b .queue) (b .crew) (b .workers) false 3 p3 (refused {t = member (b .kind) (b .width) (b .words) (b .queue) (b .crew) (b .workers) 3} (c .before .busy-ok4 .ensures (b .queue) (refl, d, t)) (c .if8 .taken))))
+    (no-workers (b .kind) (start .args .bits) (b .words) (b .queue) (b .crew) (b .workers) 4 8 (omega arith)
+    (next-worker (b .kind) (start .args .bits) (b .words) (b .queue) (b .crew) (b .workers) false 3 p3 (refused {t = member (b .kind) (start .args .bits) (b .words) (b .queue) (b .crew) (b .workers) 3} (c .before .busy-ok4 .ensures (b .queue) (refl, d, t)) (c .if8 .taken))))
 
 element-copy-out-rests-5 : tie.Need-element-copy-out-rests-5
 element-copy-out-rests-5 c = search needs
@@ -131,13 +131,13 @@ returns-5 c =
     let b = start .args .t1 in
     let d = start .pre .1 .1 .0 in
     let t = start .pre .1 .1 .1 .0 in
-    let p1 = next-worker (b .kind) (b .width) (b .words) (b .queue) (b .crew) (b .workers) true 0 refl (⊎-elim (λ x. passed {t = member (b .kind) (b .width) (b .words) (b .queue) (b .crew) (b .workers) 0} (x .2 .ensures (b .queue) (refl, d, t)) (x .3 .left)) (λ x. idle-passes (b .kind) (b .width) (b .words) (b .queue) (b .crew) (b .workers) 0 (passed (c .before .before .before .before .before .before .before .before .before .before .before .before .before .before .before .before .rests .ensures) (x .left))) (c .before .before .before .before .before .before .before .before .before .before .before .before .before .before .before .if1 .came)) in
-    let p2 = next-worker (b .kind) (b .width) (b .words) (b .queue) (b .crew) (b .workers) true 1 p1 (⊎-elim (λ x. passed {t = member (b .kind) (b .width) (b .words) (b .queue) (b .crew) (b .workers) 1} (x .2 .ensures (b .queue) (refl, d, t)) (x .3 .left)) (λ x. idle-passes (b .kind) (b .width) (b .words) (b .queue) (b .crew) (b .workers) 1 (passed (c .before .before .before .before .before .before .before .before .before .before .before .before .before .rests2 .ensures) (x .left))) (c .before .before .before .before .before .before .before .before .before .before .before .before .if3 .came)) in
-    let p3 = next-worker (b .kind) (b .width) (b .words) (b .queue) (b .crew) (b .workers) true 2 p2 (⊎-elim (λ x. passed {t = member (b .kind) (b .width) (b .words) (b .queue) (b .crew) (b .workers) 2} (x .2 .ensures (b .queue) (refl, d, t)) (x .3 .left)) (λ x. idle-passes (b .kind) (b .width) (b .words) (b .queue) (b .crew) (b .workers) 2 (passed (c .before .before .before .before .before .before .before .before .before .before .rests3 .ensures) (x .left))) (c .before .before .before .before .before .before .before .before .before .if5 .came)) in
-    let p4 = next-worker (b .kind) (b .width) (b .words) (b .queue) (b .crew) (b .workers) true 3 p3 (⊎-elim (λ x. passed {t = member (b .kind) (b .width) (b .words) (b .queue) (b .crew) (b .workers) 3} (x .2 .ensures (b .queue) (refl, d, t)) (x .3 .left)) (λ x. idle-passes (b .kind) (b .width) (b .words) (b .queue) (b .crew) (b .workers) 3 (passed (c .before .before .before .before .before .before .before .rests4 .ensures) (x .left))) (c .before .before .before .before .before .before .if7 .came)) in
+    let p1 = next-worker (b .kind) (start .args .bits) (b .words) (b .queue) (b .crew) (b .workers) true 0 refl (⊎-elim (λ x. passed {t = member (b .kind) (start .args .bits) (b .words) (b .queue) (b .crew) (b .workers) 0} (x .2 .ensures (b .queue) (refl, d, t)) (x .3 .left)) (λ x. idle-passes (b .kind) (start .args .bits) (b .words) (b .queue) (b .crew) (b .workers) 0 (passed (c .before .before .before .before .before .before .before .before .before .before .before .before .before .before .before .before .rests .ensures) (x .left))) (c .before .before .before .before .before .before .before .before .before .before .before .before .before .before .before .if1 .came)) in
+    let p2 = next-worker (b .kind) (start .args .bits) (b .words) (b .queue) (b .crew) (b .workers) true 1 p1 (⊎-elim (λ x. passed {t = member (b .kind) (start .args .bits) (b .words) (b .queue) (b .crew) (b .workers) 1} (x .2 .ensures (b .queue) (refl, d, t)) (x .3 .left)) (λ x. idle-passes (b .kind) (start .args .bits) (b .words) (b .queue) (b .crew) (b .workers) 1 (passed (c .before .before .before .before .before .before .before .before .before .before .before .before .before .rests2 .ensures) (x .left))) (c .before .before .before .before .before .before .before .before .before .before .before .before .if3 .came)) in
+    let p3 = next-worker (b .kind) (start .args .bits) (b .words) (b .queue) (b .crew) (b .workers) true 2 p2 (⊎-elim (λ x. passed {t = member (b .kind) (start .args .bits) (b .words) (b .queue) (b .crew) (b .workers) 2} (x .2 .ensures (b .queue) (refl, d, t)) (x .3 .left)) (λ x. idle-passes (b .kind) (start .args .bits) (b .words) (b .queue) (b .crew) (b .workers) 2 (passed (c .before .before .before .before .before .before .before .before .before .before .rests3 .ensures) (x .left))) (c .before .before .before .before .before .before .before .before .before .if5 .came)) in
+    let p4 = next-worker (b .kind) (start .args .bits) (b .words) (b .queue) (b .crew) (b .workers) true 3 p3 (⊎-elim (λ x. passed {t = member (b .kind) (start .args .bits) (b .words) (b .queue) (b .crew) (b .workers) 3} (x .2 .ensures (b .queue) (refl, d, t)) (x .3 .left)) (λ x. idle-passes (b .kind) (start .args .bits) (b .words) (b .queue) (b .crew) (b .workers) 3 (passed (c .before .before .before .before .before .before .before .rests4 .ensures) (x .left))) (c .before .before .before .before .before .before .if7 .came)) in
     sym
-    (no-workers (b .kind) (b .width) (b .words) (b .queue) (b .crew) (b .workers) 5 8 (omega arith)
-    (next-worker (b .kind) (b .width) (b .words) (b .queue) (b .crew) (b .workers) false 4 p4 (refused {t = member (b .kind) (b .width) (b .words) (b .queue) (b .crew) (b .workers) 4} (c .before .busy-ok5 .ensures (b .queue) (refl, d, t)) (c .if10 .taken))))
+    (no-workers (b .kind) (start .args .bits) (b .words) (b .queue) (b .crew) (b .workers) 5 8 (omega arith)
+    (next-worker (b .kind) (start .args .bits) (b .words) (b .queue) (b .crew) (b .workers) false 4 p4 (refused {t = member (b .kind) (start .args .bits) (b .words) (b .queue) (b .crew) (b .workers) 4} (c .before .busy-ok5 .ensures (b .queue) (refl, d, t)) (c .if10 .taken))))
 
 element-copy-out-rests-6 : tie.Need-element-copy-out-rests-6
 element-copy-out-rests-6 c = search needs
@@ -159,14 +159,14 @@ returns-6 c =
     let b = start .args .t1 in
     let d = start .pre .1 .1 .0 in
     let t = start .pre .1 .1 .1 .0 in
-    let p1 = next-worker (b .kind) (b .width) (b .words) (b .queue) (b .crew) (b .workers) true 0 refl (⊎-elim (λ x. passed {t = member (b .kind) (b .width) (b .words) (b .queue) (b .crew) (b .workers) 0} (x .2 .ensures (b .queue) (refl, d, t)) (x .3 .left)) (λ x. idle-passes (b .kind) (b .width) (b .words) (b .queue) (b .crew) (b .workers) 0 (passed (c .before .before .before .before .before .before .before .before .before .before .before .before .before .before .before .before .before .before .before .rests .ensures) (x .left))) (c .before .before .before .before .before .before .before .before .before .before .before .before .before .before .before .before .before .before .if1 .came)) in
-    let p2 = next-worker (b .kind) (b .width) (b .words) (b .queue) (b .crew) (b .workers) true 1 p1 (⊎-elim (λ x. passed {t = member (b .kind) (b .width) (b .words) (b .queue) (b .crew) (b .workers) 1} (x .2 .ensures (b .queue) (refl, d, t)) (x .3 .left)) (λ x. idle-passes (b .kind) (b .width) (b .words) (b .queue) (b .crew) (b .workers) 1 (passed (c .before .before .before .before .before .before .before .before .before .before .before .before .before .before .before .before .rests2 .ensures) (x .left))) (c .before .before .before .before .before .before .before .before .before .before .before .before .before .before .before .if3 .came)) in
-    let p3 = next-worker (b .kind) (b .width) (b .words) (b .queue) (b .crew) (b .workers) true 2 p2 (⊎-elim (λ x. passed {t = member (b .kind) (b .width) (b .words) (b .queue) (b .crew) (b .workers) 2} (x .2 .ensures (b .queue) (refl, d, t)) (x .3 .left)) (λ x. idle-passes (b .kind) (b .width) (b .words) (b .queue) (b .crew) (b .workers) 2 (passed (c .before .before .before .before .before .before .before .before .before .before .before .before .before .rests3 .ensures) (x .left))) (c .before .before .before .before .before .before .before .before .before .before .before .before .if5 .came)) in
-    let p4 = next-worker (b .kind) (b .width) (b .words) (b .queue) (b .crew) (b .workers) true 3 p3 (⊎-elim (λ x. passed {t = member (b .kind) (b .width) (b .words) (b .queue) (b .crew) (b .workers) 3} (x .2 .ensures (b .queue) (refl, d, t)) (x .3 .left)) (λ x. idle-passes (b .kind) (b .width) (b .words) (b .queue) (b .crew) (b .workers) 3 (passed (c .before .before .before .before .before .before .before .before .before .before .rests4 .ensures) (x .left))) (c .before .before .before .before .before .before .before .before .before .if7 .came)) in
-    let p5 = next-worker (b .kind) (b .width) (b .words) (b .queue) (b .crew) (b .workers) true 4 p4 (⊎-elim (λ x. passed {t = member (b .kind) (b .width) (b .words) (b .queue) (b .crew) (b .workers) 4} (x .2 .ensures (b .queue) (refl, d, t)) (x .3 .left)) (λ x. idle-passes (b .kind) (b .width) (b .words) (b .queue) (b .crew) (b .workers) 4 (passed (c .before .before .before .before .before .before .before .rests5 .ensures) (x .left))) (c .before .before .before .before .before .before .if9 .came)) in
+    let p1 = next-worker (b .kind) (start .args .bits) (b .words) (b .queue) (b .crew) (b .workers) true 0 refl (⊎-elim (λ x. passed {t = member (b .kind) (start .args .bits) (b .words) (b .queue) (b .crew) (b .workers) 0} (x .2 .ensures (b .queue) (refl, d, t)) (x .3 .left)) (λ x. idle-passes (b .kind) (start .args .bits) (b .words) (b .queue) (b .crew) (b .workers) 0 (passed (c .before .before .before .before .before .before .before .before .before .before .before .before .before .before .before .before .before .before .before .rests .ensures) (x .left))) (c .before .before .before .before .before .before .before .before .before .before .before .before .before .before .before .before .before .before .if1 .came)) in
+    let p2 = next-worker (b .kind) (start .args .bits) (b .words) (b .queue) (b .crew) (b .workers) true 1 p1 (⊎-elim (λ x. passed {t = member (b .kind) (start .args .bits) (b .words) (b .queue) (b .crew) (b .workers) 1} (x .2 .ensures (b .queue) (refl, d, t)) (x .3 .left)) (λ x. idle-passes (b .kind) (start .args .bits) (b .words) (b .queue) (b .crew) (b .workers) 1 (passed (c .before .before .before .before .before .before .before .before .before .before .before .before .before .before .before .before .rests2 .ensures) (x .left))) (c .before .before .before .before .before .before .before .before .before .before .before .before .before .before .before .if3 .came)) in
+    let p3 = next-worker (b .kind) (start .args .bits) (b .words) (b .queue) (b .crew) (b .workers) true 2 p2 (⊎-elim (λ x. passed {t = member (b .kind) (start .args .bits) (b .words) (b .queue) (b .crew) (b .workers) 2} (x .2 .ensures (b .queue) (refl, d, t)) (x .3 .left)) (λ x. idle-passes (b .kind) (start .args .bits) (b .words) (b .queue) (b .crew) (b .workers) 2 (passed (c .before .before .before .before .before .before .before .before .before .before .before .before .before .rests3 .ensures) (x .left))) (c .before .before .before .before .before .before .before .before .before .before .before .before .if5 .came)) in
+    let p4 = next-worker (b .kind) (start .args .bits) (b .words) (b .queue) (b .crew) (b .workers) true 3 p3 (⊎-elim (λ x. passed {t = member (b .kind) (start .args .bits) (b .words) (b .queue) (b .crew) (b .workers) 3} (x .2 .ensures (b .queue) (refl, d, t)) (x .3 .left)) (λ x. idle-passes (b .kind) (start .args .bits) (b .words) (b .queue) (b .crew) (b .workers) 3 (passed (c .before .before .before .before .before .before .before .before .before .before .rests4 .ensures) (x .left))) (c .before .before .before .before .before .before .before .before .before .if7 .came)) in
+    let p5 = next-worker (b .kind) (start .args .bits) (b .words) (b .queue) (b .crew) (b .workers) true 4 p4 (⊎-elim (λ x. passed {t = member (b .kind) (start .args .bits) (b .words) (b .queue) (b .crew) (b .workers) 4} (x .2 .ensures (b .queue) (refl, d, t)) (x .3 .left)) (λ x. idle-passes (b .kind) (start .args .bits) (b .words) (b .queue) (b .crew) (b .workers) 4 (passed (c .before .before .before .before .before .before .before .rests5 .ensures) (x .left))) (c .before .before .before .before .before .before .if9 .came)) in
     sym
-    (no-workers (b .kind) (b .width) (b .words) (b .queue) (b .crew) (b .workers) 6 8 (omega arith)
-    (next-worker (b .kind) (b .width) (b .words) (b .queue) (b .crew) (b .workers) false 5 p5 (refused {t = member (b .kind) (b .width) (b .words) (b .queue) (b .crew) (b .workers) 5} (c .before .busy-ok6 .ensures (b .queue) (refl, d, t)) (c .if12 .taken))))
+    (no-workers (b .kind) (start .args .bits) (b .words) (b .queue) (b .crew) (b .workers) 6 8 (omega arith)
+    (next-worker (b .kind) (start .args .bits) (b .words) (b .queue) (b .crew) (b .workers) false 5 p5 (refused {t = member (b .kind) (start .args .bits) (b .words) (b .queue) (b .crew) (b .workers) 5} (c .before .busy-ok6 .ensures (b .queue) (refl, d, t)) (c .if12 .taken))))
 
 element-copy-out-rests-7 : tie.Need-element-copy-out-rests-7
 element-copy-out-rests-7 c = search needs
@@ -188,15 +188,15 @@ returns-7 c =
     let b = start .args .t1 in
     let d = start .pre .1 .1 .0 in
     let t = start .pre .1 .1 .1 .0 in
-    let p1 = next-worker (b .kind) (b .width) (b .words) (b .queue) (b .crew) (b .workers) true 0 refl (⊎-elim (λ x. passed {t = member (b .kind) (b .width) (b .words) (b .queue) (b .crew) (b .workers) 0} (x .2 .ensures (b .queue) (refl, d, t)) (x .3 .left)) (λ x. idle-passes (b .kind) (b .width) (b .words) (b .queue) (b .crew) (b .workers) 0 (passed (c .before .before .before .before .before .before .before .before .before .before .before .before .before .before .before .before .before .before .before .before .before .before .rests .ensures) (x .left))) (c .before .before .before .before .before .before .before .before .before .before .before .before .before .before .before .before .before .before .before .before .before .if1 .came)) in
-    let p2 = next-worker (b .kind) (b .width) (b .words) (b .queue) (b .crew) (b .workers) true 1 p1 (⊎-elim (λ x. passed {t = member (b .kind) (b .width) (b .words) (b .queue) (b .crew) (b .workers) 1} (x .2 .ensures (b .queue) (refl, d, t)) (x .3 .left)) (λ x. idle-passes (b .kind) (b .width) (b .words) (b .queue) (b .crew) (b .workers) 1 (passed (c .before .before .before .before .before .before .before .before .before .before .before .before .before .before .before .before .before .before .before .rests2 .ensures) (x .left))) (c .before .before .before .before .before .before .before .before .before .before .before .before .before .before .before .before .before .before .if3 .came)) in
-    let p3 = next-worker (b .kind) (b .width) (b .words) (b .queue) (b .crew) (b .workers) true 2 p2 (⊎-elim (λ x. passed {t = member (b .kind) (b .width) (b .words) (b .queue) (b .crew) (b .workers) 2} (x .2 .ensures (b .queue) (refl, d, t)) (x .3 .left)) (λ x. idle-passes (b .kind) (b .width) (b .words) (b .queue) (b .crew) (b .workers) 2 (passed (c .before .before .before .before .before .before .before .before .before .before .before .before .before .before .before .before .rests3 .ensures) (x .left))) (c .before .before .before .before .before .before .before .before .before .before .before .before .before .before .before .if5 .came)) in
-    let p4 = next-worker (b .kind) (b .width) (b .words) (b .queue) (b .crew) (b .workers) true 3 p3 (⊎-elim (λ x. passed {t = member (b .kind) (b .width) (b .words) (b .queue) (b .crew) (b .workers) 3} (x .2 .ensures (b .queue) (refl, d, t)) (x .3 .left)) (λ x. idle-passes (b .kind) (b .width) (b .words) (b .queue) (b .crew) (b .workers) 3 (passed (c .before .before .before .before .before .before .before .before .before .before .before .before .before .rests4 .ensures) (x .left))) (c .before .before .before .before .before .before .before .before .before .before .before .before .if7 .came)) in
-    let p5 = next-worker (b .kind) (b .width) (b .words) (b .queue) (b .crew) (b .workers) true 4 p4 (⊎-elim (λ x. passed {t = member (b .kind) (b .width) (b .words) (b .queue) (b .crew) (b .workers) 4} (x .2 .ensures (b .queue) (refl, d, t)) (x .3 .left)) (λ x. idle-passes (b .kind) (b .width) (b .words) (b .queue) (b .crew) (b .workers) 4 (passed (c .before .before .before .before .before .before .before .before .before .before .rests5 .ensures) (x .left))) (c .before .before .before .before .before .before .before .before .before .if9 .came)) in
-    let p6 = next-worker (b .kind) (b .width) (b .words) (b .queue) (b .crew) (b .workers) true 5 p5 (⊎-elim (λ x. passed {t = member (b .kind) (b .width) (b .words) (b .queue) (b .crew) (b .workers) 5} (x .2 .ensures (b .queue) (refl, d, t)) (x .3 .left)) (λ x. idle-passes (b .kind) (b .width) (b .words) (b .queue) (b .crew) (b .workers) 5 (passed (c .before .before .before .before .before .before .before .rests6 .ensures) (x .left))) (c .before .before .before .before .before .before .if11 .came)) in
+    let p1 = next-worker (b .kind) (start .args .bits) (b .words) (b .queue) (b .crew) (b .workers) true 0 refl (⊎-elim (λ x. passed {t = member (b .kind) (start .args .bits) (b .words) (b .queue) (b .crew) (b .workers) 0} (x .2 .ensures (b .queue) (refl, d, t)) (x .3 .left)) (λ x. idle-passes (b .kind) (start .args .bits) (b .words) (b .queue) (b .crew) (b .workers) 0 (passed (c .before .before .before .before .before .before .before .before .before .before .before .before .before .before .before .before .before .before .before .before .before .before .rests .ensures) (x .left))) (c .before .before .before .before .before .before .before .before .before .before .before .before .before .before .before .before .before .before .before .before .before .if1 .came)) in
+    let p2 = next-worker (b .kind) (start .args .bits) (b .words) (b .queue) (b .crew) (b .workers) true 1 p1 (⊎-elim (λ x. passed {t = member (b .kind) (start .args .bits) (b .words) (b .queue) (b .crew) (b .workers) 1} (x .2 .ensures (b .queue) (refl, d, t)) (x .3 .left)) (λ x. idle-passes (b .kind) (start .args .bits) (b .words) (b .queue) (b .crew) (b .workers) 1 (passed (c .before .before .before .before .before .before .before .before .before .before .before .before .before .before .before .before .before .before .before .rests2 .ensures) (x .left))) (c .before .before .before .before .before .before .before .before .before .before .before .before .before .before .before .before .before .before .if3 .came)) in
+    let p3 = next-worker (b .kind) (start .args .bits) (b .words) (b .queue) (b .crew) (b .workers) true 2 p2 (⊎-elim (λ x. passed {t = member (b .kind) (start .args .bits) (b .words) (b .queue) (b .crew) (b .workers) 2} (x .2 .ensures (b .queue) (refl, d, t)) (x .3 .left)) (λ x. idle-passes (b .kind) (start .args .bits) (b .words) (b .queue) (b .crew) (b .workers) 2 (passed (c .before .before .before .before .before .before .before .before .before .before .before .before .before .before .before .before .rests3 .ensures) (x .left))) (c .before .before .before .before .before .before .before .before .before .before .before .before .before .before .before .if5 .came)) in
+    let p4 = next-worker (b .kind) (start .args .bits) (b .words) (b .queue) (b .crew) (b .workers) true 3 p3 (⊎-elim (λ x. passed {t = member (b .kind) (start .args .bits) (b .words) (b .queue) (b .crew) (b .workers) 3} (x .2 .ensures (b .queue) (refl, d, t)) (x .3 .left)) (λ x. idle-passes (b .kind) (start .args .bits) (b .words) (b .queue) (b .crew) (b .workers) 3 (passed (c .before .before .before .before .before .before .before .before .before .before .before .before .before .rests4 .ensures) (x .left))) (c .before .before .before .before .before .before .before .before .before .before .before .before .if7 .came)) in
+    let p5 = next-worker (b .kind) (start .args .bits) (b .words) (b .queue) (b .crew) (b .workers) true 4 p4 (⊎-elim (λ x. passed {t = member (b .kind) (start .args .bits) (b .words) (b .queue) (b .crew) (b .workers) 4} (x .2 .ensures (b .queue) (refl, d, t)) (x .3 .left)) (λ x. idle-passes (b .kind) (start .args .bits) (b .words) (b .queue) (b .crew) (b .workers) 4 (passed (c .before .before .before .before .before .before .before .before .before .before .rests5 .ensures) (x .left))) (c .before .before .before .before .before .before .before .before .before .if9 .came)) in
+    let p6 = next-worker (b .kind) (start .args .bits) (b .words) (b .queue) (b .crew) (b .workers) true 5 p5 (⊎-elim (λ x. passed {t = member (b .kind) (start .args .bits) (b .words) (b .queue) (b .crew) (b .workers) 5} (x .2 .ensures (b .queue) (refl, d, t)) (x .3 .left)) (λ x. idle-passes (b .kind) (start .args .bits) (b .words) (b .queue) (b .crew) (b .workers) 5 (passed (c .before .before .before .before .before .before .before .rests6 .ensures) (x .left))) (c .before .before .before .before .before .before .if11 .came)) in
     sym
-    (no-workers (b .kind) (b .width) (b .words) (b .queue) (b .crew) (b .workers) 7 8 (omega arith)
-    (next-worker (b .kind) (b .width) (b .words) (b .queue) (b .crew) (b .workers) false 6 p6 (refused {t = member (b .kind) (b .width) (b .words) (b .queue) (b .crew) (b .workers) 6} (c .before .busy-ok7 .ensures (b .queue) (refl, d, t)) (c .if14 .taken))))
+    (no-workers (b .kind) (start .args .bits) (b .words) (b .queue) (b .crew) (b .workers) 7 8 (omega arith)
+    (next-worker (b .kind) (start .args .bits) (b .words) (b .queue) (b .crew) (b .workers) false 6 p6 (refused {t = member (b .kind) (start .args .bits) (b .words) (b .queue) (b .crew) (b .workers) 6} (c .before .busy-ok7 .ensures (b .queue) (refl, d, t)) (c .if14 .taken))))
 
 element-copy-out-rests-8 : tie.Need-element-copy-out-rests-8
 element-copy-out-rests-8 c = search needs
@@ -218,16 +218,16 @@ returns-8 c =
     let b = start .args .t1 in
     let d = start .pre .1 .1 .0 in
     let t = start .pre .1 .1 .1 .0 in
-    let p1 = next-worker (b .kind) (b .width) (b .words) (b .queue) (b .crew) (b .workers) true 0 refl (⊎-elim (λ x. passed {t = member (b .kind) (b .width) (b .words) (b .queue) (b .crew) (b .workers) 0} (x .2 .ensures (b .queue) (refl, d, t)) (x .3 .left)) (λ x. idle-passes (b .kind) (b .width) (b .words) (b .queue) (b .crew) (b .workers) 0 (passed (c .before .before .before .before .before .before .before .before .before .before .before .before .before .before .before .before .before .before .before .before .before .before .before .before .before .rests .ensures) (x .left))) (c .before .before .before .before .before .before .before .before .before .before .before .before .before .before .before .before .before .before .before .before .before .before .before .before .if1 .came)) in
-    let p2 = next-worker (b .kind) (b .width) (b .words) (b .queue) (b .crew) (b .workers) true 1 p1 (⊎-elim (λ x. passed {t = member (b .kind) (b .width) (b .words) (b .queue) (b .crew) (b .workers) 1} (x .2 .ensures (b .queue) (refl, d, t)) (x .3 .left)) (λ x. idle-passes (b .kind) (b .width) (b .words) (b .queue) (b .crew) (b .workers) 1 (passed (c .before .before .before .before .before .before .before .before .before .before .before .before .before .before .before .before .before .before .before .before .before .before .rests2 .ensures) (x .left))) (c .before .before .before .before .before .before .before .before .before .before .before .before .before .before .before .before .before .before .before .before .before .if3 .came)) in
-    let p3 = next-worker (b .kind) (b .width) (b .words) (b .queue) (b .crew) (b .workers) true 2 p2 (⊎-elim (λ x. passed {t = member (b .kind) (b .width) (b .words) (b .queue) (b .crew) (b .workers) 2} (x .2 .ensures (b .queue) (refl, d, t)) (x .3 .left)) (λ x. idle-passes (b .kind) (b .width) (b .words) (b .queue) (b .crew) (b .workers) 2 (passed (c .before .before .before .before .before .before .before .before .before .before .before .before .before .before .before .before .before .before .before .rests3 .ensures) (x .left))) (c .before .before .before .before .before .before .before .before .before .before .before .before .before .before .before .before .before .before .if5 .came)) in
-    let p4 = next-worker (b .kind) (b .width) (b .words) (b .queue) (b .crew) (b .workers) true 3 p3 (⊎-elim (λ x. passed {t = member (b .kind) (b .width) (b .words) (b .queue) (b .crew) (b .workers) 3} (x .2 .ensures (b .queue) (refl, d, t)) (x .3 .left)) (λ x. idle-passes (b .kind) (b .width) (b .words) (b .queue) (b .crew) (b .workers) 3 (passed (c .before .before .before .before .before .before .before .before .before .before .before .before .before .before .before .before .rests4 .ensures) (x .left))) (c .before .before .before .before .before .before .before .before .before .before .before .before .before .before .before .if7 .came)) in
-    let p5 = next-worker (b .kind) (b .width) (b .words) (b .queue) (b .crew) (b .workers) true 4 p4 (⊎-elim (λ x. passed {t = member (b .kind) (b .width) (b .words) (b .queue) (b .crew) (b .workers) 4} (x .2 .ensures (b .queue) (refl, d, t)) (x .3 .left)) (λ x. idle-passes (b .kind) (b .width) (b .words) (b .queue) (b .crew) (b .workers) 4 (passed (c .before .before .before .before .before .before .before .before .before .before .before .before .before .rests5 .ensures) (x .left))) (c .before .before .before .before .before .before .before .before .before .before .before .before .if9 .came)) in
-    let p6 = next-worker (b .kind) (b .width) (b .words) (b .queue) (b .crew) (b .workers) true 5 p5 (⊎-elim (λ x. passed {t = member (b .kind) (b .width) (b .words) (b .queue) (b .crew) (b .workers) 5} (x .2 .ensures (b .queue) (refl, d, t)) (x .3 .left)) (λ x. idle-passes (b .kind) (b .width) (b .words) (b .queue) (b .crew) (b .workers) 5 (passed (c .before .before .before .before .before .before .before .before .before .before .rests6 .ensures) (x .left))) (c .before .before .before .before .before .before .before .before .before .if11 .came)) in
-    let p7 = next-worker (b .kind) (b .width) (b .words) (b .queue) (b .crew) (b .workers) true 6 p6 (⊎-elim (λ x. passed {t = member (b .kind) (b .width) (b .words) (b .queue) (b .crew) (b .workers) 6} (x .2 .ensures (b .queue) (refl, d, t)) (x .3 .left)) (λ x. idle-passes (b .kind) (b .width) (b .words) (b .queue) (b .crew) (b .workers) 6 (passed (c .before .before .before .before .before .before .before .rests7 .ensures) (x .left))) (c .before .before .before .before .before .before .if13 .came)) in
+    let p1 = next-worker (b .kind) (start .args .bits) (b .words) (b .queue) (b .crew) (b .workers) true 0 refl (⊎-elim (λ x. passed {t = member (b .kind) (start .args .bits) (b .words) (b .queue) (b .crew) (b .workers) 0} (x .2 .ensures (b .queue) (refl, d, t)) (x .3 .left)) (λ x. idle-passes (b .kind) (start .args .bits) (b .words) (b .queue) (b .crew) (b .workers) 0 (passed (c .before .before .before .before .before .before .before .before .before .before .before .before .before .before .before .before .before .before .before .before .before .before .before .before .before .rests .ensures) (x .left))) (c .before .before .before .before .before .before .before .before .before .before .before .before .before .before .before .before .before .before .before .before .before .before .before .before .if1 .came)) in
+    let p2 = next-worker (b .kind) (start .args .bits) (b .words) (b .queue) (b .crew) (b .workers) true 1 p1 (⊎-elim (λ x. passed {t = member (b .kind) (start .args .bits) (b .words) (b .queue) (b .crew) (b .workers) 1} (x .2 .ensures (b .queue) (refl, d, t)) (x .3 .left)) (λ x. idle-passes (b .kind) (start .args .bits) (b .words) (b .queue) (b .crew) (b .workers) 1 (passed (c .before .before .before .before .before .before .before .before .before .before .before .before .before .before .before .before .before .before .before .before .before .before .rests2 .ensures) (x .left))) (c .before .before .before .before .before .before .before .before .before .before .before .before .before .before .before .before .before .before .before .before .before .if3 .came)) in
+    let p3 = next-worker (b .kind) (start .args .bits) (b .words) (b .queue) (b .crew) (b .workers) true 2 p2 (⊎-elim (λ x. passed {t = member (b .kind) (start .args .bits) (b .words) (b .queue) (b .crew) (b .workers) 2} (x .2 .ensures (b .queue) (refl, d, t)) (x .3 .left)) (λ x. idle-passes (b .kind) (start .args .bits) (b .words) (b .queue) (b .crew) (b .workers) 2 (passed (c .before .before .before .before .before .before .before .before .before .before .before .before .before .before .before .before .before .before .before .rests3 .ensures) (x .left))) (c .before .before .before .before .before .before .before .before .before .before .before .before .before .before .before .before .before .before .if5 .came)) in
+    let p4 = next-worker (b .kind) (start .args .bits) (b .words) (b .queue) (b .crew) (b .workers) true 3 p3 (⊎-elim (λ x. passed {t = member (b .kind) (start .args .bits) (b .words) (b .queue) (b .crew) (b .workers) 3} (x .2 .ensures (b .queue) (refl, d, t)) (x .3 .left)) (λ x. idle-passes (b .kind) (start .args .bits) (b .words) (b .queue) (b .crew) (b .workers) 3 (passed (c .before .before .before .before .before .before .before .before .before .before .before .before .before .before .before .before .rests4 .ensures) (x .left))) (c .before .before .before .before .before .before .before .before .before .before .before .before .before .before .before .if7 .came)) in
+    let p5 = next-worker (b .kind) (start .args .bits) (b .words) (b .queue) (b .crew) (b .workers) true 4 p4 (⊎-elim (λ x. passed {t = member (b .kind) (start .args .bits) (b .words) (b .queue) (b .crew) (b .workers) 4} (x .2 .ensures (b .queue) (refl, d, t)) (x .3 .left)) (λ x. idle-passes (b .kind) (start .args .bits) (b .words) (b .queue) (b .crew) (b .workers) 4 (passed (c .before .before .before .before .before .before .before .before .before .before .before .before .before .rests5 .ensures) (x .left))) (c .before .before .before .before .before .before .before .before .before .before .before .before .if9 .came)) in
+    let p6 = next-worker (b .kind) (start .args .bits) (b .words) (b .queue) (b .crew) (b .workers) true 5 p5 (⊎-elim (λ x. passed {t = member (b .kind) (start .args .bits) (b .words) (b .queue) (b .crew) (b .workers) 5} (x .2 .ensures (b .queue) (refl, d, t)) (x .3 .left)) (λ x. idle-passes (b .kind) (start .args .bits) (b .words) (b .queue) (b .crew) (b .workers) 5 (passed (c .before .before .before .before .before .before .before .before .before .before .rests6 .ensures) (x .left))) (c .before .before .before .before .before .before .before .before .before .if11 .came)) in
+    let p7 = next-worker (b .kind) (start .args .bits) (b .words) (b .queue) (b .crew) (b .workers) true 6 p6 (⊎-elim (λ x. passed {t = member (b .kind) (start .args .bits) (b .words) (b .queue) (b .crew) (b .workers) 6} (x .2 .ensures (b .queue) (refl, d, t)) (x .3 .left)) (λ x. idle-passes (b .kind) (start .args .bits) (b .words) (b .queue) (b .crew) (b .workers) 6 (passed (c .before .before .before .before .before .before .before .rests7 .ensures) (x .left))) (c .before .before .before .before .before .before .if13 .came)) in
     sym
-    (no-workers (b .kind) (b .width) (b .words) (b .queue) (b .crew) (b .workers) 8 8 (omega arith)
-    (next-worker (b .kind) (b .width) (b .words) (b .queue) (b .crew) (b .workers) false 7 p7 (refused {t = member (b .kind) (b .width) (b .words) (b .queue) (b .crew) (b .workers) 7} (c .before .busy-ok8 .ensures (b .queue) (refl, d, t)) (c .if16 .taken))))
+    (no-workers (b .kind) (start .args .bits) (b .words) (b .queue) (b .crew) (b .workers) 8 8 (omega arith)
+    (next-worker (b .kind) (start .args .bits) (b .words) (b .queue) (b .crew) (b .workers) false 7 p7 (refused {t = member (b .kind) (start .args .bits) (b .words) (b .queue) (b .crew) (b .workers) 7} (c .before .busy-ok8 .ensures (b .queue) (refl, d, t)) (c .if16 .taken))))
 
 returns-9 : tie.Need-returns-9
 returns-9 c =
@@ -235,14 +235,14 @@ returns-9 c =
     let b = start .args .t1 in
     let d = start .pre .1 .1 .0 in
     let t = start .pre .1 .1 .1 .0 in
-    let p1 = next-worker (b .kind) (b .width) (b .words) (b .queue) (b .crew) (b .workers) true 0 refl (⊎-elim (λ x. passed {t = member (b .kind) (b .width) (b .words) (b .queue) (b .crew) (b .workers) 0} (x .2 .ensures (b .queue) (refl, d, t)) (x .3 .left)) (λ x. idle-passes (b .kind) (b .width) (b .words) (b .queue) (b .crew) (b .workers) 0 (passed (c .before .before .before .before .before .before .before .before .before .before .before .before .before .before .before .before .before .before .before .before .before .before .rests .ensures) (x .left))) (c .before .before .before .before .before .before .before .before .before .before .before .before .before .before .before .before .before .before .before .before .before .if1 .came)) in
-    let p2 = next-worker (b .kind) (b .width) (b .words) (b .queue) (b .crew) (b .workers) true 1 p1 (⊎-elim (λ x. passed {t = member (b .kind) (b .width) (b .words) (b .queue) (b .crew) (b .workers) 1} (x .2 .ensures (b .queue) (refl, d, t)) (x .3 .left)) (λ x. idle-passes (b .kind) (b .width) (b .words) (b .queue) (b .crew) (b .workers) 1 (passed (c .before .before .before .before .before .before .before .before .before .before .before .before .before .before .before .before .before .before .before .rests2 .ensures) (x .left))) (c .before .before .before .before .before .before .before .before .before .before .before .before .before .before .before .before .before .before .if3 .came)) in
-    let p3 = next-worker (b .kind) (b .width) (b .words) (b .queue) (b .crew) (b .workers) true 2 p2 (⊎-elim (λ x. passed {t = member (b .kind) (b .width) (b .words) (b .queue) (b .crew) (b .workers) 2} (x .2 .ensures (b .queue) (refl, d, t)) (x .3 .left)) (λ x. idle-passes (b .kind) (b .width) (b .words) (b .queue) (b .crew) (b .workers) 2 (passed (c .before .before .before .before .before .before .before .before .before .before .before .before .before .before .before .before .rests3 .ensures) (x .left))) (c .before .before .before .before .before .before .before .before .before .before .before .before .before .before .before .if5 .came)) in
-    let p4 = next-worker (b .kind) (b .width) (b .words) (b .queue) (b .crew) (b .workers) true 3 p3 (⊎-elim (λ x. passed {t = member (b .kind) (b .width) (b .words) (b .queue) (b .crew) (b .workers) 3} (x .2 .ensures (b .queue) (refl, d, t)) (x .3 .left)) (λ x. idle-passes (b .kind) (b .width) (b .words) (b .queue) (b .crew) (b .workers) 3 (passed (c .before .before .before .before .before .before .before .before .before .before .before .before .before .rests4 .ensures) (x .left))) (c .before .before .before .before .before .before .before .before .before .before .before .before .if7 .came)) in
-    let p5 = next-worker (b .kind) (b .width) (b .words) (b .queue) (b .crew) (b .workers) true 4 p4 (⊎-elim (λ x. passed {t = member (b .kind) (b .width) (b .words) (b .queue) (b .crew) (b .workers) 4} (x .2 .ensures (b .queue) (refl, d, t)) (x .3 .left)) (λ x. idle-passes (b .kind) (b .width) (b .words) (b .queue) (b .crew) (b .workers) 4 (passed (c .before .before .before .before .before .before .before .before .before .before .rests5 .ensures) (x .left))) (c .before .before .before .before .before .before .before .before .before .if9 .came)) in
-    let p6 = next-worker (b .kind) (b .width) (b .words) (b .queue) (b .crew) (b .workers) true 5 p5 (⊎-elim (λ x. passed {t = member (b .kind) (b .width) (b .words) (b .queue) (b .crew) (b .workers) 5} (x .2 .ensures (b .queue) (refl, d, t)) (x .3 .left)) (λ x. idle-passes (b .kind) (b .width) (b .words) (b .queue) (b .crew) (b .workers) 5 (passed (c .before .before .before .before .before .before .before .rests6 .ensures) (x .left))) (c .before .before .before .before .before .before .if11 .came)) in
-    let p7 = next-worker (b .kind) (b .width) (b .words) (b .queue) (b .crew) (b .workers) true 6 p6 (⊎-elim (λ x. passed {t = member (b .kind) (b .width) (b .words) (b .queue) (b .crew) (b .workers) 6} (x .2 .ensures (b .queue) (refl, d, t)) (x .3 .left)) (λ x. idle-passes (b .kind) (b .width) (b .words) (b .queue) (b .crew) (b .workers) 6 (passed (c .before .before .before .before .rests7 .ensures) (x .left))) (c .before .before .before .if13 .came)) in
-    let p8 = next-worker (b .kind) (b .width) (b .words) (b .queue) (b .crew) (b .workers) true 7 p7 (⊎-elim (λ x. passed {t = member (b .kind) (b .width) (b .words) (b .queue) (b .crew) (b .workers) 7} (x .2 .ensures (b .queue) (refl, d, t)) (x .3 .left)) (λ x. idle-passes (b .kind) (b .width) (b .words) (b .queue) (b .crew) (b .workers) 7 (passed (c .before .rests8 .ensures) (x .left))) (c .if15 .came)) in
+    let p1 = next-worker (b .kind) (start .args .bits) (b .words) (b .queue) (b .crew) (b .workers) true 0 refl (⊎-elim (λ x. passed {t = member (b .kind) (start .args .bits) (b .words) (b .queue) (b .crew) (b .workers) 0} (x .2 .ensures (b .queue) (refl, d, t)) (x .3 .left)) (λ x. idle-passes (b .kind) (start .args .bits) (b .words) (b .queue) (b .crew) (b .workers) 0 (passed (c .before .before .before .before .before .before .before .before .before .before .before .before .before .before .before .before .before .before .before .before .before .before .rests .ensures) (x .left))) (c .before .before .before .before .before .before .before .before .before .before .before .before .before .before .before .before .before .before .before .before .before .if1 .came)) in
+    let p2 = next-worker (b .kind) (start .args .bits) (b .words) (b .queue) (b .crew) (b .workers) true 1 p1 (⊎-elim (λ x. passed {t = member (b .kind) (start .args .bits) (b .words) (b .queue) (b .crew) (b .workers) 1} (x .2 .ensures (b .queue) (refl, d, t)) (x .3 .left)) (λ x. idle-passes (b .kind) (start .args .bits) (b .words) (b .queue) (b .crew) (b .workers) 1 (passed (c .before .before .before .before .before .before .before .before .before .before .before .before .before .before .before .before .before .before .before .rests2 .ensures) (x .left))) (c .before .before .before .before .before .before .before .before .before .before .before .before .before .before .before .before .before .before .if3 .came)) in
+    let p3 = next-worker (b .kind) (start .args .bits) (b .words) (b .queue) (b .crew) (b .workers) true 2 p2 (⊎-elim (λ x. passed {t = member (b .kind) (start .args .bits) (b .words) (b .queue) (b .crew) (b .workers) 2} (x .2 .ensures (b .queue) (refl, d, t)) (x .3 .left)) (λ x. idle-passes (b .kind) (start .args .bits) (b .words) (b .queue) (b .crew) (b .workers) 2 (passed (c .before .before .before .before .before .before .before .before .before .before .before .before .before .before .before .before .rests3 .ensures) (x .left))) (c .before .before .before .before .before .before .before .before .before .before .before .before .before .before .before .if5 .came)) in
+    let p4 = next-worker (b .kind) (start .args .bits) (b .words) (b .queue) (b .crew) (b .workers) true 3 p3 (⊎-elim (λ x. passed {t = member (b .kind) (start .args .bits) (b .words) (b .queue) (b .crew) (b .workers) 3} (x .2 .ensures (b .queue) (refl, d, t)) (x .3 .left)) (λ x. idle-passes (b .kind) (start .args .bits) (b .words) (b .queue) (b .crew) (b .workers) 3 (passed (c .before .before .before .before .before .before .before .before .before .before .before .before .before .rests4 .ensures) (x .left))) (c .before .before .before .before .before .before .before .before .before .before .before .before .if7 .came)) in
+    let p5 = next-worker (b .kind) (start .args .bits) (b .words) (b .queue) (b .crew) (b .workers) true 4 p4 (⊎-elim (λ x. passed {t = member (b .kind) (start .args .bits) (b .words) (b .queue) (b .crew) (b .workers) 4} (x .2 .ensures (b .queue) (refl, d, t)) (x .3 .left)) (λ x. idle-passes (b .kind) (start .args .bits) (b .words) (b .queue) (b .crew) (b .workers) 4 (passed (c .before .before .before .before .before .before .before .before .before .before .rests5 .ensures) (x .left))) (c .before .before .before .before .before .before .before .before .before .if9 .came)) in
+    let p6 = next-worker (b .kind) (start .args .bits) (b .words) (b .queue) (b .crew) (b .workers) true 5 p5 (⊎-elim (λ x. passed {t = member (b .kind) (start .args .bits) (b .words) (b .queue) (b .crew) (b .workers) 5} (x .2 .ensures (b .queue) (refl, d, t)) (x .3 .left)) (λ x. idle-passes (b .kind) (start .args .bits) (b .words) (b .queue) (b .crew) (b .workers) 5 (passed (c .before .before .before .before .before .before .before .rests6 .ensures) (x .left))) (c .before .before .before .before .before .before .if11 .came)) in
+    let p7 = next-worker (b .kind) (start .args .bits) (b .words) (b .queue) (b .crew) (b .workers) true 6 p6 (⊎-elim (λ x. passed {t = member (b .kind) (start .args .bits) (b .words) (b .queue) (b .crew) (b .workers) 6} (x .2 .ensures (b .queue) (refl, d, t)) (x .3 .left)) (λ x. idle-passes (b .kind) (start .args .bits) (b .words) (b .queue) (b .crew) (b .workers) 6 (passed (c .before .before .before .before .rests7 .ensures) (x .left))) (c .before .before .before .if13 .came)) in
+    let p8 = next-worker (b .kind) (start .args .bits) (b .words) (b .queue) (b .crew) (b .workers) true 7 p7 (⊎-elim (λ x. passed {t = member (b .kind) (start .args .bits) (b .words) (b .queue) (b .crew) (b .workers) 7} (x .2 .ensures (b .queue) (refl, d, t)) (x .3 .left)) (λ x. idle-passes (b .kind) (start .args .bits) (b .words) (b .queue) (b .crew) (b .workers) 7 (passed (c .before .rests8 .ensures) (x .left))) (c .if15 .came)) in
     sym p8
 
 pub workers-ok-spec : {M : Type 1} → statement M

@@ -6,8 +6,8 @@ use borrow.Author.Needs.{needs}
 use Rattle.lines.proofs.compare.Statement.{statement}
 use Rattle.lines.proofs.compare.Tie as tie
 
-is-same-requires : tie.Need-is-same-requires
-is-same-requires c κs = search needs
+succeeds-requires : tie.Need-succeeds-requires
+succeeds-requires c κs = search needs
 
 after-steal-requires : tie.Need-after-steal-requires
 after-steal-requires c κs = search needs
@@ -15,14 +15,14 @@ after-steal-requires c κs = search needs
 returns : tie.Need-returns
 unfolding queueBy storeBy answerBy failsBy Doable if_then_else_
 returns c =
-    let same = sym (c .before .before .is-same .ensures) ∙ c .before .if1 .taken in
-    (λ v m. simp (same, c .after-steal .ensures), (λ v n. refl, sym (ap not same)))
+    let won = sym (c .before .before .before .succeeds .ensures) ∙ c .before .before .if1 .taken in
+    (λ v m. simp (won, c .after-steal .ensures), (λ v n. refl, sym (ap not won)))
 
 returns-2 : tie.Need-returns-2
 unfolding queueBy storeBy answerBy failsBy Doable if_then_else_
 returns-2 c =
-    let same = sym (c .before .is-same .ensures) ∙ c .if1 .left in
-    (λ v m. simp same, (λ v n. tt, sym (ap not same)))
+    let lost = sym (c .before .succeeds .ensures) ∙ c .if1 .left in
+    (λ v m. simp lost, (λ v n. tt, sym (ap not lost)))
 
 pub compare-spec : {M : Type 1} → statement M
-compare-spec = tie.close (tie.spec is-same-requires after-steal-requires returns returns-2)
+compare-spec = tie.close (tie.spec succeeds-requires after-steal-requires returns returns-2)

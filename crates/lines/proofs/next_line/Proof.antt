@@ -1,7 +1,7 @@
 use Rattle.lines.specs.Actions.{Ready}
 use Rattle.model.specs.Lines.{lineStep}
 use native.Mathlib.Omega.{arith}
-use mathlib.Core.Path.{refl, sym, _∙_}
+use mathlib.Core.Path.{sym, _∙_}
 use borrow.Author.Needs.{needs}
 use Rattle.lines.proofs.next_line.Statement.{statement}
 use Rattle.lines.proofs.next_line.Tie as tie
@@ -212,15 +212,15 @@ past-compare-requires c κs = search needs
 
 returns : tie.Need-returns
 unfolding lineStep
-returns c = λ w i. simp (c .enum-told .given .1)
+returns c = λ w. simp (c .enum-told .given .1)
 
 returns-2 : tie.Need-returns-2
 unfolding lineStep
-returns-2 c = λ w i. simp (c .before .before .line .given .1, c .put-read .ensures)
+returns-2 c = λ w. simp (c .before .before .line .given .1, c .put-read .ensures)
 
 returns-3 : tie.Need-returns-3
 unfolding lineStep
-returns-3 c = λ w i. simp (c .before .before .line2 .given .1, c .with-tail .ensures)
+returns-3 c = λ w. simp (c .before .before .line2 .given .1, c .with-tail .ensures)
 
 returns-4 : tie.Need-returns-4
 unfolding lineStep
@@ -228,22 +228,22 @@ returns-4 c =
     let arm = c .before .before .before in
     let start = arm .before .before .before .before .before in
     let size = c .before .size-at .ensures ∙ sym (start .pre .0 .doubled) in
-    λ w i. simp (arm .line3 .given .1, size, c .put-test .ensures)
+    λ w. simp (arm .line3 .given .1, size, c .put-test .ensures)
 
 returns-5 : tie.Need-returns-5
 unfolding lineStep
-returns-5 c = λ w i. simp (c .before .before .line4 .given .1, c .put-on .ensures)
+returns-5 c = λ w. simp (c .before .before .line4 .given .1, c .put-on .ensures)
 
 returns-6 : tie.Need-returns-6
 unfolding lineStep
-returns-6 c = λ w i. simp (c .enum-told2 .given .1)
+returns-6 c = λ w. simp (c .enum-told2 .given .1)
 
 returns-7 : tie.Need-returns-7
 unfolding lineStep
 returns-7 c =
     let start = c .before .before .before .before .before .before .before in
     let G = start .pre .0 in
-    λ w i. simp (c .before .before .line5 .given .1) (c .past-claim .ensures (start .args .words) i (G .doubled, G .small))
+    λ w. simp (c .before .before .line5 .given .1) (c .past-claim .ensures (start .args .words) (start .args .worker) (G .doubled, G .small))
 
 returns-8 : tie.Need-returns-8
 unfolding lineStep
@@ -251,66 +251,66 @@ returns-8 c =
     let arm = c .before .before .before in
     let start = arm .before .before .before .before .before in
     let size = c .before .size-at2 .ensures ∙ sym (start .pre .0 .doubled) in
-    λ w i. simp (arm .line6 .given .1, size, c .note-for .ensures)
+    λ w. simp (arm .line6 .given .1, size, c .note-for .ensures)
 
 returns-9 : tie.Need-returns-9
 unfolding lineStep
-returns-9 c = λ w i. simp (c .before .before .line7 .given .1, c .copy-on .ensures)
+returns-9 c = λ w. simp (c .before .before .line7 .given .1, c .copy-on .ensures)
 
 returns-10 : tie.Need-returns-10
 unfolding lineStep
-returns-10 c = λ w i. simp (c .before .line8 .given .1)
+returns-10 c = λ w. simp (c .before .line8 .given .1)
 
 returns-11 : tie.Need-returns-11
 unfolding lineStep
-returns-11 c = λ w i. simp (c .before .enum-told3 .given .1, c .take-read .ensures)
+returns-11 c = λ w. simp (c .before .enum-told3 .given .1, c .take-read .ensures)
 
 returns-12 : tie.Need-returns-12
 unfolding lineStep
-returns-12 c = λ w i. simp (c .before .before .line9 .given .1, c .with-tail2 .ensures)
+returns-12 c = λ w. simp (c .before .before .line9 .given .1, c .with-tail2 .ensures)
 
 returns-13 : tie.Need-returns-13
 unfolding lineStep
 returns-13 c =
     let arm = c .before .before .before in
     let a = arm .before .before .before .before .before .args in
-    λ w i. simp (arm .line10 .given .1) (rw (c .before .take-first .ensures) at (c .past-empty .ensures (a .queue) (a .store .now) i))
+    λ w. simp (arm .line10 .given .1) (rw (c .before .take-first .ensures) at (c .past-empty .ensures (a .queue) (a .store .now) (a .worker)))
 
 returns-14 : tie.Need-returns-14
 unfolding lineStep
-returns-14 c = λ w i. simp (c .before .before .before .before .line11 .given .1, c .before .before .taken-word .ensures, c .before .with-word .ensures, c .take-on .ensures)
+returns-14 c = λ w. simp (c .before .before .before .before .line11 .given .1, c .before .before .taken-word .ensures, c .before .with-word .ensures, c .take-on .ensures)
 
 returns-15 : tie.Need-returns-15
 unfolding lineStep
-returns-15 c = λ w i. simp (c .enum-told4 .given .1)
+returns-15 c = λ w. simp (c .enum-told4 .given .1)
 
 returns-16 : tie.Need-returns-16
 unfolding lineStep
-returns-16 c = λ w i. simp (c .before .enum-told5 .given .1, c .steal-read .ensures)
+returns-16 c = λ w. simp (c .before .enum-told5 .given .1, c .steal-read .ensures)
 
 returns-17 : tie.Need-returns-17
 unfolding lineStep
-returns-17 c = λ w i. simp (c .before .before .line12 .given .1, c .with-tail3 .ensures)
+returns-17 c = λ w. simp (c .before .before .line12 .given .1, c .with-tail3 .ensures)
 
 returns-18 : tie.Need-returns-18
 unfolding lineStep
-returns-18 c = λ w i. simp (c .before .before .line13 .given .1) (c .past-empty2 .ensures _ _ i)
+returns-18 c = λ w. simp (c .before .before .line13 .given .1) (c .past-empty2 .ensures _ _ _)
 
 returns-19 : tie.Need-returns-19
 unfolding lineStep
-returns-19 c = λ w i. simp (c .before .before .line14 .given .1, c .steal-first .ensures)
+returns-19 c = λ w. simp (c .before .before .line14 .given .1, c .steal-first .ensures)
 
 returns-20 : tie.Need-returns-20
 unfolding lineStep
-returns-20 c = λ w i. simp (c .before .before .before .before .line15 .given .1, c .before .before .stolen-word .ensures, c .before .with-word2 .ensures, c .steal-on .ensures)
+returns-20 c = λ w. simp (c .before .before .before .before .line15 .given .1, c .before .before .stolen-word .ensures, c .before .with-word2 .ensures, c .steal-on .ensures)
 
 returns-21 : tie.Need-returns-21
 unfolding lineStep
-returns-21 c = λ w i. simp (c .before .before .line16 .given .1, c .next-head .ensures)
+returns-21 c = λ w. simp (c .before .before .line16 .given .1, c .next-head .ensures)
 
 returns-22 : tie.Need-returns-22
 unfolding lineStep
-returns-22 c = λ w i. simp (c .before .before .line17 .given .1) (c .past-compare .ensures _ _ i _ _ refl)
+returns-22 c = λ w. simp (c .before .before .line17 .given .1) (c .past-compare .ensures _ _ _)
 
 pub next-line-spec : {M : Type 1} → statement M
 next-line-spec =

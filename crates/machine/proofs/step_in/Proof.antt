@@ -1,15 +1,17 @@
 use borrow.Author.Needs.{needs}
-use mathlib.Core.Path.{sym, ap, subst, _∙_}
+use mathlib.Core.Path.{_≡_, sym, ap, subst, _∙_}
 use Prim.Native.Nat.{ℕ}
 use native.Mathlib.Omega.{arith}
 use lib.ListN.{length}
 use borrow.Author.Tests.{le-ltb}
+use Rattle.model.specs.Lines.{lineStep}
 use Rattle.model.specs.World.{lineAt}
 use Rattle.model.proofs.Tests.{if-false}
-use Rattle.lines.specs.Actions.{storeBy}
+use Rattle.lines.specs.Actions.{storeBy, effectBy}
+use Rattle.machine.specs.declared.Made.the-variants as made
 use Rattle.machine.specs.Steps.{benchOf, benchAfter, answerAfter, movedBy, actedBy, logAfter, Fits}
-use Rattle.machine.proofs.Moves.{fits, writable}
-use Rattle.machine.proofs.Stepping.{same-moved, idle-worker, line-done}
+use Rattle.machine.proofs.Moves.{few-bits, fits, writable}
+use Rattle.machine.proofs.Stepping.{same-moved, idle-worker, line-done, line-links}
 use Rattle.machine.proofs.step_in.Statement.{statement}
 use Rattle.machine.proofs.step_in.Tie as tie
 
@@ -33,40 +35,64 @@ returns-2 c =
     )
 
 next-line-requires : tie.Need-next-line-requires
-next-line-requires c κs =
-    let start = c .before .before .before .before .before .before in
-    (start .pre .ground, start .pre .ready (c .before .before .before .if1 .left))
+next-line-requires c κs = let start = c .before .before .before .before .before .before in (start .pre .ground, start .pre .ready (c .before .before .before .if1 .left))
 
-decide-requires : tie.Need-decide-requires
-decide-requires c κs =
-    let start = c .before .before .before .before .before .before .before .before in
-    (start .pre .narrow, (start .pre .ground, start .pre .ready (c .before .before .before .before .before .if1 .left)))
-
-act-requires : tie.Need-act-requires
-act-requires c κs =
-    let start = c .before .before .before .before .before .before .before .before .before .before .before in
-    (start .pre .ground .wide, writable (start .args .words) (start .args .queue) (length (start .args .store .now)) _ (c .before .before .decide .ensures .1 .0))
+links-requires : tie.Need-links-requires
+links-requires c κs = search needs
 
 same-length : tie.Need-same-length
 same-length c = search needs
 
-same-length-2 : tie.Need-same-length-2
-same-length-2 c = search needs
-
+-- line 1 of a steal links
 returns-3 : tie.Need-returns-3
+unfolding Fits
 returns-3 c =
-    let at-act = c .before .before .before .before in
-    let at-decide = at-act .before .before .before in
-    let at-next-line = at-decide .before .before in
-    let at-idle = at-next-line .before .before .before in
-    let start = at-idle .before .before .before .before in
+    let start = c .before .before .before .before .before .before .before .before .before in
     let a = start .args in
     let m = a .store .now in
     let l = a .log .now in
-    let x = at-next-line .next-line .result in
+    let x = c .before .before .next-line .result in
+    let h = c .before .before .before .before .before .before .if1 .left in (
+      tt,
+      λ u n k ws at e.
+          let b = benchOf (a .kind) (a .width) (a .words) (a .crew) (a .queue) (a .written) u n ws in
+          let is = at (omega (arith, h, start .pre .crew)) in
+          ap (λ (j : ℕ). movedBy b j x made.Links m l) is
+          ∙ line-links b (a .worker) (a .line) m l (ap (lineAt ws) (sym is) ∙ e) h (start .pre .held h) x (c .before .before .next-line .ensures)
+          (sym (c .before .links .ensures) ∙ c .if3 .taken),
+    )
+
+tag-bits-requires : tie.Need-tag-bits-requires
+tag-bits-requires c κs = search needs
+
+decide-requires : tie.Need-decide-requires
+decide-requires c κs =
+    let start = c .before .before .before .before .before .before .before .before .before .before .before in
+    (few-bits (start .args .queue .linked) (start .args .width) (c .before .tag-bits .ensures) (start .pre .narrow), (start .pre .ground, start .pre .ready (c .before .before .before .before .before .before .before .before .if1 .left)))
+
+act-requires : tie.Need-act-requires
+act-requires c κs =
+    let start = c .before .before .before .before .before .before .before .before .before .before .before .before .before .before in
+    (start .pre .ground .wide, writable (start .args .words) (start .args .queue) (length (start .args .store .now)) _ (c .before .before .decide .ensures .1 .0))
+
+same-length-2 : tie.Need-same-length-2
+same-length-2 c = search needs
+
+same-length-3 : tie.Need-same-length-3
+same-length-3 c = search needs
+
+returns-4 : tie.Need-returns-4
+returns-4 c =
+    let at-act = c .before .before .before .before in
+    let at-decide = c .before .before .before .before .before .before .before in
+    let start = c .before .before .before .before .before .before .before .before .before .before .before .before .before .before .before .before .before .before .before in
+    let a = start .args in
+    let m = a .store .now in
+    let l = a .log .now in
+    let x = c .before .before .before .before .before .before .before .before .before .before .before .before .next-line .result in
     let d = at-decide .decide .result in
     let safe = at-decide .decide .ensures .1 .0 in
-    let h = at-idle .before .if1 .left in
+    let h = c .before .before .before .before .before .before .before .before .before .before .before .before .before .before .before .before .if1 .left in
     let made = at-act .act .ensures .0 in (
       subst (Fits (a .words) (a .queue) (a .written)) (sym made) (fits (a .words) (a .queue) (a .written) (length m) l d (start .pre .ground .listed) safe),
       λ u n k ws at e.
@@ -74,9 +100,10 @@ returns-3 c =
           let is = at (omega (arith, h, start .pre .crew)) in
           same-moved b k x made (at-act .act .ensures .1 .0) (at-act .act .ensures .1 .1)
           ∙ ap (λ (j : ℕ). movedBy b j x (actedBy (a .words) (a .written) l d) (storeBy (a .words) m d) (logAfter (a .words) (a .written) l d)) is
-          ∙ line-done b (a .worker) (a .line) m l (ap (lineAt ws) (sym is) ∙ e) h x d
-          (sym (at-idle .is-idle .ensures) ∙ at-next-line .before .before .if2 .left) safe (at-next-line .next-line .ensures)
-          (at-decide .decide .ensures .0) (at-decide .decide .ensures .1 .1),
+          ∙ line-done b (a .worker) (a .line) m l (ap (lineAt ws) (sym is) ∙ e) h (start .pre .held h) x (c .before .before .before .before .before .before .before .before .before .before .before .before .next-line .ensures) d
+          (sym (c .before .before .before .before .before .before .before .before .before .before .before .before .before .before .before .is-idle .ensures) ∙ c .before .before .before .before .before .before .before .before .before .before .before .before .before .before .if2 .left) (sym (c .before .before .before .before .before .before .before .before .before .before .before .links .ensures) ∙ c .before .before .before .before .before .before .before .before .before .before .if3 .left) safe
+          (subst (λ (w : ℕ). effectBy (a .words) (a .queue) m (lineStep (a .kind) w (a .words) (a .queue) m (a .worker) (a .line) .line) d ≡ lineStep (a .kind) w (a .words) (a .queue) m (a .worker) (a .line)) (c .before .before .before .before .before .before .before .before .before .tag-bits .ensures) (at-decide .decide .ensures .0))
+          (at-decide .decide .ensures .1 .1),
     )
 
 pub step-in-spec : {M : Type 1} → statement M
@@ -87,8 +114,12 @@ step-in-spec =
     is-idle-requires
     returns-2
     next-line-requires
+    links-requires
+    same-length
+    returns-3
+    tag-bits-requires
     decide-requires
     act-requires
-    same-length
     same-length-2
-    returns-3)
+    same-length-3
+    returns-4)

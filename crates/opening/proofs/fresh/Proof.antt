@@ -1,9 +1,10 @@
 use Rattle.state.proofs.Long.{most-words}
 use borrow.Author.Tests.{le-leb, lt-leb, leb-true}
 use native.Mathlib.Omega.{arith}
+use mathlib.Core.Bool.{Bool}
 use mathlib.Core.Path.{refl, sym, ap, _∙_}
 use borrow.Author.Needs.{needs}
-use Rattle.model.specs.Calls.{blank, freshOf}
+use Rattle.model.specs.Calls.{kindOf, blank, freshOf}
 use Rattle.model.specs.declared.Kind.{Kind}
 use Rattle.model.specs.declared.Bench.{Bench}
 use Rattle.model.specs.declared.Answer.the-variants.{Accepted}
@@ -90,22 +91,27 @@ zero-requires c κs = search needs
 kind-of-requires : tie.Need-kind-of-requires
 kind-of-requires c κs = search needs
 
+linked-of-requires : tie.Need-linked-of-requires
+linked-of-requires c κs = search needs
+
 made-requires : tie.Need-made-requires
-made-requires c κs = (size-in _ (passed (c .before .before .before .before .before .before .before .before .before .before .before .is-size .ensures) (c .before .before .before .before .before .before .before .before .before .before .if3 .left)), leb-true _ _ (and-right _ _ (passed (c .before .before .before .before .before .before .before .words-ok .ensures) (c .before .before .before .before .before .before .if5 .left))))
+made-requires c κs = (size-in _ (passed (c .before .before .before .before .before .before .before .before .before .before .before .before .is-size .ensures) (c .before .before .before .before .before .before .before .before .before .before .before .if3 .left)), leb-true _ _ (and-right _ _ (passed (c .before .before .before .before .before .before .before .before .words-ok .ensures) (c .before .before .before .before .before .before .before .if5 .left))))
 
 same-length : tie.Need-same-length
 same-length c = search needs
 
 returns-7 : tie.Need-returns-7
 unfolding freshOf
-returns-7 c = let start = c .before .before .before .before .before .before .before .before .before .before .before .before .before .before .before .before .before .before in
+returns-7 c = let start = c .before .before .before .before .before .before .before .before .before .before .before .before .before .before .before .before .before .before .before in
     λ l.
     same-returned
     (ap (λ (b : Bench). record { bench = b; answer = Accepted })
-    (c .made .ensures ∙ ap (λ (κ : Kind). blank κ (start .args .setup .width) (start .args .setup .size) (start .args .setup .crew) (start .args .setup .words)) (c .before .kind-of .ensures)))
-    (c .before .before .before .before .zero .ensures)
+    (c .made .ensures
+    ∙ ap (λ (κ : Kind). blank κ (c .before .linked-of .result) (start .args .setup .width) (start .args .setup .size) (start .args .setup .crew) (start .args .setup .words)) (c .before .before .kind-of .ensures)
+    ∙ ap (λ (x : Bool). blank (kindOf (start .args .setup .kind)) x (start .args .setup .width) (start .args .setup .size) (start .args .setup .crew) (start .args .setup .words)) (c .before .linked-of .ensures)))
+    (c .before .before .before .before .before .zero .ensures)
     refl
-    ∙ sym (if-true _ (passed (c .before .before .before .before .before .before .before .before .before .before .before .before .before .before .before .before .kind-ok .ensures) (c .before .before .before .before .before .before .before .before .before .before .before .before .before .before .before .if1 .left)) ∙ if-true _ (passed (c .before .before .before .before .before .before .before .before .before .before .before .before .before .before .width-ok .ensures) (c .before .before .before .before .before .before .before .before .before .before .before .before .before .if2 .left)) ∙ if-true _ (passed (c .before .before .before .before .before .before .before .before .before .before .before .before .is-size .ensures) (c .before .before .before .before .before .before .before .before .before .before .before .if3 .left)) ∙ if-true _ (passed (c .before .before .before .before .before .before .before .before .before .before .crew-ok .ensures) (c .before .before .before .before .before .before .before .before .before .if4 .left)) ∙ if-true _ (passed (c .before .before .before .before .before .before .before .before .words-ok .ensures) (c .before .before .before .before .before .before .before .if5 .left)) ∙ if-true _ (le-leb _ _ (c .before .before .before .before .before .before .if6 .left)))
+    ∙ sym (if-true _ (passed (c .before .before .before .before .before .before .before .before .before .before .before .before .before .before .before .before .before .kind-ok .ensures) (c .before .before .before .before .before .before .before .before .before .before .before .before .before .before .before .before .if1 .left)) ∙ if-true _ (passed (c .before .before .before .before .before .before .before .before .before .before .before .before .before .before .before .width-ok .ensures) (c .before .before .before .before .before .before .before .before .before .before .before .before .before .before .if2 .left)) ∙ if-true _ (passed (c .before .before .before .before .before .before .before .before .before .before .before .before .before .is-size .ensures) (c .before .before .before .before .before .before .before .before .before .before .before .before .if3 .left)) ∙ if-true _ (passed (c .before .before .before .before .before .before .before .before .before .before .before .crew-ok .ensures) (c .before .before .before .before .before .before .before .before .before .before .if4 .left)) ∙ if-true _ (passed (c .before .before .before .before .before .before .before .before .before .words-ok .ensures) (c .before .before .before .before .before .before .before .before .if5 .left)) ∙ if-true _ (le-leb _ _ (c .before .before .before .before .before .before .before .if6 .left)))
 
 pub fresh-spec : {M : Type 1} → statement M
 fresh-spec =
@@ -134,6 +140,7 @@ fresh-spec =
     returns-6
     zero-requires
     kind-of-requires
+    linked-of-requires
     made-requires
     same-length
     returns-7)

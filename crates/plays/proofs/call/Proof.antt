@@ -1,7 +1,7 @@
 use mathlib.Core.Path.{_∙_, sym, ap}
 use borrow.Author.Needs.{needs}
 use Rattle.model.specs.Calls.{callOf}
-use Rattle.plays.proofs.Said.{says-put, says-take, says-steal, says-step}
+use Rattle.plays.proofs.Said.{says-put, says-take, says-steal, says-drop, says-step}
 use Rattle.plays.proofs.call.Statement.{statement}
 use Rattle.plays.proofs.call.Tie as tie
 
@@ -41,8 +41,8 @@ same-length-6 c = search needs
 returns-3 : tie.Need-returns-3
 returns-3 c = c .begin3 .ensures ∙ sym (ap (callOf _) (says-steal _ _ _ (c .before .before .before .before .before .if1 .left) (c .before .before .before .before .if2 .left) (c .before .before .before .if3 .taken)))
 
-step-requires : tie.Need-step-requires
-step-requires c κs = search needs
+drop-link-requires : tie.Need-drop-link-requires
+drop-link-requires c κs = search needs
 
 same-length-7 : tie.Need-same-length-7
 same-length-7 c = search needs
@@ -51,7 +51,19 @@ same-length-8 : tie.Need-same-length-8
 same-length-8 c = search needs
 
 returns-4 : tie.Need-returns-4
-returns-4 c = c .before .before .before .before .step .ensures ∙ sym (ap (callOf _) (says-step _ _ _ (c .before .before .before .before .before .before .before .before .before .if1 .left) (c .before .before .before .before .before .before .before .before .if2 .left) (c .before .before .before .before .before .before .before .if3 .left)))
+returns-4 c = c .drop-link .ensures ∙ sym (ap (callOf _) (says-drop _ _ _ (c .before .before .before .before .before .before .if1 .left) (c .before .before .before .before .before .if2 .left) (c .before .before .before .before .if3 .left) (c .before .before .before .if4 .taken)))
+
+step-requires : tie.Need-step-requires
+step-requires c κs = search needs
+
+same-length-9 : tie.Need-same-length-9
+same-length-9 c = search needs
+
+same-length-10 : tie.Need-same-length-10
+same-length-10 c = search needs
+
+returns-5 : tie.Need-returns-5
+returns-5 c = c .before .before .before .before .step .ensures ∙ sym (ap (callOf _) (says-step _ _ _ (c .before .before .before .before .before .before .before .before .before .before .if1 .left) (c .before .before .before .before .before .before .before .before .before .if2 .left) (c .before .before .before .before .before .before .before .before .if3 .left) (c .before .before .before .before .before .before .before .if4 .left)))
 
 pub call-spec : {M : Type 1} → statement M
 call-spec =
@@ -69,7 +81,11 @@ call-spec =
     same-length-5
     same-length-6
     returns-3
-    step-requires
+    drop-link-requires
     same-length-7
     same-length-8
-    returns-4)
+    returns-4
+    step-requires
+    same-length-9
+    same-length-10
+    returns-5)

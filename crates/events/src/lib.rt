@@ -1,0 +1,32 @@
+// What happens to a bench beside begins and steps: a thief's link fails for no reason.
+// Uses `model`, `limits` and `state`. It is used by `queues`.
+ghost use mathlib.Core.Path.{_≡_};
+ghost use Rattle.model.specs.Calls.{lent, dropLinkOf};
+ghost use Rattle.state.specs.Outcomes.{returned};
+use model::Answer;
+use model::Bench;
+use model::Refusal;
+use state::Returned;
+
+// Worker `worker`'s link fails: refusals 12, 6 and 17.
+pub fn drop_link(bench: Bench, worker: u32, store: &[u32], log: &[u32]) -> Returned
+    ensures { λ r. ⌜ returned r (now (store .entry)) (now (log .entry)) ≡ dropLinkOf (lent bench (now (store .entry)) (now (log .entry))) worker ⌝ }
+{
+    if !limits::valid(bench, store, log) {
+        return state::refused(bench, Refusal::ForeignState);
+    }
+    if bench.crew <= worker {
+        return state::refused(bench, Refusal::NoSuchWorker);
+    }
+    let i = worker as usize;
+    let queue = bench.queue;
+    if !queue.links[i] {
+        return state::refused(bench, Refusal::NoLink);
+    }
+    let mut next = bench;
+    next.queue = state::with_link(queue, i, false);
+    Returned {
+        bench: next,
+        answer: Answer::Accepted,
+    }
+}
