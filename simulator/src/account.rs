@@ -85,10 +85,11 @@ impl Account {
         self.words_left -= self.entry;
     }
 
-    /// The six counts of `T`, given the tasks in the window and the restarts.
-    pub fn totals(&self, window: impl Iterator<Item = Task>, restarts: u32) -> [u32; 6] {
+    /// The six counts of `T`, given the tasks in the window and the restarts of
+    /// all workers.
+    pub fn totals(&self, window: impl Iterator<Item = Task>, restarts: u64) -> [u64; 6] {
         let mut standing = vec![false; self.puts.len()];
-        let mut tasks = 0;
+        let mut tasks = 0u64;
         for task in window {
             tasks += 1;
             let place = task.number() as usize;
@@ -99,8 +100,10 @@ impl Account {
         let lost = self.puts.iter().zip(&standing).filter(|(put, &standing)| {
             put.finished && !put.task_seen && !standing
         });
-        let lost = lost.count() as u32;
-        [self.finished, self.hand_outs, self.different, restarts, tasks, lost]
+        let lost = lost.count() as u64;
+        let [finished, hand_outs, different] =
+            [self.finished, self.hand_outs, self.different].map(u64::from);
+        [finished, hand_outs, different, restarts, tasks, lost]
     }
 }
 

@@ -1,6 +1,6 @@
 //! The bench: one of the three machines and a crew, and the calls fresh, begin,
-//! step and drop_link with their refusals in order. Store and log are lent to it; the log
-//! is kept by whoever steps.
+//! step, drop_link and who with their refusals in order. Store and log are lent to it;
+//! the log is kept by whoever steps.
 
 use crate::double_ended::DoubleEnded;
 use crate::fifo::Fifo;
@@ -53,7 +53,8 @@ pub struct Bench {
     queue: Queue,
     crew: u32,
     numbers_used: u32,
-    restarts: u32,
+    /// By worker number.
+    restarts: [u32; 8],
 }
 
 impl Bench {
@@ -87,7 +88,7 @@ impl Bench {
             4 => Queue::Lifo(Lifo::new(Guard::links(), store)),
             _ => Queue::DoubleEnded(DoubleEnded::new(Guard::links(), store)),
         };
-        Ok(Bench { queue, crew, numbers_used: 0, restarts: 0 })
+        Ok(Bench { queue, crew, numbers_used: 0, restarts: [0; 8] })
     }
 
     /// Begins an operation; a put answers its number.
@@ -129,7 +130,8 @@ impl Bench {
         let outcome =
             with_queue!(&mut self.queue, machine => machine.step(worker as usize, room, witness));
         if outcome == Outcome::Restarted {
-            self.restarts = self.restarts.saturating_add(1);
+            let count = &mut self.restarts[worker as usize];
+            *count = count.saturating_add(1);
         }
         outcome
     }
@@ -146,12 +148,26 @@ impl Bench {
         }
     }
 
+    /// How often `worker` was beaten.
+    pub fn who(&self, worker: u32) -> Result<u32, u32> {
+        if worker >= self.crew {
+            return Err(refusal::NO_SUCH_WORKER);
+        }
+        Ok(self.restarts[worker as usize])
+    }
+
     pub fn numbers_used(&self) -> u32 {
         self.numbers_used
     }
 
-    pub fn restarts(&self) -> u32 {
-        self.restarts
+    /// Failed compares by worker number.
+    pub fn restarts(&self) -> &[u32; 8] {
+        &self.restarts
+    }
+
+    /// Their sum, which can be more than a word holds.
+    pub fn all_restarts(&self) -> u64 {
+        self.restarts.iter().map(|&count| u64::from(count)).sum()
     }
 
     /// Head, count and tag; of FIFO head, tail and 0; of LIFO 0, t and g.
@@ -415,30 +431,74 @@ mod tests {
         }
     }
 
+    fn steps(bench: &mut Bench, worker: u32, count: u32) {
+        for _ in 0..count {
+            bench.step(worker, true, &mut Blind);
+        }
+    }
+
     #[test]
     fn a_restart_is_a_failed_compare_and_the_count_stays_at_its_ceiling() {
         let mut bench = Bench::fresh(LIFO, &mut vec![0; 6]).unwrap();
-        let steps = |bench: &mut Bench, worker, count| {
-            for _ in 0..count {
-                bench.step(worker, true, &mut Blind);
-            }
-        };
         bench.begin(0, PUT).unwrap();
         steps(&mut bench, 0, 5);
         bench.begin(0, PUT).unwrap();
         steps(&mut bench, 0, 11); // the array grows on the way
-        assert_eq!(bench.restarts(), 0, "X4 goes back to line 1 and is no restart");
+        assert_eq!(bench.all_restarts(), 0, "X4 goes back to line 1 and is no restart");
         bench.begin(1, Operation::Steal).unwrap();
         steps(&mut bench, 1, 5);
         bench.begin(0, Operation::Take).unwrap();
         steps(&mut bench, 0, 5);
         steps(&mut bench, 1, 1);
-        assert_eq!(bench.restarts(), 1);
-        bench.restarts = u32::MAX;
+        assert_eq!(*bench.restarts(), [0, 1, 0, 0, 0, 0, 0, 0]);
+        bench.restarts[1] = u32::MAX;
         steps(&mut bench, 1, 5);
         bench.begin(0, Operation::Take).unwrap();
         steps(&mut bench, 0, 5);
         assert_eq!(bench.step(1, true, &mut Blind), Outcome::Restarted);
-        assert_eq!(bench.restarts(), u32::MAX);
+        assert_eq!(*bench.restarts(), [0, u32::MAX, 0, 0, 0, 0, 0, 0]);
+        assert_eq!(bench.who(1), Ok(u32::MAX));
+    }
+
+    #[test]
+    fn one_count_at_its_ceiling_does_not_hold_the_others() {
+        for kind in 1..=5 {
+            let mut bench = Bench::fresh(Shape { kind, crew: 8, ..LIFO }, &mut vec![0; 2]).unwrap();
+            bench.begin(0, PUT).unwrap();
+            steps(&mut bench, 0, if kind == 2 { 6 } else { 5 });
+            for thief in 1..8 {
+                bench.begin(thief, Operation::Steal).unwrap();
+                while bench.place(thief) != Some(Place::Last) {
+                    steps(&mut bench, thief, 1);
+                }
+            }
+            bench.restarts = [u32::MAX; 8];
+            bench.restarts[5] -= 1;
+            bench.restarts[7] = 0;
+            steps(&mut bench, 3, 1);
+            assert_eq!(bench.all_restarts(), 6 * u64::from(u32::MAX) + u64::from(u32::MAX - 1));
+            for thief in [1, 2, 4, 5, 6, 7] {
+                assert_eq!(bench.step(thief, true, &mut Blind), Outcome::Restarted);
+            }
+            let mut counts = [u32::MAX; 8];
+            counts[7] = 1;
+            assert_eq!(*bench.restarts(), counts, "kind {kind}");
+            bench.restarts[7] = u32::MAX;
+            assert_eq!(bench.all_restarts(), 34_359_738_360);
+        }
+    }
+
+    #[test]
+    fn who_refuses_6_and_is_each_workers_own() {
+        for crew in 1..=8 {
+            let mut bench = Bench::fresh(Shape { crew, ..LIFO }, &mut vec![0; 2]).unwrap();
+            bench.restarts = [10, 11, 12, 13, 14, 15, 16, 17];
+            for worker in 0..crew {
+                assert_eq!(bench.who(worker), Ok(10 + worker));
+            }
+            for worker in [crew, 8, 256, 1 << 31, u32::MAX] {
+                assert_eq!(bench.who(worker), Err(6));
+            }
+        }
     }
 }

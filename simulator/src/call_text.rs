@@ -22,6 +22,7 @@ pub enum Call {
     Step { worker: u32, count: u32 },
     /// The event: the worker's link fails.
     Drop { worker: u32 },
+    Who { worker: u32 },
     Front,
     State,
 }
@@ -59,6 +60,7 @@ pub fn parse(line: &[u8]) -> Option<Line> {
         }
         [b"step", worker, count] => Call::Step { worker: number(worker)?, count: number(count)? },
         [b"drop", worker] => Call::Drop { worker: number(worker)? },
+        [b"who", worker] => Call::Who { worker: number(worker)? },
         [b"front"] => Call::Front,
         [b"state"] => Call::State,
         _ => return None,
@@ -92,6 +94,7 @@ mod tests {
         assert_eq!(parse(b"begin 7 steal"), begin(7, Operation::Steal));
         assert_eq!(parse(b"step 0 0"), Some(Line::Call(Call::Step { worker: 0, count: 0 })));
         assert_eq!(parse(b"drop 7"), Some(Line::Call(Call::Drop { worker: 7 })));
+        assert_eq!(parse(b"who 7"), Some(Line::Call(Call::Who { worker: 7 })));
         assert_eq!(parse(b"front"), Some(Line::Call(Call::Front)));
         assert_eq!(parse(b"state"), Some(Line::Call(Call::State)));
     }
@@ -106,6 +109,7 @@ mod tests {
             "begin 4294967295 steal",
             "step 4294967295 4294967295",
             "drop 4294967295",
+            "who 4294967295",
         ] {
             assert!(parse(line.as_bytes()).is_some(), "{line}");
             for at in line.match_indices("4294967295").map(|(at, _)| at) {
@@ -131,8 +135,9 @@ mod tests {
             "begin 0 take 1", "begin 1 steal 1", "begin 0 commit", "step 0", "step 0 1 1",
             "step 0 -1", "step +0 1", "step 0 x", "step  0 1", " step 0 1", "step 0 1 ",
             "step\t0 1", "step 0 1\r", "STEP 0 1", "drop", "drop ", "drop x", "drop 01", "drop 1 1", "drops 1", "Drop 1",
-            "begin 1 drop", "front 0", "fronts", "state 0", "states",
-            "put 1", "take", "steal 1", "queue 1 1 1 1 2", "end", "unlink 1", "who 0", "drain",
+            "begin 1 drop", "who", "who ", "who x", "who 01", "who 1 1", "who 1 ", "whom 1", "Who 1", "begin 1 who",
+            "front 0", "fronts", "state 0", "states",
+            "put 1", "take", "steal 1", "queue 1 1 1 1 2", "end", "unlink 1", "drain",
             "ask 0", "unask 0", "make 1 1 1 1",
         ] {
             assert_eq!(parse(line.as_bytes()), None, "{line:?}");

@@ -37,7 +37,10 @@ impl<W: Witness> Calls<W> {
     pub fn line(&mut self, line: &[u8], out: &mut impl Write) -> io::Result<bool> {
         match (call_text::parse(line), &mut self.lent) {
             (Some(Line::Memory { store, log }), None) => self.lent = Some(Lent::new(store, log)),
-            (Some(Line::Call(call)), Some(lent)) => lent.play(call, &mut self.witness, out)?,
+            (Some(Line::Call(call)), Some(lent)) => {
+                lent.play(call, &mut self.witness, out)?;
+                lent.show(&mut self.witness);
+            }
             // The lent memory comes first and once.
             _ => return Ok(false),
         }
@@ -96,6 +99,13 @@ impl Lent {
         self.payload_words as usize + 3
     }
 
+    /// Shows the witness what is shared.
+    fn show<W: Witness>(&self, witness: &mut W) {
+        if let Some(bench) = &self.bench {
+            witness.shared(bench.anchor(), bench.restarts());
+        }
+    }
+
     fn play<W: Witness>(&mut self, call: Call, witness: &mut W, out: &mut impl Write) -> io::Result<()> {
         match call {
             Call::Fresh(shape) => answer(self.fresh(shape, witness), out),
@@ -111,6 +121,10 @@ impl Lent {
                 }
                 Ok(())
             }
+            Call::Who { worker } => match self.who(worker, witness) {
+                Ok(count) => say(out, b'W', &[worker, count]),
+                Err(number) => say(out, b'R', &[number]),
+            },
             // Without a bench there is no front, and this call never refuses.
             Call::Front if self.bench.is_none() => say(out, b'L', &[]),
             Call::Front => say(out, b'L', &self.log[..self.written]),
@@ -151,7 +165,16 @@ impl Lent {
     fn drop_link<W: Witness>(&mut self, worker: u32, witness: &mut W) -> Result<(), u32> {
         let bench = self.bench.as_mut().ok_or(refusal::FOREIGN_STATE)?;
         witness.call();
-        bench.drop_link(worker)
+        bench.drop_link(worker)?;
+        witness.dropped(worker as usize);
+        Ok(())
+    }
+
+    fn who<W: Witness>(&self, worker: u32, witness: &mut W) -> Result<u32, u32> {
+        let bench = self.bench.as_ref().ok_or(refusal::FOREIGN_STATE)?;
+        let count = bench.who(worker)?;
+        witness.who(worker as usize, count);
+        Ok(count)
     }
 
     fn step<W: Witness>(&mut self, worker: u32, witness: &mut W, out: &mut impl Write) -> io::Result<()> {
@@ -161,6 +184,7 @@ impl Lent {
         };
         witness.call();
         let outcome = bench.step(worker, room, witness);
+        witness.shared(bench.anchor(), bench.restarts());
         witness.answered(worker, outcome);
         if witness.wants_window() {
             witness.window(&mut bench.window());
@@ -201,7 +225,7 @@ impl Lent {
 
     /// What is shared: the anchor; how many arrays are published and how many
     /// claimed; each claimed one; put numbers used; words of the log written;
-    /// restarts; and the store.
+    /// each worker's restarts, all eight; and the store.
     fn state(&self, bench: &Bench) -> Vec<u32> {
         let store = bench.store();
         let mut values = bench.anchor().to_vec();
@@ -209,7 +233,8 @@ impl Lent {
         for &array in store.arrays() {
             values.extend([array.offset, store.length(array)]);
         }
-        values.extend([bench.numbers_used(), self.written as u32, bench.restarts()]);
+        values.extend([bench.numbers_used(), self.written as u32]);
+        values.extend(bench.restarts());
         values.extend(store.words());
         values
     }
@@ -249,8 +274,8 @@ mod tests {
     #[test]
     fn without_a_bench_every_call_is_answered_12_and_the_front_is_empty() {
         let calls = "begin 0 put 1, begin 0 take, begin 1 steal, begin 9 steal, step 0 2, step 7 0, drop 0, drop 9, \
-                     state, front";
-        let answered = "R 12, R 12, R 12, R 12, R 12, R 12, R 12, R 12, R 12, L";
+                     who 0, who 9, state, front";
+        let answered = "R 12, R 12, R 12, R 12, R 12, R 12, R 12, R 12, R 12, R 12, R 12, L";
         assert_eq!(answers(&format!("memory 2 4, {calls}")), answered);
         // Nor is there one after a refused fresh, whatever was before.
         assert_eq!(
@@ -270,23 +295,27 @@ mod tests {
             "A, N 1, G, G, G, G, D 1, A, G, G, G, G, G, A, G, G, G, G, H 0 1 65, N 2, G, G, G, G, D 2, \
              A, G, G, G, G, H 0 2 66, N 3, G, G, G, G, D 3, H 1 1 65, \
              L 1 0 1 65 2 0 1 65 1 0 2 66 2 0 2 66 1 0 3 67 2 1 1 65, \
-             S 0 0 1 1 1 0 4 3 24 0 3 67 0 0 3000000004 3000000005 3000000006 3000000007 \
+             S 0 0 1 1 1 0 4 3 24 0 0 0 0 0 0 0 0 3 67 0 0 3000000004 3000000005 3000000006 3000000007 \
              3000000008 3000000009 3000000010 3000000011"
         );
     }
 
     #[test]
     fn fresh_zeroes_the_first_2c_words_and_touches_no_other() {
-        assert_eq!(answers("memory 3 0, fresh 3 1 1 1 1, state"), "A, S 0 0 0 1 1 0 2 0 0 0 0 0 3000000002");
+        assert_eq!(
+            answers("memory 3 0, fresh 3 1 1 1 1, state"),
+            "A, S 0 0 0 1 1 0 2 0 0 0 0 0 0 0 0 0 0 0 0 3000000002"
+        );
         // The one after it finds the words as they were left.
         assert_eq!(
             answers("memory 4 9, fresh 2 1 2 1 1, begin 0 put 8, step 0 6, state, fresh 1 1 1 1 1, state, front"),
-            "A, N 1, G, G, G, G, G, D 1, S 0 1 0 1 1 0 4 1 4 0 1 8 0 0, A, S 0 0 0 1 1 0 2 0 0 0 0 0 0 0, L"
+            "A, N 1, G, G, G, G, G, D 1, S 0 1 0 1 1 0 4 1 4 0 0 0 0 0 0 0 0 1 8 0 0, A, \
+             S 0 0 0 1 1 0 2 0 0 0 0 0 0 0 0 0 0 0 0 0 0, L"
         );
         assert_eq!(
             answers("memory 4 9, fresh 2 1 2 1 1, begin 0 put 8, step 0 6, fresh 2 1 0 1 1, fresh 1 1 1 1 1, \
                      begin 0 put 9, step 0 4, state"),
-            "A, N 1, G, G, G, G, G, D 1, R 3, A, N 1, G, G, G, G, S 0 0 0 1 1 0 2 1 0 0 1 9 0 0"
+            "A, N 1, G, G, G, G, G, D 1, R 3, A, N 1, G, G, G, G, S 0 0 0 1 1 0 2 1 0 0 0 0 0 0 0 0 0 1 9 0 0"
         );
     }
 
@@ -299,10 +328,10 @@ mod tests {
                 "memory 7 8, fresh 1 2 1 1 1, begin 0 put 5, step 0 5, begin 0 put 6, step 0 3, state, \
                  step 0 2, state, step 0 1, state, step 0 5, state"
             ),
-            "A, N 1, G, G, G, G, D 1, N 2, G, G, G, S 0 1 1 1 2 0 2 2 4 2 4 0 1 5 0 0 0 0 3000000006, \
-             G, G, S 0 1 1 1 2 0 2 2 4 2 4 0 1 5 1 5 0 0 3000000006, \
-             G, S 0 1 1 2 2 0 2 2 4 2 4 0 1 5 1 5 0 0 3000000006, \
-             G, G, G, G, D 2, S 0 2 2 2 2 0 2 2 4 2 8 0 1 5 1 5 2 6 3000000006"
+            "A, N 1, G, G, G, G, D 1, N 2, G, G, G, S 0 1 1 1 2 0 2 2 4 2 4 0 0 0 0 0 0 0 0 1 5 0 0 0 0 3000000006, \
+             G, G, S 0 1 1 1 2 0 2 2 4 2 4 0 0 0 0 0 0 0 0 1 5 1 5 0 0 3000000006, \
+             G, S 0 1 1 2 2 0 2 2 4 2 4 0 0 0 0 0 0 0 0 1 5 1 5 0 0 3000000006, \
+             G, G, G, G, D 2, S 0 2 2 2 2 0 2 2 4 2 8 0 0 0 0 0 0 0 0 1 5 1 5 2 6 3000000006"
         );
     }
 
@@ -351,7 +380,7 @@ mod tests {
                 )),
                 format!(
                     "A, N 1, {goes_on}D 1, A, {goes_on}H 0 1 {shown}, N 2, {goes_on}D 2, \
-                     S 0 1 0 1 1 0 {} 2 {} 0 2 11{}{}",
+                     S 0 1 0 1 1 0 {} 2 {} 0 0 0 0 0 0 0 0 2 11{}{}",
                     payload_words + 1,
                     3 * (payload_words + 3),
                     " 0".repeat(payload_words - 1),
@@ -369,9 +398,10 @@ mod tests {
                 "memory 7 12, fresh 2 1 1 1 1, begin 0 put 8, step 0 6, front, fresh 2 1 1 1 4, front, state, \
                  begin 0 put 1 2 3 4, step 0 9, front, fresh 2 1 1 1 0, fresh 2 1 2 1 4, fresh 2 1 2 1 2, state"
             ),
-            "A, N 1, G, G, G, G, G, D 1, L 1 0 1 8, A, L, S 0 0 0 1 1 0 5 0 0 0 0 0 0 0 0 3000000005 3000000006, \
+            "A, N 1, G, G, G, G, G, D 1, L 1 0 1 8, A, L, \
+             S 0 0 0 1 1 0 5 0 0 0 0 0 0 0 0 0 0 0 0 0 0 0 3000000005 3000000006, \
              N 1, G, G, G, G, G, G, G, G, D 1, L 1 0 1 1 2 3 4, R 16, R 5, A, \
-             S 0 0 0 1 1 0 6 0 0 0 0 0 0 0 0 0 3000000006"
+             S 0 0 0 1 1 0 6 0 0 0 0 0 0 0 0 0 0 0 0 0 0 0 0 3000000006"
         );
     }
 
@@ -383,7 +413,7 @@ mod tests {
                  begin 0 take, step 0 6, step 1 1, state, begin 0 put 0, step 0 6"
             ),
             "A, N 1, G, G, G, G, G, D 1, A, G, G, G, G, G, G, A, G, G, G, G, G, H 0 1 4294967295, \
-             G, S 1 1 0 1 1 0 2 1 8 1 1 4294967295, N 2, G, G, G, G, G, D 2"
+             G, S 1 1 0 1 1 0 2 1 8 0 1 0 0 0 0 0 0 1 4294967295, N 2, G, G, G, G, G, D 2"
         );
     }
 
@@ -395,9 +425,29 @@ mod tests {
                  drop 1, step 1 5, drop 1, drop 1, step 1 1, drop 1, state, step 1 6, drop 1, state"
             ),
             "R 12, A, R 17, R 6, R 17, N 1, G, G, G, G, D 1, A, \
-             R 17, G, G, G, G, G, A, R 17, G, R 17, S 0 1 0 1 1 0 2 1 4 1 1 7, G, G, G, G, G, H 1 1 7, R 17, \
-             S 0 0 0 1 1 0 2 1 8 1 1 7"
+             R 17, G, G, G, G, G, A, R 17, G, R 17, S 0 1 0 1 1 0 2 1 4 0 1 0 0 0 0 0 0 1 7, \
+             G, G, G, G, G, H 1 1 7, R 17, S 0 0 0 1 1 0 2 1 8 0 1 0 0 0 0 0 0 1 7"
         );
+    }
+
+    #[test]
+    fn who_and_state_tell_the_workers_apart() {
+        // Thieves 1 and 3 are beaten once and twice, thief 2 wins.
+        for kind in [1, 4] {
+            assert_eq!(
+                answers(&format!(
+                    "memory 2 16, who 1, fresh {kind} 1 1 4 1, begin 0 put 7, step 0 5, begin 3 steal, step 3 5, \
+                     begin 0 take, step 0 5, step 3 1, begin 0 put 7, who 3, who 4, step 0 5, step 3 5, begin 1 steal, \
+                     step 1 5, begin 2 steal, step 2 6, step 3 1, step 1 1, who 0, who 1, who 2, who 3, who 4, state"
+                ))
+                .split(", ")
+                .filter(|answer| *answer != "G")
+                .collect::<Vec<_>>()
+                .join(", "),
+                "R 12, A, N 1, D 1, A, A, H 0 1 7, N 2, W 3 1, R 6, D 2, A, A, H 2 2 7, W 0 0, W 1 1, W 2 0, W 3 2, \
+                 R 6, S 0 0 0 1 1 0 2 2 16 0 1 0 2 0 0 0 0 2 7"
+            );
+        }
     }
 
     #[test]

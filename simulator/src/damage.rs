@@ -27,6 +27,7 @@ fn valid(random: &mut Random) -> Vec<u8> {
                 random.below(10_236)
             )
         }
+        5 if random.chance(30) => format!("who {}", random.below(9)),
         // The library's alone.
         5 if random.chance(20) => format!("drop {}", random.below(9)),
         _ => format!("step {} {}", random.below(8), random.below(7)),
@@ -141,14 +142,19 @@ mod tests {
     fn most_are_damaged_none_holds_a_newline_and_none_ends() {
         let mut random = Random::new(5);
         let mut damaged = 0;
+        let mut of_who = 0;
         for _ in 0..10_000 {
             let line = line(&mut random);
             assert!(!line.contains(&b'\n'));
             match text::parse(&line) {
-                None => damaged += 1,
+                None => {
+                    damaged += 1;
+                    of_who += u32::from(line.starts_with(b"who"));
+                }
                 command => assert_ne!(command, Some(text::Command::End)),
             }
         }
         assert!((8_000..9_999).contains(&damaged), "{damaged}");
+        assert!(of_who > 200, "{of_who}");
     }
 }

@@ -331,7 +331,8 @@ pub fn emptied_before_x2(script: &mut Script) {
     script.finish(0);
 }
 
-/// Every thief stands before its compare; one wins, the others start again.
+/// Every thief stands before its compare; one wins, the others start again. Now
+/// and then it is asked who was beaten.
 pub fn race(script: &mut Script) {
     for _ in 0..script.random.between(1, 3) {
         whole_put(script);
@@ -346,7 +347,13 @@ pub fn race(script: &mut Script) {
         if let Some(thief) = script.thief() {
             let count = script.random.between(1, 8);
             script.step(thief, count);
+            if script.random.chance(20) {
+                script.who(thief);
+            }
         }
+    }
+    if script.random.chance(15) {
+        script.all_counts();
     }
 }
 
@@ -456,7 +463,8 @@ pub fn refusals(script: &mut Script) {
             0 => script.steal(0),
             1 => script.steal(beyond),
             2 => script.say(&format!("step {beyond} 1")),
-            3 => script.say(&format!("step {beyond} 0")),
+            3 if script.random.chance(50) => script.say(&format!("step {beyond} 0")),
+            3 => script.who(beyond),
             4 => script.put(),
             5 if script.random.chance(50) => script.put_of_other_length(),
             5 => script.take(),

@@ -11,13 +11,16 @@
 //! - [`guard`]: tags, and the links of kinds 4 and 5;
 //! - [`task`]: a task's words; [`store`]: the lent words and the directory of
 //!   arrays;
-//! - [`bench`]: fresh, begin, step and drop_link, the refusals and their order;
+//! - [`bench`]: fresh, begin, step, drop_link and who, the refusals and their
+//!   order;
 //! - [`account`]: the log's room and the six counts of `T`;
 //! - [`text`]: what a line of the input says; [`input`]: where it ends;
 //!   [`listing`]: a line of output;
 //! - [`play`]: the program's rules;
 //! - [`call_text`], [`calls`]: lists of library calls;
-//! - [`witness`], [`demand3`]: demand 3, checked from the history of the calls;
+//! - [`witness`]: who watches a run; [`demand3`], [`restarts`]: demand 3 and the
+//!   restarts of each worker, checked from the history of the calls; [`checks`]:
+//!   both;
 //! - [`log_judge`]: the judgement of a matcher's own log, [`log_cases`]: logs to
 //!   judge, by seed;
 //! - [`random`], [`script`], [`episodes`], [`damage`]: long random runs by seed.
@@ -26,6 +29,7 @@ pub mod account;
 pub mod bench;
 pub mod call_text;
 pub mod calls;
+pub mod checks;
 pub mod damage;
 pub mod demand3;
 pub mod double_ended;
@@ -40,6 +44,7 @@ pub mod log_judge;
 pub mod outcome;
 pub mod play;
 pub mod random;
+pub mod restarts;
 pub mod script;
 pub mod store;
 pub mod task;

@@ -3,14 +3,14 @@
 use crate::task::MOST_PAYLOAD;
 
 /// Puts a line behind `listing`: a letter and its values in base ten, each with
-/// one space before it.
-pub fn print(listing: &mut Vec<u8>, letter: u8, values: &[u32]) {
+/// one space before it. The sum of the restarts is more than a word can hold.
+pub fn print<Value: Copy + Into<u64>>(listing: &mut Vec<u8>, letter: u8, values: &[Value]) {
     listing.push(letter);
     for &value in values {
         listing.push(b' ');
-        let mut digits = [0; 10];
+        let mut digits = [0; 20];
         let mut first = digits.len();
-        let mut rest = value;
+        let mut rest: u64 = value.into();
         loop {
             first -= 1;
             digits[first] = b'0' + (rest % 10) as u8;
@@ -39,9 +39,10 @@ mod tests {
     #[test]
     fn values_in_base_ten_parted_by_one_space() {
         let mut listing = b"D 1\n".to_vec();
-        print(&mut listing, b'L', &[]);
+        print::<u32>(&mut listing, b'L', &[]);
         print(&mut listing, b'H', &[0, 10, u32::MAX]);
-        assert_eq!(listing, b"D 1\nL\nH 0 10 4294967295\n");
+        print(&mut listing, b'T', &[0, 34_359_738_360, u64::MAX]);
+        assert_eq!(listing, b"D 1\nL\nH 0 10 4294967295\nT 0 34359738360 18446744073709551615\n");
     }
 
     #[test]

@@ -1,13 +1,13 @@
 //! Plays the bench's input and prints its listing.
 //!
-//!     simulator [--demand3] < input > listing
+//!     simulator [--check] < input > listing
 //!
-//! With `--demand3` the run is also checked by demand 3, and the finding is said
-//! on standard error.
+//! With `--check` the run is also checked by demand 3, and the restarts of each
+//! worker are counted from its history; what was found is said on standard error.
 //!
 //! Exit status: 0; 1 if the input can't be read or the listing can't be
-//! written; 2 if demand 3 was violated while its premise held; 64 for a flag it
-//! does not know.
+//! written; 2 if demand 3 was violated while its premise held or a restart was
+//! miscounted; 64 for a flag it does not know.
 
 // The usual start would quietly put the null device in the place of a closed
 // standard stream, and a listing written there would be lost without a word.
@@ -18,7 +18,7 @@ use std::io::{self, Write};
 use std::mem::ManuallyDrop;
 use std::os::fd::FromRawFd;
 
-use simulator::demand3::Demand3;
+use simulator::checks::Checks;
 use simulator::input::{for_each_line, Trouble};
 use simulator::play::Player;
 use simulator::witness::{Blind, Witness};
@@ -39,9 +39,9 @@ pub extern "C" fn main(_count: i32, _values: *const *const u8) -> i32 {
     let mut flags = std::env::args_os().skip(1);
     match (flags.next(), flags.next()) {
         (None, _) => plain(),
-        (Some(flag), None) if flag == "--demand3" => checked(),
+        (Some(flag), None) if flag == "--check" => checked(),
         _ => {
-            say("usage: simulator [--demand3] < input > listing");
+            say("usage: simulator [--check] < input > listing");
             64
         }
     }
@@ -55,13 +55,13 @@ fn plain() -> i32 {
 }
 
 fn checked() -> i32 {
-    let mut player = Player::new(Demand3::new());
+    let mut player = Player::new(Checks::new());
     if let Err(trouble) = play(&mut player) {
         return told(trouble);
     }
-    let finding = player.witness().finding();
-    say(&finding.to_string());
-    if finding.is_violation() {
+    let checks = player.witness();
+    say(&checks.to_string());
+    if checks.failed() {
         2
     } else {
         0

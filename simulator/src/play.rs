@@ -63,6 +63,7 @@ impl<W: Witness> Player<W> {
             Some(Command::Take) => self.begin(0, Operation::Take),
             Some(Command::Steal { worker }) => self.begin(worker, Operation::Steal),
             Some(Command::Step { worker, count }) => self.steps(worker, count, listing),
+            Some(Command::Who { worker }) => self.who(worker, listing),
             Some(Command::End) => {
                 self.totals(listing);
                 return false;
@@ -70,6 +71,9 @@ impl<W: Witness> Player<W> {
         };
         if let Err(number) = answer {
             print(listing, b'R', &[number]);
+        }
+        if let Some(Game { bench, .. }) = &self.game {
+            self.witness.shared(bench.anchor(), bench.restarts());
         }
         true
     }
@@ -113,6 +117,7 @@ impl<W: Witness> Player<W> {
         for _ in 0..count {
             witness.call();
             let outcome = bench.step(worker, account.room(), witness);
+            witness.shared(bench.anchor(), bench.restarts());
             match outcome {
                 Outcome::GoesOn => continue,
                 Outcome::Restarted | Outcome::Published => {}
@@ -142,9 +147,19 @@ impl<W: Witness> Player<W> {
         Ok(())
     }
 
+    fn who(&mut self, worker: u32, listing: &mut Vec<u8>) -> Result<(), u32> {
+        let game = self.game.as_ref().ok_or(refusal::BAD_LINE)?;
+        let count = game.bench.who(worker)?;
+        self.witness.who(worker as usize, count);
+        print(listing, b'W', &[worker, count]);
+        Ok(())
+    }
+
     fn totals(&mut self, listing: &mut Vec<u8>) {
         if let Some(Game { bench, account, .. }) = &self.game {
-            print(listing, b'T', &account.totals(bench.window(), bench.restarts()));
+            let restarts = bench.all_restarts();
+            self.witness.total(restarts);
+            print(listing, b'T', &account.totals(bench.window(), restarts));
         }
     }
 }
@@ -297,8 +312,8 @@ mod tests {
 
     #[test]
     fn lines_out_of_place() {
-        assert_eq!(listing("put 1, take, steal 1, step 0 0, end, queue 1 1 1 1 2, end"),
-            "R 13, R 13, R 13, R 13, R 13, T 0 0 0 0 0 0");
+        assert_eq!(listing("put 1, take, steal 1, step 0 0, who 0, who 9, end, queue 1 1 1 1 2, end"),
+            "R 13, R 13, R 13, R 13, R 13, R 13, R 13, T 0 0 0 0 0 0");
         assert_eq!(listing("queue 1 1 1 1 2, queue 1 1 1 1 2, queue 9 9 9 9 9, queue"), "R 13, R 13, R 13");
     }
 
@@ -308,6 +323,25 @@ mod tests {
             "R 6, R 9, R 7, R 7, R 7, R 9");
         assert_eq!(listing("queue 1 1 1 2 2, step 2 1, step 1 1, step 2 0, step 0 5"), "R 6, R 8, R 8");
         assert_eq!(listing("queue 1 1 1 2 2, put 9, step 0 65535"), "D 1, R 8");
+    }
+
+    #[test]
+    fn who_shows_each_workers_own_count_and_the_totals_their_sum() {
+        // Three thieves before their compare, and one task.
+        for (kind, put, reads) in [(1, 5, 5), (2, 6, 6), (3, 5, 6), (4, 5, 5), (5, 5, 6)] {
+            let steals: String = (1..4).map(|thief| format!("steal {thief}, step {thief} {reads}, ")).collect();
+            assert_eq!(
+                listing(&format!(
+                    "queue {kind} 1 1 4 2, who 0, who 4, put 8, step 0 {put}, {steals}who 1, step 2 1, who 2, \
+                     step 1 1, who 1, step 3 1, who 3, who 1, who 0, who 5, who 4294967295, end"
+                )),
+                "W 0 0, R 6, D 1, W 1 0, H 2 1 8, W 2 0, W 1 1, W 3 1, W 1 1, W 0 0, R 6, R 6, T 1 1 1 2 0 0"
+            );
+        }
+        assert_eq!(
+            listing("queue 1 1 1 1 2, who, who 0 0, who 01, who 4294967296, who 0"),
+            "R 13, R 13, R 13, R 13, W 0 0"
+        );
     }
 
     #[test]

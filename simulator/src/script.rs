@@ -15,11 +15,13 @@ enum Form {
     Calls(Calls<Blind>),
 }
 
-/// How many lines of a hundred have a `state` and a `front` behind them.
+/// How many lines of a hundred have a `state`, a `front` and a `who` behind them.
+/// Of these the program has a line for `who` alone.
 #[derive(Clone, Copy, Default)]
 pub struct Looks {
     pub state: u32,
     pub front: u32,
+    pub who: u32,
 }
 
 pub struct Script {
@@ -197,6 +199,17 @@ impl Script {
         self.say(&format!("drop {worker}"));
     }
 
+    pub fn who(&mut self, worker: u32) {
+        self.say(&format!("who {worker}"));
+    }
+
+    /// How often each of the crew was beaten.
+    pub fn all_counts(&mut self) {
+        for worker in 0..self.shape.crew {
+            self.who(worker);
+        }
+    }
+
     /// Whether links can fail here: the program has no line for it.
     pub fn has_event(&self) -> bool {
         matches!(self.form, Form::Calls(_))
@@ -284,6 +297,11 @@ impl Script {
         }
         if self.looks.front > 0 && self.random.chance(self.looks.front) {
             self.text.extend_from_slice(b"front\n");
+        }
+        if self.looks.who > 0 && self.random.chance(self.looks.who) {
+            // Of the crew, or just not.
+            let worker = self.random.below(self.shape.crew + 1);
+            self.text.extend_from_slice(format!("who {worker}\n").as_bytes());
         }
     }
 

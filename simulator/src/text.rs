@@ -17,6 +17,7 @@ pub enum Command {
     Take,
     Steal { worker: u32 },
     Step { worker: u32, count: u32 },
+    Who { worker: u32 },
     End,
 }
 
@@ -35,6 +36,10 @@ pub fn parse(line: &[u8]) -> Option<Command> {
     if let Some(rest) = line.strip_prefix(b"steal ") {
         let (worker, rest) = value(rest)?;
         return rest.is_empty().then_some(Command::Steal { worker });
+    }
+    if let Some(rest) = line.strip_prefix(b"who ") {
+        let (worker, rest) = value(rest)?;
+        return rest.is_empty().then_some(Command::Who { worker });
     }
     if let Some(rest) = line.strip_prefix(b"queue ") {
         let (kind, rest) = value(rest)?;
@@ -115,6 +120,8 @@ mod tests {
         assert_eq!(parse(b"take"), Some(Command::Take));
         assert_eq!(parse(b"steal 7"), Some(Command::Steal { worker: 7 }));
         assert_eq!(parse(b"step 0 65535"), Some(Command::Step { worker: 0, count: 65_535 }));
+        assert_eq!(parse(b"who 0"), Some(Command::Who { worker: 0 }));
+        assert_eq!(parse(b"who 7"), Some(Command::Who { worker: 7 }));
         assert_eq!(parse(b"end"), Some(Command::End));
     }
 
@@ -135,6 +142,7 @@ mod tests {
         );
         assert_eq!(parse(b"steal 4294967295"), Some(Command::Steal { worker: u32::MAX }));
         assert!(parse(b"step 4294967295 0").is_some());
+        assert_eq!(parse(b"who 4294967295"), Some(Command::Who { worker: u32::MAX }));
     }
 
     #[test]
@@ -159,6 +167,9 @@ mod tests {
             "step 4294967296 0",
             "step 0 65536",
             "step 0 4294967296",
+            "who 4294967296",
+            "who 10000000000",
+            "who 18446744073709551617",
         ] {
             assert_eq!(parse(line.as_bytes()), None, "{line}");
         }
@@ -178,6 +189,9 @@ mod tests {
             "queue 1 1 1 1 2 1 ", "queue 1 1 1 1 2 1 1", "queue 1 1 1 1 2  1", "queue 1 1 1 1 2 01",
             "queue 1 1 1 1 2 00", "queue 1 1 1 1 2 +1", "queue 1 1 1 1 2 -1", "queue 1 1 1 1 2 x",
             "queue 1 1 1 1 2 1x", "queue 1 1 1 1 2\t1", "queue 1 1 1 01 2", "queue 1  1 1 1 2", "queue,1,1,1,1,2",
+            "who", "who ", "who  1", " who 1", "who 1 ", "who 1 1", "who 1 2 3", "who 01", "who 00", "who +1",
+            "who -1", "who -0", "who x", "who 1x", "who\t1", "who 1\r", "who 1\0", "Who 1", "WHO 1", "wh 1",
+            "whom 1", "who1", "who,1", "W 1 0",
             "# put 1",
         ] {
             assert_eq!(parse(line.as_bytes()), None, "{line:?}");

@@ -1,6 +1,6 @@
 //! Who watches a run. The machines tell a witness of the two lines demand 3
-//! speaks of, whoever plays the calls tells it of everything a call answered.
-//! `Blind` hears nothing and costs nothing.
+//! speaks of, whoever plays the calls tells it of everything a call answered and
+//! of what is shared then. `Blind` hears nothing and costs nothing.
 
 use crate::bench::Shape;
 use crate::outcome::Outcome;
@@ -20,6 +20,8 @@ pub trait Witness {
     fn handed_out(&mut self, _worker: usize, _task: Task) {}
     fn empty(&mut self, _worker: usize) {}
     fn full(&mut self, _number: u32) {}
+    /// A drop of a link was accepted.
+    fn dropped(&mut self, _worker: usize) {}
     /// X4: the window is now seen in another array.
     fn published(&mut self) {}
     /// What a step answered.
@@ -39,6 +41,13 @@ pub trait Witness {
     }
     /// Each task in the window.
     fn window(&mut self, _tasks: &mut dyn Iterator<Item = Task>) {}
+    /// A call was made, refused or not: the anchor, and the restarts by worker
+    /// number, as it left them.
+    fn shared(&mut self, _anchor: [u32; 3], _restarts: &[u32; 8]) {}
+    /// `who` answered a worker's count.
+    fn who(&mut self, _worker: usize, _count: u32) {}
+    /// `T` shows this sum of the restarts.
+    fn total(&mut self, _restarts: u64) {}
 }
 
 pub struct Blind;

@@ -8,10 +8,13 @@ use model::Payload;
 use text::Value;
 
 // What a bench is asked for: to be made anew, a call made so many times (operation, worker and payload as `plays` has them), or to
-// show its log's front or what is shared.
+// show its log's front, what is shared or a worker's restarts.
 pub enum Request {
     Front,
     State,
+    Who {
+        worker: u32,
+    },
     Fresh {
         kind: u32,
         width: u32,
@@ -40,6 +43,7 @@ enum Key {
     Fresh,
     Step,
     Drop,
+    Who,
     Front,
     State,
 }
@@ -52,10 +56,10 @@ struct Values {
 
 const MANY: usize = 6;
 
-// The longest line of an answer: H and six numbers. A number with the space before it.
-pub const ANSWER: usize = 68;
+// The longest line of an answer: H and six numbers. A number with the space before it. Both have room for numbers of 64 bits.
+pub const ANSWER: usize = 128;
 
-pub const WORD: usize = 11;
+pub const WORD: usize = 21;
 
 // A longer line has no form.
 pub const LINE: usize = 64;
@@ -102,6 +106,9 @@ fn keyword(word: &[u8]) -> Key {
     }
     if text::same(word, b"drop") {
         return Key::Drop;
+    }
+    if text::same(word, b"who") {
+        return Key::Who;
     }
     if text::same(word, b"front") {
         return Key::Front;
@@ -208,6 +215,14 @@ fn form(key: Key, count: usize, v: [u32; 5]) -> ListLine {
                 },
             }
         }
+        Key::Who => {
+            if count != 1 {
+                return ListLine::Bad;
+            }
+            ListLine::Asks {
+                asked: Request::Who { worker: v[0] },
+            }
+        }
         Key::Front => {
             if count != 0 {
                 return ListLine::Bad;
@@ -300,34 +315,55 @@ pub fn parse(line: &[u8]) -> ListLine {
 }
 
 fn bare(out: &mut [u8], at: usize, letter: u8) -> usize
-    requires { ⌜ at + 68 ≤ length (now out) ⌝ }
-    ensures { λ r. ⌜ r ≤ at + 68 ⌝ }
+    requires { ⌜ at + 128 ≤ length (now out) ⌝ }
+    ensures { λ r. ⌜ r ≤ at + 128 ⌝ }
 {
     out[at] = letter;
     out[at + 1] = b'\n';
     at + 2
 }
 
+fn wide(n: u32) -> u64
+    ensures { λ r. ⌜ r ≡ n ⌝ }
+{
+    n as u64
+}
+
 // A letter and up to six numbers.
 fn print(out: &mut [u8], at: usize, letter: u8, v: &[u32]) -> usize
-    requires { ⌜ (at + 68 ≤ length (now out)) × (length (now v) ≤ 6) ⌝ }
-    ensures { λ r. ⌜ r ≤ at + 68 ⌝ }
+    requires { ⌜ (at + 128 ≤ length (now out)) × (length (now v) ≤ 6) ⌝ }
+    ensures { λ r. ⌜ r ≤ at + 128 ⌝ }
 {
-    text::print(out, at, letter, v)
+    let mut row = [0u64; 6];
+    let mut n = 0;
+    while n < v.len() {
+        row[n] = wide(v[n]);
+        n += 1;
+    }
+    text::print(out, at, letter, &row[..n])
 }
 
 fn one(out: &mut [u8], at: usize, letter: u8, n: u32) -> usize
-    requires { ⌜ at + 68 ≤ length (now out) ⌝ }
-    ensures { λ r. ⌜ r ≤ at + 68 ⌝ }
+    requires { ⌜ at + 128 ≤ length (now out) ⌝ }
+    ensures { λ r. ⌜ r ≤ at + 128 ⌝ }
 {
     let v = [n];
     print(out, at, letter, &v)
 }
 
+// Puts the line of a worker's restarts.
+pub fn show_restarts(out: &mut [u8], at: usize, worker: u32, restarts: u32) -> usize
+    requires { ⌜ at + 128 ≤ length (now out) ⌝ }
+    ensures { λ r. ⌜ r ≤ at + 128 ⌝ }
+{
+    let v = [worker, restarts];
+    print(out, at, b'W', &v)
+}
+
 // An answer that ends no operation.
 fn show_other(out: &mut [u8], at: usize, which: u32, number: u32) -> usize
-    requires { ⌜ at + 68 ≤ length (now out) ⌝ }
-    ensures { λ r. ⌜ r ≤ at + 68 ⌝ }
+    requires { ⌜ at + 128 ≤ length (now out) ⌝ }
+    ensures { λ r. ⌜ r ≤ at + 128 ⌝ }
 {
     match which {
         0 => bare(out, at, b'G'),
@@ -339,8 +375,8 @@ fn show_other(out: &mut [u8], at: usize, which: u32, number: u32) -> usize
 
 // A hand-out: the worker, the number, and the payload's words, of which there are `words`.
 fn show_out(out: &mut [u8], at: usize, words: u32, answer: &[u32]) -> usize
-    requires { ⌜ (at + 68 ≤ length (now out)) × (length (now answer) ≡ 7) ⌝ }
-    ensures { λ r. ⌜ r ≤ at + 68 ⌝ }
+    requires { ⌜ (at + 128 ≤ length (now out)) × (length (now answer) ≡ 7) ⌝ }
+    ensures { λ r. ⌜ r ≤ at + 128 ⌝ }
 {
     if words < 4 {
         let end = 3 + words as usize;
@@ -352,8 +388,8 @@ fn show_out(out: &mut [u8], at: usize, words: u32, answer: &[u32]) -> usize
 // Puts the line of an answer's words (a log entry's, with four of a payload) into the output from `at` on, and answers where it ends. Of a
 // payload it shows `words`.
 pub fn show(out: &mut [u8], at: usize, words: u32, answer: &[u32]) -> usize
-    requires { ⌜ (at + 68 ≤ length (now out)) × (length (now answer) ≡ 7) ⌝ }
-    ensures { λ r. ⌜ r ≤ at + 68 ⌝ }
+    requires { ⌜ (at + 128 ≤ length (now out)) × (length (now answer) ≡ 7) ⌝ }
+    ensures { λ r. ⌜ r ≤ at + 128 ⌝ }
 {
     let worker = answer[1];
     let number = answer[2];
@@ -368,9 +404,9 @@ pub fn show(out: &mut [u8], at: usize, words: u32, answer: &[u32]) -> usize
 
 // A number with a space before it, for a line of many.
 pub fn show_word(out: &mut [u8], at: usize, n: u32) -> usize
-    requires { ⌜ at + 11 ≤ length (now out) ⌝ }
-    ensures { λ r. ⌜ r ≤ at + 11 ⌝ }
+    requires { ⌜ at + 21 ≤ length (now out) ⌝ }
+    ensures { λ r. ⌜ r ≤ at + 21 ⌝ }
 {
     out[at] = b' ';
-    text::decimal(out, at + 1, n)
+    text::decimal(out, at + 1, n as u64)
 }

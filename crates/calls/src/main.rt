@@ -122,7 +122,7 @@ fn make_some(
     text: Text,
     out: &mut [u8],
 ) -> After
-    requires { ⌜ (text .end ≤ length (now out)) × (68 ≤ length (now out)) ⌝ }
+    requires { ⌜ (text .end ≤ length (now out)) × (128 ≤ length (now out)) ⌝ }
     ensures { λ r. ⌜ r .text .end ≤ length (now (out .exit)) ⌝ }
 {
     let mut answers = [0u32; 224];
@@ -147,7 +147,7 @@ fn make_calls(
     text: Text,
     out: &mut [u8],
 ) -> After
-    requires { ⌜ (text .end ≤ length (now out)) × (68 ≤ length (now out)) ⌝ }
+    requires { ⌜ (text .end ≤ length (now out)) × (128 ≤ length (now out)) ⌝ }
     requires { ⌜ 192 ≤ length (now calls) ⌝ }
     ensures { λ r. ⌜ r .text .end ≤ length (now (out .exit)) ⌝ }
 {
@@ -175,12 +175,17 @@ fn ask(
     text: Text,
     out: &mut [u8],
 ) -> After
-    requires { ⌜ (text .end ≤ length (now out)) × (68 ≤ length (now out)) ⌝ }
+    requires { ⌜ (text .end ≤ length (now out)) × (128 ≤ length (now out)) ⌝ }
     ensures { λ r. ⌜ r .text .end ≤ length (now (out .exit)) ⌝ }
 {
     match asked {
         Request::Front => {
             let shown = output::show_front(text, bench, log, out);
+            After { bench, text: shown }
+        }
+        Request::Who { worker } => {
+            let tally = bench.who(worker, store, log);
+            let shown = output::show_tally(text, worker, tally, out);
             After { bench, text: shown }
         }
         Request::State => {
@@ -260,7 +265,7 @@ fn play_line(
     text: Text,
     out: &mut [u8],
 ) -> Turn
-    requires { ⌜ (text .end ≤ length (now out)) × (68 ≤ length (now out)) ⌝ }
+    requires { ⌜ (text .end ≤ length (now out)) × (128 ≤ length (now out)) ⌝ }
     ensures { λ r. ⌜ r .text .end ≤ length (now (out .exit)) ⌝ }
 {
     match line {
@@ -317,7 +322,7 @@ fn play_line(
 
 // Plays the lines that end in the buffer. A line without an end that is longer than any of the form has none.
 fn play_lines(game: Game, buf: &[u8], store: &mut [u32], log: &mut [u32], out: &mut [u8]) -> Lines
-    requires { ⌜ 68 ≤ length (now out) ⌝ }
+    requires { ⌜ 128 ≤ length (now out) ⌝ }
     ensures { λ r. ⌜ (r .text .end ≤ length (now (out .exit))) × (r .used ≤ length (now (buf .entry))) ⌝ }
 {
     let mut current = game;
@@ -379,7 +384,7 @@ fn play_some(
     log: &mut [u32],
     out: &mut [u8],
 ) -> Next
-    requires { ⌜ (have < length (now buf)) × (68 ≤ length (now out)) ⌝ }
+    requires { ⌜ (have < length (now buf)) × (128 ≤ length (now out)) ⌝ }
     ensures { λ r. ⌜ r .have ≤ 64 ⌝ }
 {
     let input = read_more(buf, have);
@@ -403,7 +408,7 @@ fn play_some(
 }
 
 fn run(buf: &mut [u8], store: &mut [u32], log: &mut [u32], out: &mut [u8])
-    requires { ⌜ (64 < length (now buf)) × (68 ≤ length (now out)) ⌝ }
+    requires { ⌜ (64 < length (now buf)) × (128 ≤ length (now out)) ⌝ }
 {
     // a refused fresh: no bench
     let nothing = model::Setup {

@@ -4,6 +4,7 @@ ghost use Prim.Native.Nat.{_+_, _≤_};
 ghost use lib.ListN.{length};
 use libc::STDERR_FILENO;
 use libc::STDOUT_FILENO;
+use model::Tally;
 use queues::Bench;
 
 // Where the text ends that waits in the output, and whether every write so far could be made.
@@ -43,7 +44,7 @@ fn room(text: Text, need: usize, out: &[u8]) -> Text
 }
 
 fn show_byte(text: Text, byte: u8, out: &mut [u8]) -> Text
-    requires { ⌜ (text .end ≤ length (now out)) × (68 ≤ length (now out)) ⌝ }
+    requires { ⌜ (text .end ≤ length (now out)) × (128 ≤ length (now out)) ⌝ }
     ensures { λ r. ⌜ r .end ≤ length (now (out .exit)) ⌝ }
 {
     let free = room(text, 1, out);
@@ -57,7 +58,7 @@ fn show_byte(text: Text, byte: u8, out: &mut [u8]) -> Text
 
 // The line of an answer's words, of a bench with so many payload words.
 fn show_answer(text: Text, words: u32, answer: &[u32], out: &mut [u8]) -> Text
-    requires { ⌜ (text .end ≤ length (now out)) × (68 ≤ length (now out)) ⌝ }
+    requires { ⌜ (text .end ≤ length (now out)) × (128 ≤ length (now out)) ⌝ }
     requires { ⌜ length (now answer) ≡ 7 ⌝ }
     ensures { λ r. ⌜ r .end ≤ length (now (out .exit)) ⌝ }
 {
@@ -71,7 +72,7 @@ fn show_answer(text: Text, words: u32, answer: &[u32], out: &mut [u8]) -> Text
 
 // The lines of answers.
 pub fn show_answers(text: Text, words: u32, answers: &[u32], out: &mut [u8]) -> Text
-    requires { ⌜ (text .end ≤ length (now out)) × (68 ≤ length (now out)) ⌝ }
+    requires { ⌜ (text .end ≤ length (now out)) × (128 ≤ length (now out)) ⌝ }
     ensures { λ r. ⌜ r .end ≤ length (now (out .exit)) ⌝ }
 {
     let mut shown = text;
@@ -86,7 +87,7 @@ pub fn show_answers(text: Text, words: u32, answers: &[u32], out: &mut [u8]) -> 
 
 // Numbers of a line of many.
 pub fn show_words(text: Text, words: &[u32], out: &mut [u8]) -> Text
-    requires { ⌜ (text .end ≤ length (now out)) × (68 ≤ length (now out)) ⌝ }
+    requires { ⌜ (text .end ≤ length (now out)) × (128 ≤ length (now out)) ⌝ }
     ensures { λ r. ⌜ r .end ≤ length (now (out .exit)) ⌝ }
 {
     let mut shown = text;
@@ -103,8 +104,29 @@ pub fn show_words(text: Text, words: &[u32], out: &mut [u8]) -> Text
     shown
 }
 
+// A worker's restarts, or why it is refused.
+pub fn show_tally(text: Text, worker: u32, tally: Tally, out: &mut [u8]) -> Text
+    requires { ⌜ (text .end ≤ length (now out)) × (128 ≤ length (now out)) ⌝ }
+    ensures { λ r. ⌜ r .end ≤ length (now (out .exit)) ⌝ }
+{
+    match tally {
+        Tally::Counted { restarts } => {
+            let free = room(text, call_text::ANSWER, out);
+            let end = call_text::show_restarts(out, free.end, worker, restarts);
+            Text {
+                end,
+                good: free.good,
+            }
+        }
+        Tally::Refused { why } => {
+            let refused = [0, 3, queues::number_of(why), 0, 0, 0, 0];
+            show_answer(text, 1, &refused, out)
+        }
+    }
+}
+
 pub fn show_front(text: Text, bench: Bench, log: &[u32], out: &mut [u8]) -> Text
-    requires { ⌜ (text .end ≤ length (now out)) × (68 ≤ length (now out)) ⌝ }
+    requires { ⌜ (text .end ≤ length (now out)) × (128 ≤ length (now out)) ⌝ }
     ensures { λ r. ⌜ r .end ≤ length (now (out .exit)) ⌝ }
 {
     let mut shown = show_byte(text, b'L', out);
@@ -114,7 +136,7 @@ pub fn show_front(text: Text, bench: Bench, log: &[u32], out: &mut [u8]) -> Text
 
 // The anchor, how many arrays are published and how many claimed, and offset and length of each of those.
 fn show_queue(text: Text, queue: model::Queue, out: &mut [u8]) -> Text
-    requires { ⌜ (text .end ≤ length (now out)) × (68 ≤ length (now out)) ⌝ }
+    requires { ⌜ (text .end ≤ length (now out)) × (128 ≤ length (now out)) ⌝ }
     ensures { λ r. ⌜ r .end ≤ length (now (out .exit)) ⌝ }
 {
     let anchor = queue.anchor;
@@ -137,19 +159,29 @@ fn show_queue(text: Text, queue: model::Queue, out: &mut [u8]) -> Text
     shown
 }
 
+// How many put numbers are used and words written, and each worker's restarts.
+fn show_counts(text: Text, used: u32, written: u32, restarts: [u32; 8], out: &mut [u8]) -> Text
+    requires { ⌜ (text .end ≤ length (now out)) × (128 ≤ length (now out)) ⌝ }
+    ensures { λ r. ⌜ r .end ≤ length (now (out .exit)) ⌝ }
+{
+    let first = [used, written];
+    let shown = show_words(text, &first, out);
+    show_words(shown, &restarts, out)
+}
+
 // What is shared, in the order that the form gives. A crew of 0 is no bench.
 pub fn show_state(text: Text, state: model::Bench, store: &[u32], out: &mut [u8]) -> Text
-    requires { ⌜ (text .end ≤ length (now out)) × (68 ≤ length (now out)) ⌝ }
+    requires { ⌜ (text .end ≤ length (now out)) × (128 ≤ length (now out)) ⌝ }
     ensures { λ r. ⌜ r .end ≤ length (now (out .exit)) ⌝ }
 {
     if state.crew == 0 {
         let foreign = [0, 3, 12, 0, 0, 0, 0];
         return show_answer(text, 1, &foreign, out);
     }
-    let counts = [state.used, state.written, state.restarts];
+    let restarts = state.restarts;
     let mut shown = show_byte(text, b'S', out);
     shown = show_queue(shown, state.queue, out);
-    shown = show_words(shown, &counts, out);
+    shown = show_counts(shown, state.used, state.written, restarts, out);
     shown = show_words(shown, store, out);
     show_byte(shown, b'\n', out)
 }

@@ -8,8 +8,8 @@ ghost use Rattle.model.specs.Tests.{_and_};
 ghost use Rattle.model.specs.Memory.{nowhere};
 ghost use Rattle.model.specs.Figures.{slot};
 ghost use Rattle.model.specs.Window.{tasks, windowIndex, windowSize};
-ghost use Rattle.model.specs.Calls.{lent};
-ghost use Rattle.model.specs.Counts.{someBelow, countBelow, standsAt, isLost, countsOf};
+ghost use Rattle.model.specs.Calls.{lent, restartsOf};
+ghost use Rattle.model.specs.Counts.{someBelow, countBelow, sumBelow, standsAt, isLost, countsOf};
 ghost use Rattle.counts.specs.Places.{Slot, windowTask, stands};
 ghost use Rattle.handouts.specs.Seen.{Seen};
 use model::Anchor;
@@ -208,6 +208,26 @@ fn lost_of(bench: Bench, store: &[u32], log: &[u32], seen: &[u32; 4096], n: u32)
     count
 }
 
+fn wide(n: u32) -> u64
+    ensures { λ r. ⌜ (r ≡ n) × (r ≤ 4294967295) ⌝ }
+{
+    n as u64
+}
+
+// The restarts of all eight workers.
+fn restarts_of(each: [u32; 8]) -> u64
+    ensures { λ r. ⌜ r ≡ sumBelow (restartsOf each) 8 ⌝ }
+{
+    let mut sum: u64 = 0;
+    let mut i = 0;
+    while i < 8 {
+        let n = wide(each[i]);
+        sum += n;
+        i += 1;
+    }
+    sum
+}
+
 pub fn counts(bench: Bench, store: &[u32], log: &[u32]) -> Counts
     ensures { λ r. ⌜ r ≡ countsOf (lent bench (now (store .entry)) (now (log .entry))) ⌝ }
 {
@@ -223,11 +243,13 @@ pub fn counts(bench: Bench, store: &[u32], log: &[u32]) -> Counts
     let kind = bench.kind;
     let window = window_size(kind, queue.anchor);
     let lost = lost_of(bench, store, log, &seen, n);
+    let failed = bench.restarts;
+    let restarts = restarts_of(failed);
     Counts {
         finished,
         handouts,
         different,
-        restarts: bench.restarts,
+        restarts,
         window,
         lost,
     }

@@ -1,11 +1,12 @@
-// What happens to a bench beside begins and steps: a thief's link fails for no reason.
-// Uses `model`, `limits` and `state`. It is used by `queues`.
+// What happens to a bench beside begins and steps: a thief's link fails for no reason, and a worker's restarts are asked for.
+// Uses `model`, `limits` and `state`. It is used by `queues` and `replies`.
 ghost use mathlib.Core.Path.{_≡_};
-ghost use Rattle.model.specs.Calls.{lent, dropLinkOf};
+ghost use Rattle.model.specs.Calls.{lent, dropLinkOf, whoOf};
 ghost use Rattle.state.specs.Outcomes.{returned};
 use model::Answer;
 use model::Bench;
 use model::Refusal;
+use model::Tally;
 use state::Returned;
 
 // Worker `worker`'s link fails: refusals 12, 6 and 17.
@@ -29,4 +30,23 @@ pub fn drop_link(bench: Bench, worker: u32, store: &[u32], log: &[u32]) -> Retur
         bench: next,
         answer: Answer::Accepted,
     }
+}
+
+// Worker `worker`'s restarts: refusals 12 and 6.
+pub fn tally(bench: Bench, worker: u32, store: &[u32], log: &[u32]) -> Tally
+    ensures { λ r. ⌜ r ≡ whoOf (lent bench (now (store .entry)) (now (log .entry))) worker ⌝ }
+{
+    if !limits::valid(bench, store, log) {
+        return Tally::Refused {
+            why: Refusal::ForeignState,
+        };
+    }
+    if bench.crew <= worker {
+        return Tally::Refused {
+            why: Refusal::NoSuchWorker,
+        };
+    }
+    let i = worker as usize;
+    let restarts = bench.restarts[i];
+    Tally::Counted { restarts }
 }

@@ -14,7 +14,7 @@ use Rattle.model.specs.Tasks.{wordIn, withWord, gathered}
 use Rattle.model.proofs.Runs.{one}
 use Rattle.model.specs.Lines.{lineStep}
 use Rattle.model.specs.Limits.{validOf}
-use Rattle.model.specs.Calls.{freshOf, setup, beginOf, stepOf, dropLinkOf, Call, begin, step, dropLink}
+use Rattle.model.specs.Calls.{freshOf, setup, beginOf, restartsOf, stepOf, dropLinkOf, Call, begin, step, dropLink}
 use Rattle.model.specs.Run.{played, after}
 use Rattle.model.specs.Counts.{someBelow, countBelow, countsOf}
 use Rattle.theorems.specs.Demand3.{At, Stands, puts, between, Demand3}
@@ -30,8 +30,9 @@ p1-deque = p1 ++ step 1 ∷ []
 abbrev lost : ℕ → List Call → ℕ
 lost k cs = countsOf (after (benchOf k) cs) .lost
 
+-- the thief's, worker 1's
 abbrev restarts : ℕ → List Call → ℕ
-restarts k cs = after (benchOf k) cs .bench .restarts
+restarts k cs = restartsOf (after (benchOf k) cs .bench .restarts) 1
 
 -- the same calls: with a tag the compare succeeds and put 3 is lost; linked, it fails and none is
 pub lifo-loses : (lost 1 p1 ≡ 1) × (restarts 1 p1 ≡ 0)

@@ -194,52 +194,6 @@ fn busy_ok(scope: Scope, worker: u32, own: Worker) -> bool
     )
 }
 
-// The eight workers, each by a number that is a constant: an index that varies would have all eight copied. Most are idle and
-// pass at once, and only the record of one that is not is copied.
-fn workers_ok(bench: Bench, bits: u32, first: u32, tasks: u32) -> bool
-    requires { ⌜ (bits ≤ 16) × (bench .words ≤ 4) ⌝ }
-    requires { ⌜ bench .queue .published ≤ 11 ⌝ }
-    requires { ⌜ Doubles (bench .words) (bench .queue) first ⌝ }
-    requires { ⌜ tasks ≡ size (bench .words) (bench .queue) ⌝ }
-    requires { ⌜ 0 < bench .crew ⌝ }
-    ensures { λ r. ⌜ r ≡ workersOk (bench .kind) bits (bench .words) (bench .queue) (bench .crew) (bench .workers) 8 ⌝ }
-{
-    let scope = Scope {
-        kind: bench.kind,
-        width: bits,
-        words: bench.words,
-        crew: bench.crew,
-        published: bench.queue.published,
-        first: first,
-        tasks: tasks,
-    };
-    if !rests(bench.workers[0]) && !busy_ok(scope, 0, bench.workers[0]) {
-        return false;
-    }
-    if !rests(bench.workers[1]) && !busy_ok(scope, 1, bench.workers[1]) {
-        return false;
-    }
-    if !rests(bench.workers[2]) && !busy_ok(scope, 2, bench.workers[2]) {
-        return false;
-    }
-    if !rests(bench.workers[3]) && !busy_ok(scope, 3, bench.workers[3]) {
-        return false;
-    }
-    if !rests(bench.workers[4]) && !busy_ok(scope, 4, bench.workers[4]) {
-        return false;
-    }
-    if !rests(bench.workers[5]) && !busy_ok(scope, 5, bench.workers[5]) {
-        return false;
-    }
-    if !rests(bench.workers[6]) && !busy_ok(scope, 6, bench.workers[6]) {
-        return false;
-    }
-    if !rests(bench.workers[7]) && !busy_ok(scope, 7, bench.workers[7]) {
-        return false;
-    }
-    true
-}
-
 // A link is held from line 1 of a linked queue's steal on, and only while the anchor is as it was read.
 fn link_ok(kind: Kind, linked: bool, anchor: Anchor, own: Worker) -> bool
     ensures { λ r. ⌜ ((q : Queue) → q .linked ≡ linked → q .anchor ≡ anchor → r ≡ linkOk kind q (own .line)) ⌝ }
@@ -255,21 +209,39 @@ fn link_ok(kind: Kind, linked: bool, anchor: Anchor, own: Worker) -> bool
     anchors::is_same(kind, anchor, read)
 }
 
-// The links that are held.
-fn links_ok(bench: Bench) -> bool
-    ensures { λ r. ⌜ r ≡ linksOk (bench .kind) (bench .queue) (bench .workers) 8 ⌝ }
+// The eight workers and their links, in one loop. Each worker by a number of its own, or the links in a loop of theirs, has the
+// records copied once more.
+fn workers_ok(bench: Bench, bits: u32, first: u32, tasks: u32) -> bool
+    requires { ⌜ (bits ≤ 16) × (bench .words ≤ 4) ⌝ }
+    requires { ⌜ bench .queue .published ≤ 11 ⌝ }
+    requires { ⌜ Doubles (bench .words) (bench .queue) first ⌝ }
+    requires { ⌜ tasks ≡ size (bench .words) (bench .queue) ⌝ }
+    requires { ⌜ 0 < bench .crew ⌝ }
+    ensures { λ r. ⌜ r ≡ (linksOk (bench .kind) (bench .queue) (bench .workers) 8 and workersOk (bench .kind) bits (bench .words) (bench .queue) (bench .crew) (bench .workers) 8) ⌝ }
 {
     let kind = bench.kind;
-    let queue = bench.queue;
-    let linked = queue.linked;
-    let anchor = queue.anchor;
-    let links = queue.links;
-    let mut k: usize = 0;
-    while k < 8 {
+    let linked = bench.queue.linked;
+    let anchor = bench.queue.anchor;
+    let links = bench.queue.links;
+    let scope = Scope {
+        kind: kind,
+        width: bits,
+        words: bench.words,
+        crew: bench.crew,
+        published: bench.queue.published,
+        first: first,
+        tasks: tasks,
+    };
+    let mut worker: u32 = 0;
+    while worker < 8 {
+        let k = worker as usize;
         if links[k] && !link_ok(kind, linked, anchor, bench.workers[k]) {
             return false;
         }
-        k += 1;
+        if !rests(bench.workers[k]) && !busy_ok(scope, worker, bench.workers[k]) {
+            return false;
+        }
+        worker += 1;
     }
     true
 }
@@ -292,9 +264,6 @@ fn contents_ok(bench: Bench) -> bool
         return false;
     }
     if !ranges::number_ok(bench.used) {
-        return false;
-    }
-    if !links_ok(bench) {
         return false;
     }
     workers_ok(bench, bits, queue.initial, tasks)

@@ -8,13 +8,13 @@ use lib.Dec.{eqb}
 use lib.ListN.{length, take, drop, length-append, length-drop}
 use lib.Seq.{sets-eq, take-at, length-take-le, drop-drop}
 use Rattle.model.specs.declared.Command.{Command}
-use Rattle.model.specs.declared.Command.the-variants.{Open, BeginPut, BeginTake, BeginSteal, Steps, End, Bad}
+use Rattle.model.specs.declared.Command.the-variants.{Open, BeginPut, BeginTake, BeginSteal, Steps, Who, End, Bad}
 use Rattle.model.specs.declared.Refusal.the-variants.{BadLine}
 use Rattle.model.specs.declared.Operation.{Operation}
 use Rattle.model.specs.declared.Operation.the-variants.{Put, Take, Steal}
 use Rattle.model.specs.declared.Answer.the-variants.{Refused}
 use Rattle.model.specs.World.{World}
-use Rattle.model.specs.Calls.{freshOf, setup, beginOf}
+use Rattle.model.specs.Calls.{freshOf, setup, beginOf, whoOf}
 use Rattle.model.specs.Counts.{countsOf}
 use Rattle.model.specs.Listing.{Program, waiting, playing, ended, Response, printedBy, respond, listingFrom}
 use Rattle.text.specs.Numbers.{Placed}
@@ -29,16 +29,16 @@ use Rattle.listing.specs.Listing as spec
 use Rattle.replies.specs.Sessions.{programOf, leftBy, AnsweredBy}
 use Rattle.listing.specs.Consuming.{ConsumedBy}
 use Rattle.listing.proofs.Lines.{first-line, front-take, front-fits, front-none}
-use Rattle.replies.proofs.Shows.{show-none, show-append, answer-most, totals-most}
+use Rattle.replies.proofs.Shows.{show-none, show-append, answer-most, tally-most, totals-most}
 use Rattle.listing.proofs.TwoLines.{steps-most}
 use Rattle.replies.proofs.Ways.{either, never}
 use Rattle.replies.proofs.Replies.{left-on}
 
--- A line's text has at most 136 bytes.
-begin-most : (W : World) (i : ℕ) (op : Operation) → length (shownAll (printedBy (beginOf W i op))) ≤ 136
+-- A line's text has at most 256 bytes.
+begin-most : (W : World) (i : ℕ) (op : Operation) → length (shownAll (printedBy (beginOf W i op))) ≤ 256
 begin-most W i op = omega (arith, answer-most (beginOf W i op .world .bench .words) (beginOf W i op .answer))
 
-pub respond-most : (P : Program) (c : Command) → length (shownAll (respond P c .output)) ≤ 136
+pub respond-most : (P : Program) (c : Command) → length (shownAll (respond P c .output)) ≤ 256
 unfolding respond
 respond-most (waiting m l) (Open k w z n s v) =
     let d = freshOf (setup k w z n v) (take s m) l in omega (arith, answer-most (d .world .bench .words) (d .answer))
@@ -46,15 +46,17 @@ respond-most (waiting m l) (BeginPut v p) = omega (arith, answer-most 1 (Refused
 respond-most (waiting m l) BeginTake = omega (arith, answer-most 1 (Refused BadLine))
 respond-most (waiting m l) (BeginSteal i) = omega (arith, answer-most 1 (Refused BadLine))
 respond-most (waiting m l) (Steps i n) = omega (arith, answer-most 1 (Refused BadLine))
+respond-most (waiting m l) (Who i) = omega (arith, answer-most 1 (Refused BadLine))
 respond-most (waiting m l) End = omega (arith, answer-most 1 (Refused BadLine))
 respond-most (waiting m l) Bad = omega (arith, answer-most 1 (Refused BadLine))
 respond-most (playing W) (Open k w z n s v) = omega (arith, answer-most 1 (Refused BadLine))
 respond-most (playing W) (BeginPut v p) =
-    either (λ (r : Response). length (shownAll (r .output)) ≤ 136) (eqb v (W .bench .words)) _ _ (begin-most W 0 (Put p))
+    either (λ (r : Response). length (shownAll (r .output)) ≤ 256) (eqb v (W .bench .words)) _ _ (begin-most W 0 (Put p))
     (omega (arith, answer-most 1 (Refused BadLine)))
 respond-most (playing W) BeginTake = begin-most W 0 Take
 respond-most (playing W) (BeginSteal i) = begin-most W i Steal
 respond-most (playing W) (Steps i m) = omega (arith, steps-most m W i)
+respond-most (playing W) (Who i) = omega (arith, tally-most i (whoOf W i))
 respond-most (playing W) End = omega (arith, totals-most (countsOf W))
 respond-most (playing W) Bad = omega (arith, answer-most 1 (Refused BadLine))
 respond-most ended (Open k w z n s v) = rw show-none (omega arith)
@@ -62,6 +64,7 @@ respond-most ended (BeginPut v p) = rw show-none (omega arith)
 respond-most ended BeginTake = rw show-none (omega arith)
 respond-most ended (BeginSteal i) = rw show-none (omega arith)
 respond-most ended (Steps i m) = rw show-none (omega arith)
+respond-most ended (Who i) = rw show-none (omega arith)
 respond-most ended End = rw show-none (omega arith)
 respond-most ended Bad = rw show-none (omega arith)
 
@@ -90,7 +93,7 @@ shows-line P buf text Q rest h k z = h z ∙ ap (λ (l : List ℕ). text ++ l) (
 
 -- a line was played: what the code did is what the listing asks
 pub shows-on : (P : Program) (buf out : List ℕ) (Q : Program) (used wrote end : ℕ) (p : Answered) (m l after : List ℕ) →
-    Yields P buf (take wrote out) Q (drop used buf) → used ≤ length buf → end ≡ used + length (untilNewline (drop used buf)) → (end ≡ length buf → ⊥) → wrote + 136 ≤ length out →
+    Yields P buf (take wrote out) Q (drop used buf) → used ≤ length buf → end ≡ used + length (untilNewline (drop used buf)) → (end ≡ length buf → ⊥) → wrote + 256 ≤ length out →
     AnsweredBy (respond Q (commandOf (take (end - used) (drop used buf)))) p m l out wrote after →
     Yields P buf (take (p .end) after) (leftBy (p .stops) (p .session) m l) (drop (end + 1) buf)
 shows-on P buf out Q used wrote end p m l after h fits e n room by =
@@ -108,7 +111,7 @@ shows-on P buf out Q used wrote end p m l after h fits e n room by =
     ∙ ap (λ (S : Program). take (p .end) after ++ listingOf S (drop (length (untilNewline (drop used buf)) + 1) (drop used buf) ++ z)) (sym (by′ .program))
     ∙ ap (λ (t : List ℕ). take (p .end) after ++ listingOf (leftBy (p .stops) (p .session) m l) (t ++ z)) d
 
-pub played-fits : (Q : Program) (c : Command) (out : List ℕ) (wrote : ℕ) (p : Answered) (m l after : List ℕ) → wrote + 136 ≤ length out → AnsweredBy (respond Q c) p m l out wrote after → p .end ≤ length after
+pub played-fits : (Q : Program) (c : Command) (out : List ℕ) (wrote : ℕ) (p : Answered) (m l after : List ℕ) → wrote + 256 ≤ length out → AnsweredBy (respond Q c) p m l out wrote after → p .end ≤ length after
 played-fits Q c out wrote p m l after h by = omega (arith, by .text .ends, placed-length out wrote _ _ after (by .text), respond-most Q c)
 
 -- what a played line leaves the loop with: its place in the buffer, in the output, and what is shows
@@ -118,7 +121,7 @@ pub record Onward (P : Program) (buf : List ℕ) (used : ℕ) (p : Answered) (m 
   pub shows : Yields P buf (take (p .end) after) (leftBy (p .stops) (p .session) m l) (drop used buf)
 
 pub line-on : (P : Program) (buf out : List ℕ) (Q : Program) (used wrote end : ℕ) (c : Command) (p : Answered) (m l after : List ℕ) →
-    Yields P buf (take wrote out) Q (drop used buf) → used ≤ length buf → end ≡ used + length (untilNewline (drop used buf)) → (end ≡ length buf → ⊥) → wrote + 136 ≤ length out →
+    Yields P buf (take wrote out) Q (drop used buf) → used ≤ length buf → end ≡ used + length (untilNewline (drop used buf)) → (end ≡ length buf → ⊥) → wrote + 256 ≤ length out →
     c ≡ commandOf (take (end - used) (drop used buf)) → AnsweredBy (respond Q c) p m l out wrote after → Onward P buf (end + 1) p m l after
 line-on P buf out Q used wrote end c p m l after h k e n room says by = record {
   within = omega (arith, front-fits (drop used buf), length-drop used buf);
@@ -134,7 +137,7 @@ left-over b s m l e = ap (λ (x : Bool). leftBy x s m l) e
 
 -- the ways to stop
 module _ (P : Program) (buf : List ℕ) (s : Session) (m l out : List ℕ) (used wrote : ℕ) (h : used ≤ length buf) (k : wrote ≤ length out) where
-  pub consumed-on : Yields P buf (take wrote out) (programOf s m l) (drop used buf) → (wrote + 136 ≤ length out → spec.Open (drop used buf)) →
+  pub consumed-on : Yields P buf (take wrote out) (programOf s m l) (drop used buf) → (wrote + 256 ≤ length out → spec.Open (drop used buf)) →
       ConsumedBy P buf (record { session = s; used = used; wrote = wrote; stops = false }) m l out
   consumed-on shows rest = record {
     within = h;

@@ -41,6 +41,7 @@ quiet (command.BeginPut v p ∷ cs) = quiet cs
 quiet (command.BeginTake ∷ cs) = quiet cs
 quiet (command.BeginSteal i ∷ cs) = quiet cs
 quiet (command.Steps i m ∷ cs) = quiet cs
+quiet (command.Who i ∷ cs) = quiet cs
 quiet (command.End ∷ cs) = quiet cs
 quiet (command.Bad ∷ cs) = quiet cs
 

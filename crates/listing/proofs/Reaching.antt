@@ -8,7 +8,7 @@ use lib.ListN.{take}
 use Rattle.model.specs.declared.Setup.{Setup}
 use Rattle.model.specs.declared.Operation.the-variants.{Put, Take, Steal}
 use Rattle.model.specs.declared.Command.{Command}
-use Rattle.model.specs.declared.Command.the-variants.{Open, BeginPut, BeginTake, BeginSteal, Steps, End, Bad}
+use Rattle.model.specs.declared.Command.the-variants.{Open, BeginPut, BeginTake, BeginSteal, Steps, Who, End, Bad}
 use Rattle.model.specs.declared.Answer.the-variants.{Accepted}
 use Rattle.model.specs.Tests.{if_then_else_}
 use Rattle.model.specs.World.{World, Outcome}
@@ -51,6 +51,7 @@ respond-reach (waiting m l) (BeginPut v p) r = tt
 respond-reach (waiting m l) BeginTake r = tt
 respond-reach (waiting m l) (BeginSteal i) r = tt
 respond-reach (waiting m l) (Steps i n) r = tt
+respond-reach (waiting m l) (Who i) r = tt
 respond-reach (waiting m l) End r = tt
 respond-reach (waiting m l) Bad r = tt
 respond-reach (playing W) (Open k w c n s v) r = r
@@ -59,6 +60,7 @@ respond-reach (playing W) (BeginPut v p) r =
 respond-reach (playing W) BeginTake r = reached-call r (begin 0 Take)
 respond-reach (playing W) (BeginSteal i) r = reached-call r (begin i Steal)
 respond-reach (playing W) (Steps i n) r = steps-reach n W i r
+respond-reach (playing W) (Who i) r = r
 respond-reach (playing W) End r = tt
 respond-reach (playing W) Bad r = r
 respond-reach ended (Open k w c n s v) r = tt
@@ -66,5 +68,6 @@ respond-reach ended (BeginPut v p) r = tt
 respond-reach ended BeginTake r = tt
 respond-reach ended (BeginSteal i) r = tt
 respond-reach ended (Steps i n) r = tt
+respond-reach ended (Who i) r = tt
 respond-reach ended End r = tt
 respond-reach ended Bad r = tt

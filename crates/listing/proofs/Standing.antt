@@ -9,7 +9,7 @@ use Rattle.model.specs.declared.Line.{Line}
 use Rattle.model.specs.declared.Bench.{Bench}
 use Rattle.model.specs.declared.Refusal.{Refusal}
 use Rattle.model.specs.declared.Command.{Command}
-use Rattle.model.specs.declared.Command.the-variants.{Open, BeginPut, BeginTake, BeginSteal, Steps, End, Bad}
+use Rattle.model.specs.declared.Command.the-variants.{Open, BeginPut, BeginTake, BeginSteal, Steps, Who, End, Bad}
 use Rattle.model.specs.declared.Answer.{Answer}
 use Rattle.model.specs.declared.Answer.the-variants.{Refused}
 use Rattle.model.specs.Tests.{if_then_else_}
@@ -43,7 +43,7 @@ use Rattle.listing.proofs.Reaching.{respond-reach}
 
 -- what `consume` keeps of a session in place
 abbrev pub sessionOf : Bool → ℕ → Bench → Session
-sessionOf v w b = record { live = v; words = w; bench = b }
+sessionOf v w b = record { live = v; long = w; bench = b }
 
 -- what was written, and then the listing of the rest from where the program stands, is the listing of all
 pub record Standing (P : Program) (buf : List ℕ) (s : Session) (m l out : List ℕ) (used wrote : ℕ) : Type 0 where
@@ -61,7 +61,7 @@ reach-over s m l = tt
 
 -- a line was played, and did not end the program, or did
 module _ (P : Program) (buf : List ℕ) (s : Session) (m l out : List ℕ) (used wrote end : ℕ) (c : Command) (p : Answered) (m′ l′ out′ : List ℕ)
-    (h : Standing P buf s m l out used wrote) (e : end ≡ used + length (untilNewline (drop used buf))) (n : end ≡ length buf → ⊥) (room : wrote + 136 ≤ length out)
+    (h : Standing P buf s m l out used wrote) (e : end ≡ used + length (untilNewline (drop used buf))) (n : end ≡ length buf → ⊥) (room : wrote + 256 ≤ length out)
     (says : c ≡ commandOf (take (end - used) (drop used buf))) (by : AnsweredBy (respond (programOf s m l) c) p m′ l′ out wrote out′) where
   on : Onward P buf (end + 1) p m′ l′ out′
   on = line-on P buf out (programOf s m l) used wrote end c p m′ l′ out′ (h .shows) (h .within) e n room says by
@@ -90,7 +90,7 @@ at-once-by s m l c r before at e after (v, q) t =
     }
 
 -- a refusal's text fits where a line's does
-pub refusal-room : (v : ℕ) (r : Refusal) (at n : ℕ) → at + 136 ≤ n → at + length (shownAll (printed v (Refused r))) ≤ n
+pub refusal-room : (v : ℕ) (r : Refusal) (at n : ℕ) → at + 256 ≤ n → at + length (shownAll (printed v (Refused r))) ≤ n
 refusal-room v r at n h = omega (arith, answer-most v (Refused r))
 
 -- a line that asks for steps
@@ -102,6 +102,7 @@ asked-steps v BeginTake i n e = absurd (let z : _≡_ {A = ℕ} 0 1 = cc in let 
 asked-steps v (BeginSteal k) i n e = absurd (let z : _≡_ {A = ℕ} 0 1 = cc in let b : ⊥ = omega arith in b)
 asked-steps true (Steps k x) i n e = (refl, cc)
 asked-steps false (Steps k x) i n e = absurd (let z : _≡_ {A = ℕ} 0 1 = cc in let b : ⊥ = omega arith in b)
+asked-steps v (Who k) i n e = absurd (let z : _≡_ {A = ℕ} 0 1 = cc in let b : ⊥ = omega arith in b)
 asked-steps v End i n e = absurd (let z : _≡_ {A = ℕ} 0 1 = cc in let b : ⊥ = omega arith in b)
 asked-steps v Bad i n e = absurd (let z : _≡_ {A = ℕ} 0 1 = cc in let b : ⊥ = omega arith in b)
 
@@ -139,7 +140,7 @@ stepped-front b w n m l p l′ i k x d e f r o =
     ∙ sym (if-true _ (reached-valid r))
 
 -- consuming stops between two lines, the program not being over
-pub consumed-so-far : {P : Program} {buf m l out : List ℕ} {s : Session} {used wrote : ℕ} {b : Bool} → Standing P buf s m l out used wrote → b ≡ false → (wrote + 136 ≤ length out → spec.Open (drop used buf)) →
+pub consumed-so-far : {P : Program} {buf m l out : List ℕ} {s : Session} {used wrote : ℕ} {b : Bool} → Standing P buf s m l out used wrote → b ≡ false → (wrote + 256 ≤ length out → spec.Open (drop used buf)) →
     ConsumedBy P buf (record { session = s; used = used; wrote = wrote; stops = b }) m l out × Reachable (leftBy b s m l)
 consumed-so-far {P} {buf} {m} {l} {out} {s} {used} {wrote} h e rest = (
   subst (λ (x : Bool). ConsumedBy P buf (record { session = s; used = used; wrote = wrote; stops = x }) m l out) (sym e) (consumed-on P buf s m l out used wrote (h .within) (h .fits) (h .shows) rest),

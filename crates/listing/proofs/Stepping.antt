@@ -63,7 +63,7 @@ next-fits W i left h = go (isRefused (stepOf W i .answer)) refl
 
 module _ (W : World) (times : ℕ) (s : Session) (m l : List ℕ) (i left : ℕ) (before : List ℕ) (at end : ℕ) (out : List ℕ) (σ : Stepping (stepsOf W i times) s m l i left before at end out) where
   -- there is room for the next step's text, as a line's whole text fits
-  pub stepping-room : (d : Outcome) → at + 136 ≤ length before → 0 < left → d ≡ stepOf (worldOf s m l) i → end + length (shownAll (printedBy d)) ≤ length out
+  pub stepping-room : (d : Outcome) → at + 256 ≤ length before → 0 < left → d ≡ stepOf (worldOf s m l) i → end + length (shownAll (printedBy d)) ≤ length out
   stepping-room d room h e =
       let fits : length (shownAll (printedBy d)) ≤ length (shownAll (toDo s m l i left .output)) = rw e (next-fits (worldOf s m l) i left h) in
       let whole : length (shownAll (stepsOf W i times .output)) ≡ length (σ .text) + length (shownAll (toDo s m l i left .output)) = ap length (σ .rest) ∙ length-append (σ .text) _ in

@@ -114,8 +114,8 @@ module _ (size : List Print → ℕ) (most : ℕ) (none : size [] ≡ 0) (both :
           (⊎-elim (λ q. let r : size (printedBy (stepOf W i)) ≡ 0 = ap size q ∙ none in omega arith)
           (λ q. omega (arith, one (stepOf W i .world .bench .words) (stepOf W i .answer), idle-once m (stepOf W i .world) i q)) (went W i e))
 
--- at most 136 bytes
-pub steps-most : (m : ℕ) (W : World) (i : ℕ) → length (shownAll (stepsOf W i m .output)) ≤ 136
+-- at most 256 bytes
+pub steps-most : (m : ℕ) (W : World) (i : ℕ) → length (shownAll (stepsOf W i m .output)) ≤ 256
 steps-most =
-    steps-twice (λ (ps : List Print). length (shownAll ps)) 68 (ap length show-none)
+    steps-twice (λ (ps : List Print). length (shownAll ps)) 128 (ap length show-none)
     (λ p q. ap length (show-append p q) ∙ length-append (shownAll p) (shownAll q)) answer-most

@@ -24,7 +24,7 @@ pub record ConsumedBy (P : Program) (buf : List ℕ) (f : Consumed) (m l out : L
   pub within : f .used ≤ length buf
   pub room : f .wrote ≤ length out
   pub shows : (z : List ℕ) → listingOf P (buf ++ z) ≡ take (f .wrote) out ++ listingOf (leftBy (f .stops) (f .session) m l) (drop (f .used) buf ++ z)
-  pub rest : f .stops ≡ false → f .wrote + 136 ≤ length out → lines.Open (drop (f .used) buf)
+  pub rest : f .stops ≡ false → f .wrote + 256 ≤ length out → lines.Open (drop (f .used) buf)
 
 -- the bytes from `from` to n stand in front now, of more than 72 the first 72
 pub record CarriedBy (buf : List ℕ) (from n r : ℕ) (after : List ℕ) : Type 0 where

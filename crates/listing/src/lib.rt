@@ -57,7 +57,7 @@ pub fn consume(
     ensures { λ f. ⌜ Reachable (leftBy (f .stops) (f .session) (now (store .exit)) (now (log .exit))) ⌝ }
 {
     let mut live = session.live;
-    let mut words = session.words;
+    let mut long = session.long;
     let mut bench = session.bench;
     let mut used: usize = 0;
     let mut wrote: usize = 0;
@@ -82,7 +82,7 @@ pub fn consume(
                 continue;
             }
             let p = replies::play(
-                Session { live, words, bench },
+                Session { live, long, bench },
                 command,
                 store,
                 log,
@@ -90,7 +90,7 @@ pub fn consume(
                 wrote,
             );
             live = p.session.live;
-            words = p.session.words;
+            long = p.session.long;
             bench = p.session.bench;
             wrote = p.end;
             if p.stops {
@@ -100,7 +100,7 @@ pub fn consume(
             continue;
         };
         let i = machine::place_of(worker);
-        let n = replies::span(words, store);
+        let n = replies::span(long, store);
         let mut left = times;
         while 0 < left {
             let own = bench.workers[i];
@@ -129,7 +129,8 @@ pub fn consume(
                     continue 'lines;
                 }
                 if let Made::Fails = made {
-                    bench.restarts = stages::one_more(bench.restarts);
+                    let count = stages::one_more(bench.restarts[i]);
+                    bench.restarts[i] = count;
                     bench.workers[i] = Worker { line: to };
                     continue;
                 }
@@ -143,7 +144,7 @@ pub fn consume(
         }
     }
     Consumed {
-        session: Session { live, words, bench },
+        session: Session { live, long, bench },
         used,
         wrote,
         stops,

@@ -16,7 +16,7 @@ use Rattle.model.specs.Memory.{setAll}
 use Rattle.model.specs.Answers.{ends, entryOf, entryLength, entryWords}
 use Rattle.model.specs.Lines.{Effect, anchored, publishing, holdsLink, failsCompare}
 use Rattle.model.specs.World.{World, Outcome, refuse, lineAt, isSteal1, isPast1}
-use Rattle.model.specs.Calls.{lent, oneMore, logFull, noRoom, linkSet, relinked, stepped, commit}
+use Rattle.model.specs.Calls.{lent, raised, logFull, noRoom, linkSet, relinked, stepped, commit}
 use Rattle.model.proofs.Tests.{fails, and-false}
 use Rattle.lines.specs.declared.Action.{Action}
 use Rattle.lines.specs.declared.Action.the-variants as action
@@ -102,8 +102,8 @@ pub record Leads (q : Queue) (i : ℕ) (from to : Line) (d : Action) : Type 0 wh
   pub rests : ends (answerBy d) ≡ true → isPast1 to ≡ false
   pub fails : failsBy d ≡ true → holdsLink q i ≡ true → isPast1 to ≡ true
 
--- an effect committed, with n restarts and the queue q
-abbrev counted : World → ℕ → Effect → ℕ → Queue → Outcome
+-- an effect committed, with the counts n of restarts and the queue q
+abbrev counted : World → ℕ → Effect → List ℕ → Queue → Outcome
 counted W i E n q =
     let D = stepped W i E in
     let b = D .world .bench in
@@ -119,11 +119,11 @@ module _ (b : Bench) (i : ℕ) (from to : Line) (m l : List ℕ) (at : lineAt (b
   -- the action counts a restart exactly if the compare fails
   commits : (d : Action) {q : Queue} → failsBy d ≡ failsCompare (b .kind) (b .queue) i from → relinked (queueBy (b .queue) d) i from to ≡ q
       → commit (lent b m l) i (effectBy (b .words) (b .queue) m to d)
-      ≡ counted (lent b m l) i (effectBy (b .words) (b .queue) m to d) (if failsBy d then oneMore (b .restarts) else b .restarts) q
+      ≡ counted (lent b m l) i (effectBy (b .words) (b .queue) m to d) (if failsBy d then raised (b .restarts) i else b .restarts) q
   commits d {q} f g =
-      ap (λ (x : Bool). counted (lent b m l) i (effectBy (b .words) (b .queue) m to d) (if x then oneMore (b .restarts) else b .restarts) (relinked (queueBy (b .queue) d) i (lineAt (b .workers) i) to))
+      ap (λ (x : Bool). counted (lent b m l) i (effectBy (b .words) (b .queue) m to d) (if x then raised (b .restarts) i else b .restarts) (relinked (queueBy (b .queue) d) i (lineAt (b .workers) i) to))
       (ap (failsCompare (b .kind) (b .queue) i) at ∙ sym f)
-      ∙ ap (counted (lent b m l) i (effectBy (b .words) (b .queue) m to d) (if failsBy d then oneMore (b .restarts) else b .restarts))
+      ∙ ap (counted (lent b m l) i (effectBy (b .words) (b .queue) m to d) (if failsBy d then raised (b .restarts) i else b .restarts))
       (ap (λ (y : Line). relinked (queueBy (b .queue) d) i y to) at ∙ g)
 
   -- an action carried out is its effect committed

@@ -22,7 +22,7 @@ use Rattle.model.specs.Tests.{_and_}
 use Rattle.model.specs.Lines.{Effect, eff, holdsLink, lineStep, failsCompare}
 use Rattle.model.specs.Limits.{validOf}
 use Rattle.model.specs.World.{World, Outcome, refuse, tagBits, lineAt, isIdle, isSteal1, isPast1}
-use Rattle.model.specs.Calls.{lent, oneMore, commit, stepIn}
+use Rattle.model.specs.Calls.{lent, raised, commit, stepIn}
 use Rattle.model.proofs.Tests.{if-true, if-false, and-right}
 use Rattle.model.proofs.Attempts.{rests, stays, starts, only-first, idle-not, wins}
 use Rattle.lines.specs.declared.Action.{Action}
@@ -134,11 +134,11 @@ module _ (b : Bench) (k : ℕ) (x : Line) (d : Made) {m l : List ℕ} {o : Outco
   unfolding benchAfter answerAfter
   refuses r e = ap (λ (y : Made). movedBy b k x y m l) (sym e) ∙ step
 
-  pub restarts : d ≡ made.Fails → {n : ℕ} → n ≡ oneMore (b .restarts)
+  pub restarts : d ≡ made.Fails → {n : List ℕ} → n ≡ raised (b .restarts) k
       → record { world = lent (moves b k x (b .queue) n (b .written)) m l; answer = GoesOn } ≡ o
   unfolding benchAfter answerAfter
   restarts e f =
-      ap (λ (n : ℕ). record { world = lent (moves b k x (b .queue) n (b .written)) m l; answer = GoesOn }) f
+      ap (λ (n : List ℕ). record { world = lent (moves b k x (b .queue) n (b .written)) m l; answer = GoesOn }) f
       ∙ ap (λ (y : Made). movedBy b k x y m l) (sym e) ∙ step
 
   pub replaces : d ≡ made.Nothing → record { world = lent (moves b k x (b .queue) (b .restarts) (b .written)) m l; answer = GoesOn } ≡ o

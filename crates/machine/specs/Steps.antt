@@ -17,20 +17,20 @@ use Rattle.model.specs.Memory.{setAll}
 use Rattle.model.specs.Answers.{ends, entryOf, entryLength, entryWords}
 use Rattle.model.specs.Lines.{anchored, publishing, holdsLink}
 use Rattle.model.specs.World.{Outcome, isPast1}
-use Rattle.model.specs.Calls.{lent, oneMore, logFull, linkSet}
+use Rattle.model.specs.Calls.{lent, raised, logFull, linkSet}
 use Rattle.lines.specs.declared.Action.{Action}
 use Rattle.lines.specs.declared.Action.the-variants as action
 use Rattle.lines.specs.Actions.{withArray, Ground, Ready}
 use Rattle.machine.specs.declared.Made.{Made}
 use Rattle.machine.specs.declared.Made.the-variants as made
 
--- a state of what a step is handed, with u numbers used, n restarts and the records ws
-abbrev pub benchOf : Kind → ℕ → ℕ → ℕ → Queue → ℕ → ℕ → ℕ → List Worker → Bench
+-- a state of what a step is handed, with u numbers used, the counts n of restarts and the records ws
+abbrev pub benchOf : Kind → ℕ → ℕ → ℕ → Queue → ℕ → ℕ → List ℕ → List Worker → Bench
 benchOf κ w v c q k u n ws =
     record { kind = κ; width = w; words = v; crew = c; queue = q; used = u; restarts = n; written = k; workers = ws }
 
--- the state with worker i at the line x, and another queue, other counts of restarts and of words written
-abbrev pub moves : Bench → ℕ → Line → Queue → ℕ → ℕ → Bench
+-- the state with worker i at the line x, and another queue, other counts of restarts and another of words written
+abbrev pub moves : Bench → ℕ → Line → Queue → List ℕ → ℕ → Bench
 moves b i x q n k =
     benchOf (b .kind) (b .width) (b .words) (b .crew) q k (b .used) n (set (b .workers) i (record { line = x }))
 
@@ -38,7 +38,7 @@ moves b i x q n k =
 unfoldable pub benchAfter : Bench → ℕ → Line → Made → Bench
 benchAfter b i x made.Nothing = moves b i x (b .queue) (b .restarts) (b .written)
 benchAfter b i x (made.Refused r) = b
-benchAfter b i x made.Fails = moves b i x (b .queue) (oneMore (b .restarts)) (b .written)
+benchAfter b i x made.Fails = moves b i x (b .queue) (raised (b .restarts) i) (b .written)
 benchAfter b i x made.Links = moves b i x (linkSet (b .queue) i true) (b .restarts) (b .written)
 benchAfter b i x (made.Claims a z) = moves b i x (withArray (b .queue) a z) (b .restarts) (b .written)
 benchAfter b i x made.Publishes = moves b i x (publishing (b .queue)) (b .restarts) (b .written)

@@ -10,7 +10,7 @@ ghost use lib.ListN.{length};
 ghost use Rattle.model.specs.declared.Worker.{Worker};
 ghost use Rattle.model.specs.Tests.{_and_};
 ghost use Rattle.model.specs.World.{lineAt, isSteal1};
-ghost use Rattle.model.specs.Calls.{lent, logFull, stepIn};
+ghost use Rattle.model.specs.Calls.{lent, raised, logFull, stepIn};
 ghost use Rattle.slots.specs.Bounds.{Wide};
 ghost use Rattle.lines.specs.Actions.{withArray, storeBy};
 ghost use Rattle.machine.specs.Steps.{
@@ -144,7 +144,7 @@ pub fn step_in(
     ensures { λ r. ⌜ Fits words queue written (r .made) ⌝ }
     ensures { λ r.
         ⌜
-        ((u n k : ℕ) (ws : List Worker) → (worker < 8 → k ≡ worker) → lineAt ws k ≡ line
+        ((u k : ℕ) (n : List ℕ) (ws : List Worker) → (worker < 8 → k ≡ worker) → lineAt ws k ≡ line
         → movedBy (benchOf kind width words crew queue written u n ws) k (r .line) (r .made) (now (store .exit)) (now (log .exit))
         ≡ stepIn (lent (benchOf kind width words crew queue written u n ws) (now (store .entry)) (now (log .entry))) worker)
         ⌝ }
@@ -189,22 +189,26 @@ fn with_array(queue: Queue, offset: u32, length: u32) -> Queue
     next
 }
 
-// The state with a worker at another line, and another queue, other counts of restarts and of words written.
-fn replaced(
-    bench: Bench,
-    place: usize,
-    line: Line,
-    queue: Queue,
-    restarts: u32,
-    written: u32,
-) -> Bench
+// The state with a worker at another line, and another queue and count of words written.
+fn replaced(bench: Bench, place: usize, line: Line, queue: Queue, written: u32) -> Bench
     requires { ⌜ place < 8 ⌝ }
-    ensures { λ r. ⌜ r ≡ moves bench place line queue restarts written ⌝ }
+    ensures { λ r. ⌜ r ≡ moves bench place line queue (bench .restarts) written ⌝ }
 {
     let mut next = bench;
     next.queue = queue;
-    next.restarts = restarts;
     next.written = written;
+    next.workers[place] = Worker { line };
+    next
+}
+
+// The state with a worker at another line, and one restart of that worker more.
+fn beaten(bench: Bench, place: usize, line: Line) -> Bench
+    requires { ⌜ place < 8 ⌝ }
+    ensures { λ r. ⌜ r ≡ moves bench place line (bench .queue) (raised (bench .restarts) place) (bench .written) ⌝ }
+{
+    let mut next = bench;
+    let count = stages::one_more(next.restarts[place]);
+    next.restarts[place] = count;
     next.workers[place] = Worker { line };
     next
 }
@@ -216,39 +220,35 @@ pub fn settled(bench: Bench, place: usize, line: Line, made: Made) -> Returned
     ensures { λ r. ⌜ r ≡ record { bench = benchAfter bench place line made; answer = answerAfter made } ⌝ }
 {
     let queue = bench.queue;
-    let restarts = bench.restarts;
     let written = bench.written;
     match made {
         Made::Nothing => Returned {
-            bench: replaced(bench, place, line, queue, restarts, written),
+            bench: replaced(bench, place, line, queue, written),
             answer: Answer::GoesOn,
         },
         Made::Refused { why } => state::refused(bench, why),
-        Made::Fails => {
-            let count = stages::one_more(restarts);
-            Returned {
-                bench: replaced(bench, place, line, queue, count, written),
-                answer: Answer::GoesOn,
-            }
-        }
+        Made::Fails => Returned {
+            bench: beaten(bench, place, line),
+            answer: Answer::GoesOn,
+        },
         Made::Links => {
             let linked = state::with_link(queue, place, true);
             Returned {
-                bench: replaced(bench, place, line, linked, restarts, written),
+                bench: replaced(bench, place, line, linked, written),
                 answer: Answer::GoesOn,
             }
         }
         Made::Claims { offset, length } => {
             let grown = with_array(queue, offset, length);
             Returned {
-                bench: replaced(bench, place, line, grown, restarts, written),
+                bench: replaced(bench, place, line, grown, written),
                 answer: Answer::GoesOn,
             }
         }
         Made::Publishes => {
             let current = state::publish(queue);
             Returned {
-                bench: replaced(bench, place, line, current, restarts, written),
+                bench: replaced(bench, place, line, current, written),
                 answer: Answer::GoesOn,
             }
         }
@@ -256,7 +256,7 @@ pub fn settled(bench: Bench, place: usize, line: Line, made: Made) -> Returned
             let unlinked = state::with_link(queue, place, false);
             let length = written + (3 + bench.words);
             Returned {
-                bench: replaced(bench, place, line, unlinked, restarts, length),
+                bench: replaced(bench, place, line, unlinked, length),
                 answer,
             }
         }
@@ -264,7 +264,7 @@ pub fn settled(bench: Bench, place: usize, line: Line, made: Made) -> Returned
             let left = state::with_anchor(queue, anchor);
             let length = written + (3 + bench.words);
             Returned {
-                bench: replaced(bench, place, line, left, restarts, length),
+                bench: replaced(bench, place, line, left, length),
                 answer,
             }
         }

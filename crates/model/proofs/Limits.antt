@@ -68,7 +68,7 @@ stateOf v κ w n q u e l ms ls =
             crew = n;
             queue = q;
             used = u;
-            restarts = 0;
+            restarts = replicate 8 0;
             written = e;
             workers = l;
           };

@@ -11,18 +11,20 @@ use Rattle.model.specs.declared.Queue.{Queue}
 use Rattle.model.specs.declared.Line.{Line}
 use Rattle.model.specs.declared.Line.the-variants.{Publish, StealCompare}
 use Rattle.model.specs.declared.Operation.the-variants.{Put}
-use Rattle.model.specs.declared.Refusal.the-variants.{LogFull}
+use Rattle.model.specs.declared.Refusal.the-variants.{NoSuchWorker, LogFull, ForeignState}
 use Rattle.model.specs.declared.Answer.the-variants.{Accepted, Numbered, GoesOn, Finished, Refused}
+use Rattle.model.specs.declared.Tally.the-variants as tally
 use Rattle.model.specs.declared.Command.the-variants.{BeginTake, BeginSteal, Steps, End, Bad}
 use Rattle.model.specs.Tests.{if_then_else_, _and_, _or_}
 use Rattle.model.specs.Memory.{zeros, wordAt, setWord, offsetAt, lengthAt, sizeAt}
 use Rattle.model.specs.Tasks.{task, wordIn, withWord, gathered}
 use Rattle.model.specs.Figures.{anchor}
 use Rattle.model.specs.Lines.{anchored, lineStep}
+use Rattle.model.specs.World.{World}
 use Rattle.model.specs.Limits.{validOf}
-use Rattle.model.specs.Calls.{blank, freshOf, beginOf, restarted, linkSet, stepOf, begin, step}
+use Rattle.model.specs.Calls.{blank, noBench, lent, freshOf, beginOf, restarted, linkSet, stepOf, whoOf, begin, step}
 use Rattle.model.specs.Run.{played}
-use Rattle.model.specs.Counts.{someBelow, countBelow, countsOf}
+use Rattle.model.specs.Counts.{someBelow, countBelow, sumBelow, countsOf}
 use Rattle.model.specs.Listing.{D, E, F, R, T, stepsOf, respond, listingFrom}
 use Rattle.model.proofs.Runs.{Row, one, queue, put, handed, lines, calls, prints, answers, _shows_, show}
 
@@ -88,21 +90,54 @@ mistakes =
     ∷ []
 
 pub mistakes-shut-out : map (λ r. show (r .run)) mistakes ≡ map (λ r. r .shown) mistakes
-unfolding show played listingFrom respond stepsOf countsOf someBelow countBelow freshOf beginOf stepOf validOf lineStep zeros wordAt setWord offsetAt lengthAt sizeAt if_then_else_ _and_ _or_ gathered wordIn withWord
+unfolding show played listingFrom respond stepsOf countsOf someBelow countBelow sumBelow freshOf beginOf stepOf validOf lineStep zeros wordAt setWord offsetAt lengthAt sizeAt if_then_else_ _and_ _or_ gathered wordIn withWord
 mistakes-shut-out = refl
 
 -- a queue, linked or not, with this anchor
 abbrev at : Bool → Anchor → Queue
 at x a = anchored (blank Lifo x 1 1 2 1 .queue) a
 
--- the counter of restarts: a compare that fails, at the ceiling and one below it; a compare that succeeds; X4; in a linked queue a
--- compare without its link, with the anchor as it was read, and one with it
-abbrev pub counted : List ℕ
-counted =
-    map (restarted Lifo (at false (anchor 0 1 0)) 1 (StealCompare (anchor 0 1 1) 0 (task 1 (one 7)))) (4 ∷ 4294967294 ∷ 4294967295 ∷ [])
-    ++ map (λ (l : Line). restarted Lifo (at false (anchor 0 1 0)) 1 l 4) (StealCompare (anchor 0 1 0) 0 (task 1 (one 7)) ∷ Publish (task 1 (one 7)) ∷ [])
-    ++ map (λ (x : Bool). restarted Lifo (linkSet (at true (anchor 0 1 0)) 1 x) 1 (StealCompare (anchor 0 1 0) 0 (task 1 (one 7))) 4) (false ∷ true ∷ [])
+-- the counts of restarts: worker 1's compare fails, at the ceiling and one below it, and the other counts stay; a compare that
+-- succeeds; X4; in a linked queue a compare without its link, with the anchor as it was read, and one with it
+abbrev eight : ℕ → List ℕ
+eight n = 9 ∷ n ∷ 4294967295 ∷ replicate 5 0
 
-pub counter : counted ≡ (5 ∷ 4294967295 ∷ 4294967295 ∷ 4 ∷ 4 ∷ 5 ∷ 4 ∷ [])
+abbrev pub counted : List (List ℕ)
+counted =
+    map (λ (n : ℕ). restarted Lifo (at false (anchor 0 1 0)) 1 (StealCompare (anchor 0 1 1) 0 (task 1 (one 7))) (eight n)) (4 ∷ 4294967294 ∷ 4294967295 ∷ [])
+    ++ map (λ (l : Line). restarted Lifo (at false (anchor 0 1 0)) 1 l (eight 4)) (StealCompare (anchor 0 1 0) 0 (task 1 (one 7)) ∷ Publish (task 1 (one 7)) ∷ [])
+    ++ map (λ (x : Bool). restarted Lifo (linkSet (at true (anchor 0 1 0)) 1 x) 1 (StealCompare (anchor 0 1 0) 0 (task 1 (one 7))) (eight 4)) (false ∷ true ∷ [])
+
+pub counter : counted ≡ map eight (5 ∷ 4294967295 ∷ 4294967295 ∷ 4 ∷ 4 ∷ 5 ∷ 4 ∷ [])
 unfolding if_then_else_ _and_
 counter = refl
+
+-- a bench with these counts, in a crew of two
+abbrev tallied : List ℕ → World
+tallied ns =
+    let b = blank Lifo false 1 1 2 1 in
+    lent
+    (record {
+      kind = b .kind;
+      width = b .width;
+      words = b .words;
+      crew = b .crew;
+      queue = b .queue;
+      used = b .used;
+      restarts = ns;
+      written = b .written;
+      workers = b .workers;
+    })
+    (0 ∷ 0 ∷ []) []
+
+-- what `T` shows is the sum of all eight, the largest one past 32 bits
+pub summed : map (λ (ns : List ℕ). countsOf (tallied ns) .restarts) (eight 4 ∷ replicate 8 4294967295 ∷ (0 ∷ 0 ∷ 0 ∷ 0 ∷ 0 ∷ 0 ∷ 0 ∷ 7 ∷ []) ∷ [])
+    ≡ (4294967308 ∷ 34359738360 ∷ 7 ∷ [])
+unfolding countsOf countBelow sumBelow
+summed = refl
+
+-- a worker's own count; 6 outside the crew; 12 of no bench, before 6
+pub asked : map (whoOf (tallied (eight 4))) (0 ∷ 1 ∷ 2 ∷ []) ++ map (whoOf (lent noBench [] [])) (0 ∷ 8 ∷ [])
+    ≡ (tally.Counted 9 ∷ tally.Counted 4 ∷ tally.Refused NoSuchWorker ∷ tally.Refused ForeignState ∷ tally.Refused ForeignState ∷ [])
+unfolding whoOf validOf offsetAt lengthAt sizeAt if_then_else_ _and_ _or_
+asked = refl

@@ -7,16 +7,16 @@ use Rattle.model.specs.declared.Operation.the-variants.{Put, Take, Steal
 use Rattle.model.specs.declared.Refusal.the-variants.{NoSuchWorker, WrongHand, LogFull, NoLink}
 use Rattle.model.specs.declared.Answer.the-variants.{Accepted, Numbered, GoesOn, Finished, HandedOut, Empty, Full, Refused}
 use Rattle.model.specs.declared.Command.{Command}
-use Rattle.model.specs.declared.Command.the-variants.{Open, BeginPut, BeginTake, BeginSteal, Steps, End}
+use Rattle.model.specs.declared.Command.the-variants.{Open, BeginPut, BeginTake, BeginSteal, Steps, Who, End}
 use Rattle.model.specs.Tests.{if_then_else_, _and_, _or_}
 use Rattle.model.specs.Memory.{zeros, wordAt, setWord, offsetAt, lengthAt, sizeAt}
 use Rattle.model.specs.Tasks.{task, payload, wordIn, withWord, gathered}
 use Rattle.model.specs.Lines.{lineStep}
 use Rattle.model.specs.Limits.{validOf}
-use Rattle.model.specs.Calls.{freshOf, beginOf, stepOf, dropLinkOf, begin, step, dropLink}
+use Rattle.model.specs.Calls.{freshOf, beginOf, stepOf, dropLinkOf, whoOf, begin, step, dropLink}
 use Rattle.model.specs.Run.{played}
-use Rattle.model.specs.Counts.{someBelow, countBelow, countsOf}
-use Rattle.model.specs.Listing.{D, H, F, R, T, stepsOf, respond, listingFrom}
+use Rattle.model.specs.Counts.{someBelow, countBelow, sumBelow, countsOf}
+use Rattle.model.specs.Listing.{D, H, E, F, R, Wi, T, stepsOf, respond, listingFrom}
 use Rattle.model.proofs.Runs.{Row, one, queue, put, handed, lines, calls, prints, answers, _shows_, show}
 
 -- P1; P2 differs in the tag's width only
@@ -95,8 +95,18 @@ table =
     ∷ (calls 4 1 1 2 1 2 4 (begin 1 Steal ∷ step 1 ∷ step 1 ∷ dropLink 1 ∷ []) shows answers (Accepted ∷ Accepted ∷ GoesOn ∷ Empty 1 ∷ Refused NoLink ∷ []))
     -- kinds are 1 to 5; a linked kind's tag width is checked
     ∷ (lines (queue 0 1 1 1 2 ∷ queue 6 1 1 1 2 ∷ queue 4 0 1 1 2 ∷ queue 5 16 1 1 2 ∷ End ∷ []) shows prints (R 1 ∷ R 1 ∷ R 2 ∷ T 0 0 0 0 0 0 ∷ []))
+    -- who: of two thieves that go for one task the second is beaten; 13 before a queue, 6 outside the crew
+    ∷ (lines
+    (Who 0 ∷ queue 1 2 2 3 4 ∷ put 7 ∷ Steps 0 5 ∷ BeginSteal 1 ∷ BeginSteal 2 ∷ Steps 1 5 ∷ Steps 2 5 ∷ Steps 1 1 ∷ Steps 2 1 ∷ Who 0 ∷ Who 1 ∷ Who 2
+    ∷ Who 3 ∷ Steps 2 2 ∷ Who 2 ∷ End ∷ [])
+    shows prints (R 13 ∷ D 1 ∷ handed 1 1 7 ∷ Wi 0 0 ∷ Wi 1 0 ∷ Wi 2 1 ∷ R 6 ∷ E 2 ∷ Wi 2 1 ∷ T 1 1 1 1 0 0 ∷ []))
+    -- two are beaten, one of them twice: T has the sum
+    ∷ (lines
+    (queue 3 2 2 4 8 ∷ put 7 ∷ Steps 0 5 ∷ put 8 ∷ Steps 0 5 ∷ BeginSteal 1 ∷ BeginSteal 2 ∷ BeginSteal 3 ∷ Steps 1 6 ∷ Steps 2 6 ∷ Steps 3 6 ∷ Steps 1 1
+    ∷ Steps 2 1 ∷ Steps 3 1 ∷ Steps 2 6 ∷ Steps 3 6 ∷ Steps 2 1 ∷ Steps 3 1 ∷ Who 1 ∷ Who 2 ∷ Who 3 ∷ End ∷ [])
+    shows prints (D 1 ∷ D 2 ∷ handed 1 1 7 ∷ handed 2 2 8 ∷ Wi 1 0 ∷ Wi 2 1 ∷ Wi 3 2 ∷ T 2 2 2 3 0 0 ∷ []))
     ∷ []
 
 pub p1-to-p9 : map (λ r. show (r .run)) table ≡ map (λ r. r .shown) table
-unfolding show played listingFrom respond stepsOf countsOf someBelow countBelow freshOf beginOf stepOf dropLinkOf validOf lineStep zeros wordAt setWord offsetAt lengthAt sizeAt if_then_else_ _and_ _or_ gathered wordIn withWord
+unfolding show played listingFrom respond stepsOf countsOf someBelow countBelow sumBelow freshOf beginOf stepOf dropLinkOf whoOf validOf lineStep zeros wordAt setWord offsetAt lengthAt sizeAt if_then_else_ _and_ _or_ gathered wordIn withWord
 p1-to-p9 = refl

@@ -1,9 +1,9 @@
--- The calls: fresh, begin, step, and the log's front.
+-- The calls: fresh, begin, step, a link that fails, who, and the log's front.
 use mathlib.Core.Bool.{Bool, true, false}
 use mathlib.Core.List.{List, _∷_}
 use Prim.Native.Nat.{ℕ, _+_, _*_}
 use lib.Dec.{eqb, ltb, leb}
-use lib.ListN.{length, set, replicate, take}
+use lib.ListN.{length, getD, set, replicate, take}
 use Rattle.model.specs.declared.Kind.{Kind}
 use Rattle.model.specs.declared.Kind.the-variants.{Lifo, Fifo, Deque}
 use Rattle.model.specs.declared.Line.{Line}
@@ -31,6 +31,8 @@ use Rattle.model.specs.declared.Refusal.the-variants.{
 }
 use Rattle.model.specs.declared.Answer.{Answer}
 use Rattle.model.specs.declared.Answer.the-variants.{Accepted, Numbered}
+use Rattle.model.specs.declared.Tally.{Tally}
+use Rattle.model.specs.declared.Tally.the-variants as tally
 use Rattle.model.specs.Tests.{if_then_else_, unless_then_else_, _and_, _or_}
 use Rattle.model.specs.Tasks.{task, firstWords}
 use Rattle.model.specs.Memory.{zeros, nowhere}
@@ -59,7 +61,7 @@ blank κ x w c n v =
             links = replicate 8 false;
           };
       used = 0;
-      restarts = 0;
+      restarts = replicate 8 0;
       written = 0;
       workers = replicate 8 resting;
     }
@@ -161,13 +163,20 @@ beginIn W i op =
 unfoldable pub beginOf : World → ℕ → Operation → Outcome
 beginOf W i op = unless validOf W then refuse W ForeignState else beginIn W i op
 
--- STEP. The restarts are compares that fail, and nothing else; the counter has a ceiling
+-- STEP. The restarts are compares that fail, and nothing else; each worker has a count, with a ceiling
 abbrev pub oneMore : ℕ → ℕ
 oneMore n = if eqb n 4294967295 then n else n + 1
 
--- n restarts, after worker i has done its line l
-abbrev pub restarted : Kind → Queue → ℕ → Line → ℕ → ℕ
-restarted κ q i l n = if failsCompare κ q i l then oneMore n else n
+-- of the counts ns worker i's, and the counts with one restart of worker i more
+abbrev pub restartsOf : List ℕ → ℕ → ℕ
+restartsOf ns i = getD ns i 0
+
+abbrev pub raised : List ℕ → ℕ → List ℕ
+raised ns i = set ns i (oneMore (restartsOf ns i))
+
+-- the counts ns, after worker i has done its line l
+abbrev pub restarted : Kind → Queue → ℕ → Line → List ℕ → List ℕ
+restarted κ q i l ns = if failsCompare κ q i l then raised ns i else ns
 
 -- LINKS. Worker i's is held or not
 abbrev pub linkSet : Queue → ℕ → Bool → Queue
@@ -245,6 +254,13 @@ dropLinkOf W i =
     else unless ltb i (W .bench .crew) then refuse W NoSuchWorker
     else unless holdsLink (W .bench .queue) i then refuse W NoLink
     else record { world = requeued W (linkSet (W .bench .queue) i false); answer = Accepted }
+
+-- WHO. Worker i's restarts: refusals 12, 6. It changes nothing, so there is no world in its answer
+unfoldable pub whoOf : World → ℕ → Tally
+whoOf W i =
+    unless validOf W then tally.Refused ForeignState
+    else unless ltb i (W .bench .crew) then tally.Refused NoSuchWorker
+    else tally.Counted (restartsOf (W .bench .restarts) i)
 
 -- FRONT. The written front of the log: as many words as its length says, or all if the slice is shorter
 unfoldable pub frontOf : Bench → List ℕ → List ℕ

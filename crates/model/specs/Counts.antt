@@ -11,6 +11,7 @@ use Rattle.model.specs.Tests.{if_then_else_, _and_, _or_}
 use Rattle.model.specs.Tasks.{sameTask, gathered}
 use Rattle.model.specs.Answers.{Entry, entryLength}
 use Rattle.model.specs.World.{World}
+use Rattle.model.specs.Calls.{restartsOf}
 use Rattle.model.specs.Window.{windowSize, windowTask}
 
 abbrev pub entryAt : ℕ → List ℕ → ℕ → Entry
@@ -33,6 +34,11 @@ someBelow p (suc j) = p j or someBelow p j
 unfoldable pub countBelow : (ℕ → Bool) → ℕ → ℕ
 countBelow p zero = 0
 countBelow p (suc j) = if p j then countBelow p j + 1 else countBelow p j
+
+-- f 0 to f (n-1) added up
+unfoldable pub sumBelow : (ℕ → ℕ) → ℕ → ℕ
+sumBelow f zero = 0
+sumBelow f (suc j) = sumBelow f j + f j
 
 -- entry j hands out put number x; hands out the task, all words of it
 abbrev pub outAs : ℕ → List ℕ → ℕ → ℕ → Bool
@@ -66,7 +72,7 @@ countsOf W =
       finished = countBelow (isKind v (W .log) 1) (entriesIn W);
       handouts = countBelow (isKind v (W .log) 2) (entriesIn W);
       different = countBelow (outFirst v (W .log)) (entriesIn W);
-      restarts = W .bench .restarts;
+      restarts = sumBelow (restartsOf (W .bench .restarts)) 8;
       window = windowSize W;
       lost = countBelow (isLost W (entriesIn W)) (entriesIn W);
     }

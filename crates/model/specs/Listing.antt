@@ -18,23 +18,26 @@ use Rattle.model.specs.declared.Answer.the-variants.{
   Full,
   Refused,
 }
+use Rattle.model.specs.declared.Tally.{Tally}
+use Rattle.model.specs.declared.Tally.the-variants as tally
 use Rattle.model.specs.declared.Counts.{Counts}
 use Rattle.model.specs.declared.Command.{Command}
-use Rattle.model.specs.declared.Command.the-variants.{Open, BeginPut, BeginTake, BeginSteal, Steps, End, Bad}
+use Rattle.model.specs.declared.Command.the-variants.{Open, BeginPut, BeginTake, BeginSteal, Steps, Who, End, Bad}
 use Rattle.model.specs.Tests.{if_then_else_}
 use Rattle.model.specs.Tasks.{wordsIn}
 use Rattle.model.specs.Answers.{numberOf}
 use Rattle.model.specs.World.{World, Outcome}
-use Rattle.model.specs.Calls.{freshOf, setup, beginOf, stepOf}
+use Rattle.model.specs.Calls.{freshOf, setup, beginOf, stepOf, whoOf}
 use Rattle.model.specs.Counts.{countsOf}
 
--- a line of output
+-- a line of output; `Wi` is the line `W`, whose letter is a world's name here
 pub data Print : Type 0 where
   D : ℕ → Print
   H : ℕ → ℕ → List ℕ → Print
   E : ℕ → Print
   F : ℕ → Print
   R : ℕ → Print
+  Wi : ℕ → ℕ → Print
   T : ℕ → ℕ → ℕ → ℕ → ℕ → ℕ → Print
 
 -- what an answer prints, with v payload words: an accepted begin and a step that goes on, nothing
@@ -51,6 +54,11 @@ printed v (Refused r) = R (numberOf r) ∷ []
 -- what a call prints: as many payload words as its bench has
 abbrev pub printedBy : Outcome → List Print
 printedBy d = printed (d .world .bench .words) (d .answer)
+
+-- what asking for worker i's restarts prints
+abbrev pub printedTally : ℕ → Tally → List Print
+printedTally i (tally.Counted n) = Wi i n ∷ []
+printedTally i (tally.Refused r) = R (numberOf r) ∷ []
 
 abbrev pub isRefused : Answer → Bool
 isRefused Accepted = false
@@ -107,6 +115,7 @@ respond (waiting m l) (BeginPut v p) = bad (waiting m l)
 respond (waiting m l) BeginTake = bad (waiting m l)
 respond (waiting m l) (BeginSteal i) = bad (waiting m l)
 respond (waiting m l) (Steps i n) = bad (waiting m l)
+respond (waiting m l) (Who i) = bad (waiting m l)
 respond (waiting m l) End = bad (waiting m l)
 respond (waiting m l) Bad = bad (waiting m l)
 respond (playing W) (Open k w c n s v) = bad (playing W)
@@ -114,6 +123,7 @@ respond (playing W) (BeginPut v p) = putting W v p
 respond (playing W) BeginTake = showing (beginOf W 0 Take)
 respond (playing W) (BeginSteal i) = showing (beginOf W i Steal)
 respond (playing W) (Steps i m) = stepsOf W i m
+respond (playing W) (Who i) = response (playing W) (printedTally i (whoOf W i))
 respond (playing W) End = response ended (totals (countsOf W) ∷ [])
 respond (playing W) Bad = bad (playing W)
 respond ended (Open k w c n s v) = response ended []
@@ -121,6 +131,7 @@ respond ended (BeginPut v p) = response ended []
 respond ended BeginTake = response ended []
 respond ended (BeginSteal i) = response ended []
 respond ended (Steps i m) = response ended []
+respond ended (Who i) = response ended []
 respond ended End = response ended []
 respond ended Bad = response ended []
 

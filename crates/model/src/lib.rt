@@ -164,7 +164,7 @@ pub struct Queue {
 }
 
 // The bench's state. `width` is the tag's, `words` counts the payload words of a task, `crew` the workers, `used` the put numbers
-// given out, `restarts` the compares that failed (the field's retries); `written` is the log's length, in words.
+// given out, `restarts` each worker's compares that failed (the field's retries); `written` is the log's length, in words.
 pub struct Bench {
     pub kind: Kind,
     pub width: u32,
@@ -172,7 +172,7 @@ pub struct Bench {
     pub crew: u32,
     pub queue: Queue,
     pub used: u32,
-    pub restarts: u32,
+    pub restarts: [u32; 8],
     pub written: u32,
     pub workers: [Worker; 8],
 }
@@ -227,7 +227,13 @@ pub enum Answer {
     Refused { why: Refusal },
 }
 
-// A line of the bench program's input: `queue`, `put`, `take`, `steal`, `step`, `end`, or none of these forms. Of a `queue`
+// What asking for a worker's restarts answers: its count, or why not.
+pub enum Tally {
+    Counted { restarts: u32 },
+    Refused { why: Refusal },
+}
+
+// A line of the bench program's input: `queue`, `put`, `take`, `steal`, `step`, `who`, `end`, or none of these forms. Of a `queue`
 // without a sixth number `words` is 1; a `put` says how many words it has.
 pub enum Command {
     Open {
@@ -250,16 +256,19 @@ pub enum Command {
         worker: u32,
         times: u32,
     },
+    Who {
+        worker: u32,
+    },
     End,
     Bad,
 }
 
-// The six counts of `T`.
+// The six counts of `T`. The restarts are the sum of eight counts, and may not fit 32 bits.
 pub struct Counts {
     pub finished: u32,
     pub handouts: u32,
     pub different: u32,
-    pub restarts: u32,
+    pub restarts: u64,
     pub window: u32,
     pub lost: u32,
 }

@@ -22,12 +22,14 @@ use Rattle.model.specs.declared.Answer.the-variants.{
 use Rattle.model.specs.declared.Operation.the-variants.{Put, Take, Steal}
 use Rattle.model.specs.declared.Refusal.{Refusal}
 use Rattle.model.specs.declared.Refusal.the-variants.{BadLine}
+use Rattle.model.specs.declared.Tally.{Tally}
+use Rattle.model.specs.declared.Tally.the-variants as tally
 use Rattle.model.specs.declared.Command.{Command}
-use Rattle.model.specs.declared.Command.the-variants.{Open, BeginPut, BeginTake, BeginSteal, Steps, End, Bad}
+use Rattle.model.specs.declared.Command.the-variants.{Open, BeginPut, BeginTake, BeginSteal, Steps, Who, End, Bad}
 use Rattle.model.specs.Tests.{if_then_else_, unless_then_else_}
 use Rattle.model.specs.Answers.{numberOf}
 use Rattle.model.specs.World.{World, Outcome, refuse}
-use Rattle.model.specs.Calls.{freshOf, setup, beginOf, stepOf, Call, begin, callOf}
+use Rattle.model.specs.Calls.{freshOf, setup, beginOf, stepOf, whoOf, Call, begin, callOf}
 use Rattle.model.specs.Run.{after}
 use Rattle.model.specs.Counts.{countsOf}
 use Rattle.model.specs.Listing.{
@@ -41,6 +43,7 @@ use Rattle.model.specs.Listing.{
   response,
   printed,
   printedBy,
+  printedTally,
   isRefused,
   totals,
   opened,
@@ -57,6 +60,7 @@ use Rattle.theorems.specs.Demand3.{FewPuts}
 use Rattle.order.specs.Listings.{
   Item,
   plays,
+  asks,
   badLine,
   endLine,
   stepItems,
@@ -127,10 +131,11 @@ over (BeginPut v p ∷ cs) = over cs
 over (BeginTake ∷ cs) = over cs
 over (BeginSteal i ∷ cs) = over cs
 over (Steps i m ∷ cs) = over cs
+over (Who i ∷ cs) = over cs
 over (End ∷ cs) = over cs
 over (Bad ∷ cs) = over cs
 
--- a line that is one call, and a line that is refused 13
+-- a line that is one call, one that is refused 13, and `who`
 one-call : (W : World) (c : Call) (cs : List Command)
     → listingFrom (playing (callOf W c .world)) cs ≡ shows (callOf W c .world) (itemsOf (callOf W c .world) cs)
     → printedBy (callOf W c) ++ listingFrom (playing (callOf W c .world)) cs
@@ -142,6 +147,11 @@ bad-line : (W : World) (cs : List Command) → listingFrom (playing W) cs ≡ sh
     → R (numberOf BadLine) ∷ listingFrom (playing W) cs ≡ shows W (badLine ∷ itemsOf W cs)
 unfolding shows
 bad-line W cs e = ap (λ (l : List Print). R (numberOf BadLine) ∷ l) e
+
+who-line : (W : World) (i : ℕ) (cs : List Command) → listingFrom (playing W) cs ≡ shows W (itemsOf W cs)
+    → printedTally i (whoOf W i) ++ listingFrom (playing W) cs ≡ shows W (asks i ∷ itemsOf W cs)
+unfolding shows
+who-line W i cs e = ap (λ (l : List Print). printedTally i (whoOf W i) ++ l) e
 
 -- `put`, with the payload's count of words or not
 put-line : (W : World) (x : Bool) (p : Payload) (cs : List Command)
@@ -167,6 +177,7 @@ listing-plays W (Steps i m ∷ cs) =
     ap (λ (P : Program). stepsOf W i m .output ++ listingFrom P cs) (steps-stand m W i)
     ∙ ap (λ (l : List Print). stepsOf W i m .output ++ l) (listing-plays U cs)
     ∙ sym (steps-play m W i (itemsOf U cs))
+listing-plays W (Who i ∷ cs) = who-line W i cs (listing-plays W cs)
 listing-plays W (End ∷ cs) = ap (λ (l : List Print). totals (countsOf W) ∷ l) (over cs)
 listing-plays W (Bad ∷ cs) = bad-line W cs (listing-plays W cs)
 
@@ -181,6 +192,7 @@ first-line (BeginPut v p) = refl
 first-line BeginTake = refl
 first-line (BeginSteal i) = refl
 first-line (Steps i m) = refl
+first-line (Who i) = refl
 first-line End = refl
 first-line Bad = refl
 
@@ -234,6 +246,7 @@ line-opens (BeginPut v p) = inl refl
 line-opens BeginTake = inl refl
 line-opens (BeginSteal i) = inl refl
 line-opens (Steps i m) = inl refl
+line-opens (Who i) = inl refl
 line-opens End = inl refl
 line-opens Bad = inl refl
 
@@ -278,6 +291,10 @@ none-answered v (Empty i) = (refl, tt)
 none-answered v (Full i t) = (refl, tt)
 none-answered v (Refused r) = (refl, tt)
 
+none-told : (i : ℕ) (x : Tally) → NoneLostIn (printedTally i x)
+none-told i (tally.Counted n) = (refl, tt)
+none-told i (tally.Refused r) = (refl, tt)
+
 none-refused : (cs : List Command) → NoneLostIn (refusals cs)
 none-refused [] = tt
 none-refused (c ∷ cs) =
@@ -289,6 +306,8 @@ none-shown W [] e = tt
 none-shown W (plays c ∷ is) e =
     none-joined (printedBy (callOf W c)) (shows (callOf W c .world) is) (none-answered _ (callOf W c .answer))
     (none-shown (callOf W c .world) is e)
+none-shown W (asks i ∷ is) e =
+    none-joined (printedTally i (whoOf W i)) (shows W is) (none-told i (whoOf W i)) (none-shown W is e)
 none-shown W (badLine ∷ is) e = (refl, none-shown W is e)
 none-shown W (endLine ∷ is) e = (e, tt)
 
@@ -300,6 +319,7 @@ none-lost-by (BeginPut v p) e cs f = cc
 none-lost-by BeginTake e cs f = cc
 none-lost-by (BeginSteal i) e cs f = cc
 none-lost-by (Steps i m) e cs f = cc
+none-lost-by (Who i) e cs f = cc
 none-lost-by End e cs f = cc
 none-lost-by Bad e cs f = cc
 

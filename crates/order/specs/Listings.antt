@@ -10,11 +10,11 @@ use Rattle.model.specs.declared.Operation.the-variants.{Put, Take, Steal}
 use Rattle.model.specs.declared.Refusal.the-variants.{BadLine}
 use Rattle.model.specs.declared.Answer.the-variants.{Accepted}
 use Rattle.model.specs.declared.Command.{Command}
-use Rattle.model.specs.declared.Command.the-variants.{Open, BeginPut, BeginTake, BeginSteal, Steps, End, Bad}
+use Rattle.model.specs.declared.Command.the-variants.{Open, BeginPut, BeginTake, BeginSteal, Steps, Who, End, Bad}
 use Rattle.model.specs.Tests.{if_then_else_}
 use Rattle.model.specs.Answers.{numberOf}
 use Rattle.model.specs.World.{World, Outcome, refuse}
-use Rattle.model.specs.Calls.{noBench, lent, freshOf, setup, stepOf, Call, begin, step, callOf}
+use Rattle.model.specs.Calls.{noBench, lent, freshOf, setup, stepOf, whoOf, Call, begin, step, callOf}
 use Rattle.model.specs.Run.{after}
 use Rattle.model.specs.Counts.{countsOf}
 use Rattle.model.specs.Listing.{
@@ -24,8 +24,10 @@ use Rattle.model.specs.Listing.{
   E,
   F,
   R,
+  Wi,
   T,
   printedBy,
+  printedTally,
   isRefused,
   totals,
   playing,
@@ -36,9 +38,10 @@ use Rattle.model.specs.Listing.{
 }
 use Rattle.theorems.specs.Demand3.{FewPuts}
 
--- WHILE A BENCH IS PLAYED. What lines come to: calls, lines refused 13, and `end`
+-- WHILE A BENCH IS PLAYED. What lines come to: calls, `who`, lines refused 13, and `end`
 pub data Item : Type 0 where
   plays : Call → Item
+  asks : ℕ → Item
   badLine : Item
   endLine : Item
 
@@ -55,13 +58,15 @@ lineItems W (BeginPut v p) = if eqb v (W .bench .words) then plays (begin 0 (Put
 lineItems W BeginTake = plays (begin 0 Take) ∷ []
 lineItems W (BeginSteal i) = plays (begin i Steal) ∷ []
 lineItems W (Steps i m) = stepItems W i m
+lineItems W (Who i) = asks i ∷ []
 lineItems W End = endLine ∷ []
 lineItems W Bad = badLine ∷ []
 
--- THE LIST OF CALLS among them, up to `end`
+-- THE LIST OF CALLS among them, up to `end`; `who` changes nothing and is none
 unfoldable pub callsIn : List Item → List Call
 callsIn [] = []
 callsIn (plays c ∷ is) = c ∷ callsIn is
+callsIn (asks i ∷ is) = callsIn is
 callsIn (badLine ∷ is) = callsIn is
 callsIn (endLine ∷ is) = []
 
@@ -70,11 +75,12 @@ unfoldable pub itemsOf : World → List Command → List Item
 itemsOf W [] = []
 itemsOf W (c ∷ cs) = lineItems W c ++ itemsOf (after W (callsIn (lineItems W c))) cs
 
--- WHAT THEY PRINT: the answer of each call of the list, a 13 for each bad line, and at `end` the counts of what the last call
+-- WHAT THEY PRINT: the answer of each call of the list, what `who` answers there, a 13 for each bad line, and at `end` the counts of what the last call
 -- left, and no more
 unfoldable pub shows : World → List Item → List Print
 shows W [] = []
 shows W (plays c ∷ is) = printedBy (callOf W c) ++ shows (callOf W c .world) is
+shows W (asks i ∷ is) = printedTally i (whoOf W i) ++ shows W is
 shows W (badLine ∷ is) = R (numberOf BadLine) ∷ shows W is
 shows W (endLine ∷ is) = totals (countsOf W) ∷ []
 
@@ -93,6 +99,7 @@ beforeQueue (BeginPut v p) = outOfPlace
 beforeQueue BeginTake = outOfPlace
 beforeQueue (BeginSteal i) = outOfPlace
 beforeQueue (Steps i m) = outOfPlace
+beforeQueue (Who i) = outOfPlace
 beforeQueue End = outOfPlace
 beforeQueue Bad = outOfPlace
 
@@ -137,6 +144,7 @@ lostIn (H i n p) = 0
 lostIn (E i) = 0
 lostIn (F n) = 0
 lostIn (R r) = 0
+lostIn (Wi i n) = 0
 lostIn (T f h d r t l) = l
 
 abbrev pub NoneLostIn : List Print → Type 0

@@ -20,7 +20,7 @@ use Rattle.model.specs.declared.Refusal.the-variants.{NumbersSpent, LogFull, Fo
 use Rattle.model.specs.Tests.{if_then_else_, _and_, _or_}
 use Rattle.model.specs.Lines.{Effect, eff, anchored, lineStep}
 use Rattle.model.specs.World.{World, Outcome, refuse, tagBits, resting, lineAt}
-use Rattle.model.specs.Calls.{logFull, begun, beginIn, beginOf, oneMore, stepped, noRoom, stepIn, stepOf, Call, begin, step, dropLink, callOf}
+use Rattle.model.specs.Calls.{logFull, begun, beginIn, beginOf, raised, stepped, noRoom, stepIn, stepOf, Call, begin, step, dropLink, callOf}
 use Rattle.model.specs.Tasks.{payload, task, wordsIn, wordIn, withWord, gathered}
 use Rattle.model.specs.Answers.{Entry, entry, entryLength, entryWords}
 use Rattle.model.specs.Memory.{wordAt, setWord, setAll, nowhere, offsetAt, lengthAt, sizeAt}
@@ -130,7 +130,7 @@ here κ v w a n wr o θ m lg =
                   links = replicate 8 false;
                 };
             used = n;
-            restarts = 0;
+            restarts = replicate 8 0;
             written = wr;
             workers = record { line = o } ∷ record { line = θ } ∷ replicate 6 resting;
           };
@@ -300,7 +300,7 @@ module _ (w n g wr : ℕ) (θ : Line) (x : ℕ) (rest lg : List ℕ) where
                     crew = D .world .bench .crew;
                     queue = D .world .bench .queue;
                     used = D .world .bench .used;
-                    restarts = if not b then oneMore (W .bench .restarts) else W .bench .restarts;
+                    restarts = if not b then raised (W .bench .restarts) 1 else W .bench .restarts;
                     written = D .world .bench .written;
                     workers = D .world .bench .workers;
                   };

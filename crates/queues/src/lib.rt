@@ -2,14 +2,14 @@
 // a time in the order that the caller chooses. A bench is a value; each call takes it and hands the
 // next one back, beside the store and the log that the caller lends. A call may be handed any state,
 // any numbers and any memory: it is refused where document 01 says so, and then changes nothing.
-// Uses `model`, `answers`, `limits`, `memory`, `state`, `opening`, `events` and `machine`. It is used by `plays`, `calls`, `exercise` and
-// `pace`.
+// Uses `model`, `answers`, `stages`, `limits`, `memory`, `state`, `opening`, `events` and `machine`. It is used by `plays`, `calls`,
+// `exercise` and `pace`.
 ghost use mathlib.Core.Path.{_≡_};
 ghost use mathlib.Core.List.{List};
 ghost use Prim.Native.Nat.{ℕ};
 ghost use Rattle.model.specs.declared.Answer.the-variants.{Refused};
 ghost use Rattle.model.specs.Answers.{numberOf, entryOf};
-ghost use Rattle.model.specs.Calls.{lent, freshOf, beginOf, stepOf, dropLinkOf, frontOf};
+ghost use Rattle.model.specs.Calls.{lent, freshOf, beginOf, stepOf, dropLinkOf, whoOf, frontOf};
 ghost use Rattle.answers.specs.Entries.{asDefined};
 ghost use Rattle.queues.specs.Left.{left};
 use answers::Entry;
@@ -18,6 +18,7 @@ use model::Answer;
 use model::Operation;
 use model::Refusal;
 use model::Setup;
+use model::Tally;
 use model::Worker;
 
 pub struct Bench {
@@ -110,10 +111,20 @@ impl Bench {
         );
         let to = moved.line;
         let made = moved.made;
+        // Most steps change their worker's record alone, a compare that fails its count beside it: they are replaced in place.
         let Made::Nothing = made else {
+            if let Made::Fails = made {
+                let count = stages::one_more(next.restarts[i]);
+                next.restarts[i] = count;
+                let back = Worker { line: to };
+                next.workers[i] = back;
+                return Reply {
+                    bench: Bench { state: next },
+                    answer: Answer::GoesOn,
+                };
+            }
             return reply_of(machine::settled(next, i, to, made));
         };
-        // Most steps change their worker's record alone: it is replaced in place.
         next.workers[i] = Worker { line: to };
         Reply {
             bench: Bench { state: next },
@@ -126,6 +137,13 @@ impl Bench {
         ensures { λ r. ⌜ left r (now (store .entry)) (now (log .entry)) ≡ dropLinkOf (lent (self .state) (now (store .entry)) (now (log .entry))) worker ⌝ }
     {
         reply_of(events::drop_link(self.state, worker, store, log))
+    }
+
+    // A worker's restarts: its compares that failed. Nothing changes.
+    pub fn who(self, worker: u32, store: &[u32], log: &[u32]) -> Tally
+        ensures { λ r. ⌜ r ≡ whoOf (lent (self .state) (now (store .entry)) (now (log .entry))) worker ⌝ }
+    {
+        events::tally(self.state, worker, store, log)
     }
 
     // The written front of the log, a part of the caller's own slice.

@@ -1,29 +1,32 @@
 -- What the calls on a bench leave of the program.
-use Prim.Native.Nat.{ℕ, min}
+use Prim.Native.Nat.{ℕ, _≤_, min}
 use native.Mathlib.Omega.{arith}
 use mathlib.Core.Path.{_≡_, refl, ap, sym, subst, _∙_}
 use mathlib.Core.Bool.{Bool, true, false}
 use mathlib.Core.List.{List, [], _∷_, _++_}
 use lib.ListN.{length, take, drop}
-use borrow.Author.Tests.{eq-eqb, ne-eqb}
+use borrow.Author.Tests.{eq-eqb, ne-eqb, le-ltb}
 use Rattle.model.specs.declared.Setup.{Setup}
 use Rattle.model.specs.declared.Bench.{Bench}
 use Rattle.model.specs.declared.Answer.{Answer}
 use Rattle.model.specs.declared.Answer.the-variants.{Accepted, Numbered, GoesOn, Finished, HandedOut, Empty, Full, Refused}
+use Rattle.model.specs.declared.Refusal.the-variants.{NoSuchWorker}
 use Rattle.model.specs.declared.Payload.{Payload}
 use Rattle.model.specs.declared.Operation.{Operation}
 use Rattle.model.specs.declared.Operation.the-variants.{Put}
 use Rattle.model.specs.declared.Command.{Command}
-use Rattle.model.specs.declared.Command.the-variants.{Steps}
+use Rattle.model.specs.declared.Command.the-variants.{Steps, Who}
+use Rattle.model.specs.declared.Tally.{Tally}
 use Rattle.model.specs.declared.Counts.{Counts}
 use Rattle.model.specs.Tests.{if_then_else_}
 use Rattle.model.specs.World.{World, Outcome}
-use Rattle.model.specs.Calls.{lent, freshOf, beginOf}
+use Rattle.model.specs.Limits.{validOf}
+use Rattle.model.specs.Calls.{lent, freshOf, beginOf, whoOf}
 use Rattle.state.specs.declared.Stop.{Stop}
 use Rattle.state.specs.declared.Stop.the-variants.{No, Why}
 use Rattle.opening.specs.Begins.{BeginStops}
 use Rattle.model.specs.Counts.{countsOf}
-use Rattle.model.specs.Listing.{Program, Response, waiting, playing, ended, printed, isRefused, totals, response, opened, showing, bad, putting, respond}
+use Rattle.model.specs.Listing.{Program, Response, waiting, playing, ended, printed, printedTally, isRefused, totals, response, opened, showing, bad, putting, respond}
 use Rattle.model.proofs.Tests.{if-true, if-false}
 use Rattle.text.specs.Numbers.{lineOf, Placed}
 use Rattle.replies.specs.declared.Progress.the-variants.{Made, Stopped}
@@ -39,7 +42,7 @@ use Rattle.replies.proofs.Ways.{either, never}
 
 -- a session that plays, and one that waits
 abbrev pub live : ℕ → Bench → Session
-live w b = record { live = true; words = w; bench = b }
+live w b = record { live = true; long = w; bench = b }
 
 abbrev pub played : Session → ℕ → Answered
 played s e = record { session = s; end = e; stops = false }
@@ -73,6 +76,12 @@ begun-by s b a i op w n m l e o = subst (λ (x : List ℕ). record { world = len
 pub begin-at-once : (v : Bool) (W : World) (i : ℕ) (op : Operation) (c : Command) (r : Stop) → v ≡ true → BeginStops W i op r → respond (playing W) c ≡ showing (beginOf W i op) → RefusedAtOnce v W c r
 begin-at-once v W i op c No h b e = tt
 begin-at-once v W i op c (Why x) h b e = (h, e ∙ ap showing b)
+
+-- a `who` outside the crew
+pub who-at-once : (W : World) (i : ℕ) (c : Command) → validOf W ≡ true → W .bench .crew ≤ i → c ≡ Who i → respond (playing W) c ≡ response (playing W) (printed (W .bench .words) (Refused NoSuchWorker))
+unfolding respond whoOf
+who-at-once W i c v h e =
+    ap (respond (playing W)) e ∙ ap (λ (t : Tally). response (playing W) (printedTally i t)) (if-true _ v ∙ if-false _ (le-ltb i (W .bench .crew) h))
 
 -- a `put` with as many words as the bench's payloads have, and with another count
 pub put-right : (W : World) (v : ℕ) (p : Payload) → v ≡ W .bench .words → putting W v p ≡ showing (beginOf W 0 (Put p))
@@ -157,8 +166,18 @@ module _ (u : Setup) (w n : ℕ) (m l p : List ℕ) (b : Bench) (a : Answer) (e 
         text = shows;
       }
 
+-- `who`: the restarts on the words that were lent
+pub who-by : (s : Session) (i n : ℕ) (m l : List ℕ) (t : Tally) (e : ℕ) (before : List ℕ) (at : ℕ) (after : List ℕ) → s .live ≡ true → n ≡ min (s .long) (length m) → t ≡ whoOf (lent (s .bench) (take n m) l) i →
+    Placed before at (shownAll (printedTally i t)) e after →
+    AnsweredBy (response (playing (worldOf s m l)) (printedTally i (whoOf (worldOf s m l) i))) (played s e) m l before at after
+who-by s i n m l t e before at after v h f p = record {
+  program = left-on false s m l refl ∙ program-live s m l v;
+  text = subst (λ (x : Tally). Placed before at (shownAll (printedTally i x)) e after)
+      (f ∙ ap (λ (x : List ℕ). whoOf (lent (s .bench) x l) i) (lent-front (s .long) n m h)) p;
+}
+
 -- `end`: the counts of the words that were lent
-pub total-by : (s : Session) (n : ℕ) (m l : List ℕ) (c : Counts) (e : ℕ) (before : List ℕ) (at : ℕ) (after : List ℕ) → n ≡ min (s .words) (length m) → c ≡ countsOf (lent (s .bench) (take n m) l) →
+pub total-by : (s : Session) (n : ℕ) (m l : List ℕ) (c : Counts) (e : ℕ) (before : List ℕ) (at : ℕ) (after : List ℕ) → n ≡ min (s .long) (length m) → c ≡ countsOf (lent (s .bench) (take n m) l) →
     Placed before at (lineOf 84 (c .finished ∷ c .handouts ∷ c .different ∷ c .restarts ∷ c .window ∷ c .lost ∷ [])) e after →
     AnsweredBy (response ended (totals (countsOf (worldOf s m l)) ∷ [])) (record { session = s; end = e; stops = true }) m l before at after
 unfolding if_then_else_ shown
@@ -166,5 +185,5 @@ total-by s n m l c e before at after h f t = record {
   program = refl;
   text = shows-one 84 (totals (countsOf (worldOf s m l))) _ (refl) before at e after
       (subst (λ (x : Counts). Placed before at (lineOf 84 (x .finished ∷ x .handouts ∷ x .different ∷ x .restarts ∷ x .window ∷ x .lost ∷ [])) e after)
-      (f ∙ ap (λ (x : List ℕ). countsOf (lent (s .bench) x l)) (lent-front (s .words) n m h)) t);
+      (f ∙ ap (λ (x : List ℕ). countsOf (lent (s .bench) x l)) (lent-front (s .long) n m h)) t);
 }

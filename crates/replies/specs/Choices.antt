@@ -2,7 +2,7 @@
 use mathlib.Core.Path.{_≡_}
 use mathlib.Core.Bool.{Bool, true}
 use Rattle.model.specs.declared.Command.{Command}
-use Rattle.model.specs.declared.Command.the-variants.{Open, BeginPut, BeginTake, BeginSteal, Steps, End, Bad}
+use Rattle.model.specs.declared.Command.the-variants.{Open, BeginPut, BeginTake, BeginSteal, Steps, Who, End, Bad}
 use Rattle.model.specs.declared.Answer.{Answer}
 use Rattle.model.specs.declared.Answer.the-variants.{Accepted, Numbered, GoesOn, Finished, HandedOut, Empty, Full, Refused}
 use Rattle.model.specs.Tests.{if_then_else_}
@@ -33,6 +33,7 @@ askedOf v (BeginPut n p) = Other
 askedOf v BeginTake = Other
 askedOf v (BeginSteal i) = Other
 askedOf v (Steps i n) = if v then Step i n else Other
+askedOf v (Who i) = Other
 askedOf v End = Other
 askedOf v Bad = Other
 

@@ -15,7 +15,7 @@ use Rattle.replies.specs.Shown.{shownAll}
 
 -- the bench that is played has the store's first words, and the whole log
 abbrev pub worldOf : Session → List ℕ → List ℕ → World
-worldOf s m l = lent (s .bench) (take (s .words) m) l
+worldOf s m l = lent (s .bench) (take (s .long) m) l
 
 abbrev pub programOf : Session → List ℕ → List ℕ → Program
 programOf s m l = if s .live then playing (worldOf s m l) else waiting m l

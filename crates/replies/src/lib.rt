@@ -1,19 +1,20 @@
 // One line of the program's input: what it does to the bench that is played, and what it prints. Of `step` only parts are here;
 // `listing` puts it together.
-// Uses `model`, `answers`, `state`, `opening`, `text` and `counts`. It is used by `listing` and `bench`.
+// Uses `model`, `answers`, `state`, `opening`, `events`, `text` and `counts`. It is used by `listing` and `bench`.
 ghost use mathlib.Core.Path.{_≡_};
 ghost use mathlib.Core.Bool.{true, false};
 ghost use mathlib.Core.List.{List, [], _∷_};
 ghost use Prim.Native.Nat.{ℕ, _+_, _≤_, min};
 ghost use lib.ListN.{length, take};
 ghost use Rattle.model.specs.Limits.{validOf};
-ghost use Rattle.model.specs.Calls.{lent, freshOf, beginOf};
+ghost use Rattle.model.specs.Calls.{lent, freshOf, beginOf, whoOf};
 ghost use Rattle.model.specs.Counts.{countsOf};
 ghost use Rattle.model.specs.Listing.{
   waiting,
   playing,
   ended,
   printed,
+  printedTally,
   totals,
   response,
   opened,
@@ -34,16 +35,17 @@ use model::Operation;
 use model::Payload;
 use model::Refusal;
 use model::Setup;
+use model::Tally;
 use state::Stop;
 
-// Room enough for the text of any line, in bytes: `T` and six counts have 68, and so have `H` and six numbers, after which a `step`
-// can print one answer more. A line is played only where the output has room for it.
-pub const LONGEST: usize = 136;
+// Room enough for the text of any line, in bytes: six numbers of 64 bits behind a letter have 128, and a `step` can print two such
+// lines. A line is played only where the output has room for it.
+pub const LONGEST: usize = 256;
 
-// The program between two lines: whether a `queue` was accepted, and then its bench, on the first `words` words of the store.
+// The program between two lines: whether a `queue` was accepted, and then its bench, on the first `long` words of the store.
 pub struct Session {
     pub live: bool,
-    pub words: u32,
+    pub long: u32,
     pub bench: Bench,
 }
 
@@ -82,16 +84,16 @@ pub fn start() -> Session
     let bench = made.bench;
     Session {
         live: false,
-        words: 0,
+        long: 0,
         bench,
     }
 }
 
 // How many words of the store a bench of so many has.
-pub fn span(words: u32, store: &[u32]) -> usize
-    ensures { λ r. ⌜ r ≡ min words (length (now (store .entry))) ⌝ }
+pub fn span(long: u32, store: &[u32]) -> usize
+    ensures { λ r. ⌜ r ≡ min long (length (now (store .entry))) ⌝ }
 {
-    let n = words as usize;
+    let n = long as usize;
     if n < store.len() {
         return n;
     }
@@ -108,21 +110,38 @@ pub fn show(words: u32, answer: Answer, out: &mut [u8], at: usize) -> usize
         Answer::Numbered { number: _ } => at,
         Answer::GoesOn => at,
         Answer::Finished { worker: _, task } => {
-            let v = [task.number];
+            let v = [task.number as u64];
             text::print(out, at, b'D', &v)
         }
         Answer::HandedOut { worker, task } => text::print_out(out, at, words, worker, task),
         Answer::Empty { worker } => {
-            let v = [worker];
+            let v = [worker as u64];
             text::print(out, at, b'E', &v)
         }
         Answer::Full { worker: _, task } => {
-            let v = [task.number];
+            let v = [task.number as u64];
             text::print(out, at, b'F', &v)
         }
         Answer::Refused { why } => {
-            let v = [answers::number_of(why)];
+            let v = [answers::number_of(why) as u64];
             text::print(out, at, b'R', &v)
+        }
+    }
+}
+
+// The same for what asking for a worker's restarts prints.
+fn show_tally(worker: u32, tally: Tally, out: &mut [u8], at: usize) -> usize
+    requires { ⌜ at + 128 ≤ length (now out) ⌝ }
+    ensures { λ r. ⌜ Placed (now (out .entry)) at (shownAll (printedTally worker tally)) r (now (out .exit)) ⌝ }
+{
+    match tally {
+        Tally::Counted { restarts } => {
+            let v = [worker as u64, restarts as u64];
+            text::print(out, at, b'W', &v)
+        }
+        Tally::Refused { why } => {
+            let answer = Answer::Refused { why };
+            show(0, answer, out, at)
         }
     }
 }
@@ -144,7 +163,7 @@ fn progress_of(answer: Answer) -> Progress
 
 // A line of no form, or out of place: 13.
 fn refuse(session: Session, out: &mut [u8], at: usize) -> Answered
-    requires { ⌜ at + 136 ≤ length (now out) ⌝ }
+    requires { ⌜ at + 256 ≤ length (now out) ⌝ }
     ensures { λ r. ⌜ ((m l : List ℕ) → AnsweredBy (bad (programOf session m l)) r m l (now (out .entry)) at (now (out .exit))) ⌝ }
 {
     let why = Refusal::BadLine;
@@ -158,24 +177,24 @@ fn refuse(session: Session, out: &mut [u8], at: usize) -> Answered
     }
 }
 
-// `queue`: a bench on the first `words` words of the store. Refused, it leaves the program waiting.
+// `queue`: a bench on the first `long` words of the store. Refused, it leaves the program waiting.
 fn open_queue(
     session: Session,
     setup: Setup,
-    words: u32,
+    long: u32,
     store: &mut [u32],
     out: &mut [u8],
     at: usize,
 ) -> Answered
-    requires { ⌜ (at + 136 ≤ length (now out)) × (session .live ≡ false) ⌝ }
+    requires { ⌜ (at + 256 ≤ length (now out)) × (session .live ≡ false) ⌝ }
     ensures { λ r.
         ⌜
         ((l : List ℕ) →
-        AnsweredBy (opened (waiting (now (store .entry)) l) (freshOf setup (take words (now (store .entry))) l))
+        AnsweredBy (opened (waiting (now (store .entry)) l) (freshOf setup (take long (now (store .entry))) l))
         r (now (store .exit)) l (now (out .entry)) at (now (out .exit)))
         ⌝ }
 {
-    let n = span(words, store);
+    let n = span(long, store);
     let made = opening::fresh(setup, &mut store[..n]);
     let answer = made.answer;
     let bench = made.bench;
@@ -188,7 +207,7 @@ fn open_queue(
         };
     };
     let live = true;
-    let next = Session { live, words, bench };
+    let next = Session { live, long, bench };
     Answered {
         session: next,
         end,
@@ -206,15 +225,15 @@ fn begin(
     out: &mut [u8],
     at: usize,
 ) -> Answered
-    requires { ⌜ at + 136 ≤ length (now out) ⌝ }
+    requires { ⌜ at + 256 ≤ length (now out) ⌝ }
     ensures { λ r.
         ⌜
         AnsweredBy (showing (beginOf (worldOf session (now (store .entry)) (now (log .entry))) worker operation))
         r (now (store .entry)) (now (log .entry)) (now (out .entry)) at (now (out .exit))
         ⌝ }
 {
-    let words = session.words;
-    let n = span(words, store);
+    let long = session.long;
+    let n = span(long, store);
     let bench = session.bench;
     let begun = opening::begin(bench, worker, operation, &store[..n], log);
     let answer = begun.answer;
@@ -222,7 +241,7 @@ fn begin(
     let end = show(next.words, answer, out, at);
     let after = Session {
         live: true,
-        words,
+        long,
         bench: next,
     };
     Answered {
@@ -242,7 +261,7 @@ fn put(
     out: &mut [u8],
     at: usize,
 ) -> Answered
-    requires { ⌜ (at + 136 ≤ length (now out)) × (session .live ≡ true) ⌝ }
+    requires { ⌜ (at + 256 ≤ length (now out)) × (session .live ≡ true) ⌝ }
     ensures { λ r.
         ⌜
         AnsweredBy (putting (worldOf session (now (store .entry)) (now (log .entry))) words payload)
@@ -257,25 +276,52 @@ fn put(
     refuse(session, out, at)
 }
 
+// `who`: a worker's restarts. Nothing changes.
+fn who(
+    session: Session,
+    worker: u32,
+    store: &[u32],
+    log: &[u32],
+    out: &mut [u8],
+    at: usize,
+) -> Answered
+    requires { ⌜ (at + 256 ≤ length (now out)) × (session .live ≡ true) ⌝ }
+    ensures { λ r.
+        ⌜
+        AnsweredBy (response (playing (worldOf session (now (store .entry)) (now (log .entry)))) (printedTally worker (whoOf (worldOf session (now (store .entry)) (now (log .entry))) worker)))
+        r (now (store .entry)) (now (log .entry)) (now (out .entry)) at (now (out .exit))
+        ⌝ }
+{
+    let n = span(session.long, store);
+    let bench = session.bench;
+    let tally = events::tally(bench, worker, &store[..n], log);
+    let end = show_tally(worker, tally, out, at);
+    Answered {
+        session,
+        end,
+        stops: false,
+    }
+}
+
 // `end`: the six counts.
 fn total(session: Session, store: &[u32], log: &[u32], out: &mut [u8], at: usize) -> Answered
-    requires { ⌜ at + 136 ≤ length (now out) ⌝ }
+    requires { ⌜ at + 256 ≤ length (now out) ⌝ }
     ensures { λ r.
         ⌜
         AnsweredBy (response ended (totals (countsOf (worldOf session (now (store .entry)) (now (log .entry)))) ∷ []))
         r (now (store .entry)) (now (log .entry)) (now (out .entry)) at (now (out .exit))
         ⌝ }
 {
-    let n = span(session.words, store);
+    let n = span(session.long, store);
     let bench = session.bench;
     let c = counts::counts(bench, &store[..n], log);
     let v = [
-        c.finished,
-        c.handouts,
-        c.different,
+        c.finished as u64,
+        c.handouts as u64,
+        c.different as u64,
         c.restarts,
-        c.window,
-        c.lost,
+        c.window as u64,
+        c.lost as u64,
     ];
     let end = text::print(out, at, b'T', &v);
     Answered {
@@ -293,7 +339,7 @@ fn play_waiting(
     out: &mut [u8],
     at: usize,
 ) -> Answered
-    requires { ⌜ (at + 136 ≤ length (now out)) × (session .live ≡ false) ⌝ }
+    requires { ⌜ (at + 256 ≤ length (now out)) × (session .live ≡ false) ⌝ }
     ensures { λ r.
         ⌜
         ((l : List ℕ) →
@@ -331,7 +377,7 @@ fn play_live(
     out: &mut [u8],
     at: usize,
 ) -> Answered
-    requires { ⌜ (at + 136 ≤ length (now out)) × (session .live ≡ true) ⌝ }
+    requires { ⌜ (at + 256 ≤ length (now out)) × (session .live ≡ true) ⌝ }
     requires { ⌜ askedOf true command ≡ Other ⌝ }
     ensures { λ r.
         ⌜
@@ -349,6 +395,7 @@ fn play_live(
             let operation = Operation::Steal;
             begin(session, worker, operation, store, log, out, at)
         }
+        Command::Who { worker } => who(session, worker, store, log, out, at),
         Command::End => total(session, store, log, out, at),
         // another `queue`, or no line of the form
         _ => refuse(session, out, at),
@@ -364,7 +411,7 @@ pub fn play(
     out: &mut [u8],
     at: usize,
 ) -> Answered
-    requires { ⌜ at + 136 ≤ length (now out) ⌝ }
+    requires { ⌜ at + 256 ≤ length (now out) ⌝ }
     requires { ⌜ askedOf (session .live) command ≡ Other ⌝ }
     ensures { λ r.
         ⌜
@@ -402,6 +449,7 @@ pub fn ask(live: bool, command: Command) -> Asked
             }
             Asked::Other
         }
+        Command::Who { worker: _ } => Asked::Other,
         Command::End => Asked::Other,
         Command::Bad => Asked::Other,
     }
@@ -447,6 +495,14 @@ pub fn refused_at_once(live: bool, bench: Bench, command: Command) -> Stop
             worker: _,
             times: _,
         } => Stop::No,
+        Command::Who { worker } => {
+            if bench.crew <= worker {
+                return Stop::Why {
+                    why: Refusal::NoSuchWorker,
+                };
+            }
+            Stop::No
+        }
         Command::End => Stop::No,
         Command::Bad => Stop::Why {
             why: Refusal::BadLine,

@@ -74,7 +74,7 @@ pub fn made(kind: Kind, linked: bool, width: u32, size: u32, crew: u32, words: u
             links: [false; 8],
         },
         used: 0,
-        restarts: 0,
+        restarts: [0; 8],
         written: 0,
         workers: [Worker { line: Line::Idle }; 8],
     }

@@ -17,7 +17,7 @@ use Rattle.text.specs.declared.Value.the-variants.{No, Of}
 use Rattle.text.specs.declared.Key as key
 use Rattle.text.specs.declared.Key.{Key}
 use Rattle.model.specs.declared.Command.the-variants.{Bad}
-use Rattle.text.proofs.Lists.{next, done}
+use Rattle.text.proofs.Lists.{next, done, if-false}
 use Rattle.text.proofs.Split.{split, rest-space, rest-none, rest-at, space-at, first-fits}
 
 pub count-is : (v : List ℕ) (n m : ℕ) → n ≤ length v → n ≡ m → eqb (length (take n v)) m ≡ true
@@ -76,6 +76,7 @@ long key.the-variants.Put v h = rw (le-leb 1 (length v) (omega arith), lt-leb (l
 long key.the-variants.Take v h = rw (ne-eqb (length v) 0 (λ e. omega arith))
 long key.the-variants.Steal v h = rw (ne-eqb (length v) 1 (λ e. omega arith))
 long key.the-variants.Step v h = rw (ne-eqb (length v) 2 (λ e. omega arith))
+long key.the-variants.Who v h = if-false _ _ _ (ne-eqb (length v) _ (λ e. omega arith))
 long key.the-variants.End v h = rw (ne-eqb (length v) 0 (λ e. omega arith))
 
 too-many : (k : Key) (l : List ℕ) (x : Value) (vs : Values) → length l ≡ 6 → formedOf k (prefixed l (joined x vs)) ≡ Bad

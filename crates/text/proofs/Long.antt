@@ -120,6 +120,7 @@ key-long w h =
       differ w (116 ∷ 97 ∷ 107 ∷ 101 ∷ []) (λ e. omega arith),
       differ w (115 ∷ 116 ∷ 101 ∷ 97 ∷ 108 ∷ []) (λ e. omega arith),
       differ w (115 ∷ 116 ∷ 101 ∷ 112 ∷ []) (λ e. omega arith),
+      differ w (119 ∷ 104 ∷ 111 ∷ []) (λ e. omega arith),
       differ w (101 ∷ 110 ∷ 100 ∷ []) (λ e. omega arith),
     )
 

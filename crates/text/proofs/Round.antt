@@ -13,7 +13,7 @@ use Rattle.text.specs.Words.{onto, words, head, tail}
 use Rattle.text.specs.Commands.{these, joined, values, formed, formedOf, keyOf, commandOf, Small, textOf, shortText, payloadOf, firstOf, InRange}
 use Rattle.text.specs.declared.Key as key
 use Rattle.model.specs.declared.Payload.{Payload}
-use Rattle.model.specs.declared.Command.the-variants.{Bad, BeginPut, BeginSteal, BeginTake, End, Open, Steps}
+use Rattle.model.specs.declared.Command.the-variants.{Bad, BeginPut, BeginSteal, BeginTake, End, Open, Steps, Who}
 use Rattle.model.specs.declared.Command.{Command}
 use Rattle.text.proofs.Lists.{if-false, and-left, and-right}
 use Rattle.text.proofs.Split.{split}
@@ -54,7 +54,7 @@ unfolding spacedOf texts words head tail
 spaced-words [] h = refl
 spaced-words (n ∷ ns) h =
     words-space (decimalOf n ++ spacedOf ns) ∙ ap (λ (l : List (List ℕ)). [] ∷ l)
-    (digits-words (decimalOf n) (spacedOf ns) (decimal-digits n (h .0))
+    (digits-words (decimalOf n) (spacedOf ns) (decimal-digits n (omega (arith, h .0)))
     ∙ ap (λ (l : List (List ℕ)). (decimalOf n ++ head l) ∷ tail l) (spaced-words ns (h .1)) ∙ ap (λ (l : List ℕ). l ∷ texts ns) (append-nil (decimalOf n)))
 
 texts-values : (ns : List ℕ) → Small ns → values (texts ns) ≡ these ns
@@ -90,6 +90,7 @@ read-text (BeginSteal i) h = read-words _ (115 ∷ 116 ∷ 101 ∷ 97 ∷ 108 �
 read-text (Steps i m) h =
     let small : Small (i ∷ m ∷ []) = (h .0, (omega (arith, h .1), tt)) in
     read-words _ (115 ∷ 116 ∷ 101 ∷ 112 ∷ []) (i ∷ m ∷ []) (rw (spaced-words (i ∷ m ∷ []) small)) small ∙ rw (le-leb m 65535 (h .1))
+read-text (Who i) h = read-words _ (119 ∷ 104 ∷ 111 ∷ []) (i ∷ []) (rw (spaced-words (i ∷ []) (h, tt))) (h, tt)
 read-text End h = read-words _ (101 ∷ 110 ∷ 100 ∷ []) [] refl tt
 
 -- So does the shorter line of a queue with one payload word.

@@ -42,11 +42,11 @@ spare (suc k) n h = below n
 
 pub decimal-short : (n : ℕ) → n < 10 → decimalOf n ≡ (48 + n) ∷ []
 unfolding decimalOf
-decimal-short n h = short 9 n h
+decimal-short n h = short _ n h
 
-pub decimal-long : (n : ℕ) → 10 ≤ n → n < 2 ^ 32 → decimalOf n ≡ decimalOf (n / 10) ++ ((48 + n % 10) ∷ [])
+pub decimal-long : (n : ℕ) → 10 ≤ n → n < 2 ^ 64 → decimalOf n ≡ decimalOf (n / 10) ++ ((48 + n % 10) ∷ [])
 unfolding decimalOf
-decimal-long n h k = longer 9 n h ∙ ap (λ s. s ++ ((48 + n % 10) ∷ [])) (sym (spare 8 (n / 10) (omega arith)))
+decimal-long n h k = longer _ n h ∙ ap (λ s. s ++ ((48 + n % 10) ∷ [])) (sym (spare _ (n / 10) (omega arith)))
 
 spelled-most : (k n : ℕ) → length (spelled k n) ≤ k
 unfolding spelled
@@ -55,10 +55,10 @@ spelled-most (suc k) n = below n
     (λ l. rw (short k n l) (omega arith))
     (λ l. rw (longer k n l, length-append) (let h = spelled-most k (n / 10) in omega arith))
 
--- a number takes at most ten bytes
-pub decimal-most : (n : ℕ) → length (decimalOf n) ≤ 10
+-- a number takes at most twenty bytes
+pub decimal-most : (n : ℕ) → length (decimalOf n) ≤ 20
 unfolding decimalOf
-decimal-most n = spelled-most 10 n
+decimal-most n = spelled-most 20 n
 
 -- text behind text
 pub placed-more : (b : List ℕ) (at : ℕ) (t : List ℕ) (e : ℕ) (a : List ℕ) (u : List ℕ) (f : ℕ) (z : List ℕ) → Placed b at t e a → Placed a e u f z → Placed b at (t ++ u) f z
@@ -126,7 +126,7 @@ spells (suc k) n h = below n
 pub read-back : (n : ℕ) → n ≤ 4294967295 → valueOf (decimalOf n) ≡ Of n
 unfolding valueOf decimalOf _and_ if_then_else_
 read-back n h =
-    let s = spells 9 n (omega arith) in
+    let s = spells 19 n (omega arith) in
     rw (s .one, s .digits, s .value, le-leb n 4294967295 h)
 
 pub spaced-append : (ns ms : List ℕ) → spacedOf (ns ++ ms) ≡ spacedOf ns ++ spacedOf ms
@@ -181,25 +181,26 @@ room x ns i h =
 pub placed-length : (b : List ℕ) (at : ℕ) (t : List ℕ) (e : ℕ) (a : List ℕ) → Placed b at t e a → length a ≡ length b
 placed-length b at t e a p = ap length (p .put) ∙ lib.Seq.length-sets b at t
 
--- a line takes at most 11 bytes for each number, and two
-pub line-most : (x : ℕ) (ns : List ℕ) → length (lineOf x ns) ≤ 2 + 11 * length ns
+-- a line takes at most 21 bytes for each number, and two
+pub line-most : (x : ℕ) (ns : List ℕ) → length (lineOf x ns) ≤ 2 + 21 * length ns
 line-most x ns = omega (arith, line-length x ns, spaced-most ns)
   where
-    spaced-most : (ms : List ℕ) → length (spacedOf ms) ≤ 11 * length ms
+    spaced-most : (ms : List ℕ) → length (spacedOf ms) ≤ 21 * length ms
     spaced-most [] = unfold spacedOf in omega arith
     spaced-most (m ∷ ms) = let h = spaced-most ms in omega (arith, spaced-length m ms, decimal-most m)
 
-pub line-fits : (x : ℕ) (ns : List ℕ) (at n : ℕ) → at + 72 ≤ n → length ns ≤ 6 → at + length (lineOf x ns) ≤ n
+pub line-fits : (x : ℕ) (ns : List ℕ) (at n : ℕ) → at + 128 ≤ n → length ns ≤ 6 → at + length (lineOf x ns) ≤ n
 line-fits x ns at n h k = omega (arith, line-most x ns)
 
-pub decimal-digits : (n : ℕ) → n ≤ 4294967295 → allDigits (decimalOf n) ≡ true
+-- What is printed of a number that 64 bits hold is that number: digits alone, no `0` in front of another, and the number's value.
+pub decimal-digits : (n : ℕ) → n < 2 ^ 64 → allDigits (decimalOf n) ≡ true
 unfolding decimalOf
-decimal-digits n h = spells 9 n (omega arith) .digits
+decimal-digits n h = spells 19 n (omega arith) .digits
 
-pub decimal-plain : (n : ℕ) → n ≤ 4294967295 → plain (decimalOf n) ≡ true
+pub decimal-plain : (n : ℕ) → n < 2 ^ 64 → plain (decimalOf n) ≡ true
 unfolding decimalOf
-decimal-plain n h = spells 9 n (omega arith) .one
+decimal-plain n h = spells 19 n (omega arith) .one
 
-pub decimal-value : (n : ℕ) → n ≤ 4294967295 → onward 0 (decimalOf n) ≡ n
+pub decimal-value : (n : ℕ) → n < 2 ^ 64 → onward 0 (decimalOf n) ≡ n
 unfolding decimalOf
-decimal-value n h = spells 9 n (omega arith) .value
+decimal-value n h = spells 19 n (omega arith) .value

@@ -106,7 +106,8 @@ number-is w n q = go (plain w and allDigits w and leb (onward 0 w) 4294967295) r
         let v : onward 0 w ≡ n = cc in
         let m : onward 0 w ≤ 4294967295 = leb-true _ _ (and-right (allDigits w) _ (and-right (plain w) _ e)) in
         let k : n ≤ 4294967295 = omega arith in
-        (one-text w (decimalOf n) (and-left _ _ e) (and-left _ _ (and-right (plain w) _ e)) (decimal-plain n k) (decimal-digits n k) (v ∙ sym (decimal-value n k)), k)
+        let fits : n < 2 ^ 64 = omega arith in
+        (one-text w (decimalOf n) (and-left _ _ e) (and-left _ _ (and-right (plain w) _ e)) (decimal-plain n fits) (decimal-digits n fits) (v ∙ sym (decimal-value n fits)), k)
 
 -- the words put together again
 unfoldable glue : List (List ℕ) → List ℕ
@@ -165,13 +166,15 @@ Named w key.the-variants.Put = w ≡ 112 ∷ 117 ∷ 116 ∷ []
 Named w key.the-variants.Take = w ≡ 116 ∷ 97 ∷ 107 ∷ 101 ∷ []
 Named w key.the-variants.Steal = w ≡ 115 ∷ 116 ∷ 101 ∷ 97 ∷ 108 ∷ []
 Named w key.the-variants.Step = w ≡ 115 ∷ 116 ∷ 101 ∷ 112 ∷ []
+Named w key.the-variants.Who = w ≡ 119 ∷ 104 ∷ 111 ∷ []
 Named w key.the-variants.End = w ≡ 101 ∷ 110 ∷ 100 ∷ []
 
 named : (w : List ℕ) → Named w (keyOf w)
 unfolding keyOf
 named w =
     pick (Named w) _ _ _ (same-is w _) (pick (Named w) _ _ _ (same-is w _) (pick (Named w) _ _ _ (same-is w _)
-    (pick (Named w) _ _ _ (same-is w _) (pick (Named w) _ _ _ (same-is w _) (pick (Named w) _ _ _ (same-is w _) tt)))))
+    (pick (Named w) _ _ _ (same-is w _) (pick (Named w) _ _ _ (same-is w _) (pick (Named w) _ _ _ (same-is w _)
+    (pick (Named w) _ _ _ (same-is w _) tt))))))
 
 none : (v : List ℕ) → eqb (length v) 0 ≡ true → v ≡ []
 none v e = let q : length v ≡ 0 = eqb-true _ _ e in done v 0 (omega arith)
@@ -250,6 +253,9 @@ says h v key.the-variants.Steal n s = pick (Says (h ++ spacedOf v)) _ _ _ (λ e.
 says h v key.the-variants.Step n s = pick (Says (h ++ spacedOf v)) _ _ _ (λ e.
     let f = two v (and-left _ _ e) in let t : Small (getD v 0 0 ∷ getD v 1 0 ∷ []) = subst Small f s in
     (ap (λ (l : List ℕ). l ++ spacedOf v) n ∙ ap (λ (l : List ℕ). 115 ∷ 116 ∷ 101 ∷ 112 ∷ spacedOf l) f, (t .0, leb-true _ _ (and-right (eqb (length v) 2) _ e)))) tt
+says h v key.the-variants.Who n s = pick (Says (h ++ spacedOf v)) _ _ _ (λ e.
+    let f = one v e in let t : Small (getD v 0 0 ∷ []) = subst Small f s in
+    (ap (λ (l : List ℕ). l ++ spacedOf v) n ∙ ap (λ (l : List ℕ). 119 ∷ 104 ∷ 111 ∷ spacedOf l) f, t .0)) tt
 says h v key.the-variants.End n s = pick (Says (h ++ spacedOf v)) _ _ _ (λ e.
     (ap (λ (l : List ℕ). l ++ spacedOf v) n ∙ ap (λ (l : List ℕ). 101 ∷ 110 ∷ 100 ∷ spacedOf l) (none v e) ∙ unfold spacedOf in refl, tt)) tt
 

@@ -16,10 +16,10 @@ use Rattle.text.specs.declared.Value.{Value}
 use Rattle.text.specs.declared.Value.the-variants.{No, Of}
 use Rattle.text.specs.declared.Key as key
 use Rattle.text.specs.declared.Key.{Key}
-use Rattle.model.specs.declared.Command.the-variants.{Bad, BeginPut, BeginSteal, BeginTake, End, Open, Steps}
+use Rattle.model.specs.declared.Command.the-variants.{Bad, BeginPut, BeginSteal, BeginTake, End, Open, Steps, Who}
 use Rattle.model.specs.declared.Command.{Command}
 
--- the word that a line begins with: queue, put, take, steal, step or end
+-- the word that a line begins with: queue, put, take, steal, step, who or end
 unfoldable pub keyOf : List ℕ → Key
 keyOf w =
     if same w (bytes "queue") then key.the-variants.Queue else
@@ -27,7 +27,8 @@ keyOf w =
     (if same w (bytes "take") then key.the-variants.Take else
     (if same w (bytes "steal") then key.the-variants.Steal else
     (if same w (bytes "step") then key.the-variants.Step else
-    (if same w (bytes "end") then key.the-variants.End else key.the-variants.Other)))))
+    (if same w (bytes "who") then key.the-variants.Who else
+    (if same w (bytes "end") then key.the-variants.End else key.the-variants.Other))))))
 
 -- the words after it: a list of numbers, or not
 pub data Values : Type 0 where
@@ -67,6 +68,7 @@ formed key.the-variants.Step v =
     if eqb (length v) 2 and leb (getD v 1 0) 65535
     then Steps (getD v 0 0) (getD v 1 0)
     else Bad
+formed key.the-variants.Who v = if eqb (length v) 1 then Who (getD v 0 0) else Bad
 formed key.the-variants.End v = if eqb (length v) 0 then End else Bad
 
 unfoldable pub formedOf : Key → Values → Command
@@ -89,6 +91,7 @@ textOf (BeginPut v p) = bytes "put" ++ spacedOf (firstOf v p)
 textOf BeginTake = bytes "take"
 textOf (BeginSteal i) = bytes "steal" ++ spacedOf (i ∷ [])
 textOf (Steps i m) = bytes "step" ++ spacedOf (i ∷ m ∷ [])
+textOf (Who i) = bytes "who" ++ spacedOf (i ∷ [])
 textOf End = bytes "end"
 
 -- `queue` with one payload word, which need not be said
@@ -104,6 +107,7 @@ InRange (BeginPut v p) = (1 ≤ v) × (v ≤ 4) × (p ≡ payloadOf (firstOf v p
 InRange BeginTake = Unit {0}
 InRange (BeginSteal i) = i ≤ 4294967295
 InRange (Steps i m) = (i ≤ 4294967295) × (m ≤ 65535)
+InRange (Who i) = i ≤ 4294967295
 InRange End = Unit {0}
 
 -- the line l says the command; nothing is said of a bad line
@@ -115,4 +119,5 @@ Says l (BeginPut v p) = (l ≡ textOf (BeginPut v p)) × InRange (BeginPut v p)
 Says l BeginTake = (l ≡ textOf BeginTake) × InRange BeginTake
 Says l (BeginSteal i) = (l ≡ textOf (BeginSteal i)) × InRange (BeginSteal i)
 Says l (Steps i m) = (l ≡ textOf (Steps i m)) × InRange (Steps i m)
+Says l (Who i) = (l ≡ textOf (Who i)) × InRange (Who i)
 Says l End = (l ≡ textOf End) × InRange End

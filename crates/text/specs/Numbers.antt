@@ -1,4 +1,5 @@
--- Numbers as text: in base ten, without a sign or a leading zero; zero is `0`; up to 4,294,967,295.
+-- Numbers as text: in base ten, without a sign or a leading zero; zero is `0`. A number is read up to 4,294,967,295, and printed up
+-- to what 64 bits hold.
 use Prim.Native.Nat.{ℕ, zero, suc, _+_, _-_, _*_, _/_, _%_}
 use mathlib.Core.Bool.{Bool, true, false, not}
 use mathlib.Core.List.{List, [], _∷_, _++_}
@@ -41,9 +42,9 @@ spelled (suc k) n =
     then (48 + n) ∷ []
     else (spelled k (n / 10) ++ ((48 + n % 10) ∷ []))
 
--- n as text: ten digits are enough
+-- n as text: twenty digits are enough for 64 bits
 unfoldable pub decimalOf : ℕ → List ℕ
-decimalOf n = spelled 10 n
+decimalOf n = spelled 20 n
 
 -- each number, behind a space
 unfoldable pub spacedOf : List ℕ → List ℕ

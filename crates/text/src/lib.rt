@@ -27,6 +27,7 @@ pub enum Key {
     Take,
     Steal,
     Step,
+    Who,
     End,
 }
 
@@ -122,6 +123,9 @@ pub fn keyword(word: &[u8]) -> Key
     if same(word, b"step") {
         return Key::Step;
     }
+    if same(word, b"who") {
+        return Key::Who;
+    }
     if same(word, b"end") {
         return Key::End;
     }
@@ -207,6 +211,12 @@ fn form(key: Key, n: usize, v: [u32; 6]) -> Command
                 times,
             }
         }
+        Key::Who => {
+            if n != 1 {
+                return Command::Bad;
+            }
+            Command::Who { worker: v[0] }
+        }
         Key::End => {
             if n != 0 {
                 return Command::Bad;
@@ -241,7 +251,7 @@ pub fn parse(line: &[u8]) -> Command
 }
 
 // Puts n's digits into out from at on, and answers where they end.
-pub fn decimal(out: &mut [u8], at: usize, n: u32) -> usize
+pub fn decimal(out: &mut [u8], at: usize, n: u64) -> usize
     requires { ⌜ at + length (decimalOf n) ≤ length (now out) ⌝ }
     ensures { λ r. ⌜ Placed (now (out .entry)) at (decimalOf n) r (now (out .exit)) ⌝ }
 {
@@ -255,7 +265,7 @@ pub fn decimal(out: &mut [u8], at: usize, n: u32) -> usize
     end + 1
 }
 
-fn digit(d: u32) -> u8
+fn digit(d: u64) -> u8
     requires { ⌜ d < 10 ⌝ }
     ensures { λ r. ⌜ r ≡ 48 + d ⌝ }
 {
@@ -263,7 +273,7 @@ fn digit(d: u32) -> u8
 }
 
 // Puts a line of output into out from at on, and answers where it ends.
-pub fn print(out: &mut [u8], at: usize, letter: u8, values: &[u32]) -> usize
+pub fn print(out: &mut [u8], at: usize, letter: u8, values: &[u64]) -> usize
     requires { ⌜ at + length (lineOf letter (now values)) ≤ length (now out) ⌝ }
     ensures { λ r. ⌜ Placed (now (out .entry)) at (lineOf letter (now (values .entry))) r (now (out .exit)) ⌝ }
 {
@@ -285,7 +295,14 @@ pub fn print_out(out: &mut [u8], at: usize, words: u32, worker: u32, task: Task)
     ensures { λ r. ⌜ Placed (now (out .entry)) at (lineOf 72 (outValues words worker task)) r (now (out .exit)) ⌝ }
 {
     let p = task.payload;
-    let v = [worker, task.number, p.first, p.second, p.third, p.fourth];
+    let v = [
+        worker as u64,
+        task.number as u64,
+        p.first as u64,
+        p.second as u64,
+        p.third as u64,
+        p.fourth as u64,
+    ];
     if words < 4 {
         let n = 2 + words as usize;
         return print(out, at, b'H', &v[..n]);

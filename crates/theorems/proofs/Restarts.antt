@@ -1,8 +1,13 @@
 -- Restarts are compares that fail; only these leave a thief at its line 1.
-use mathlib.Core.Path.{_≡_, refl}
+use mathlib.Core.Path.{_≡_, refl, sym, subst}
 use mathlib.Core.Bool.{Bool, true, false, not}
-use Prim.Native.Nat.{ℕ, _+_, _-_}
+use mathlib.Core.List.{List}
+use Prim.Native.Nat.{ℕ, _+_, _-_, _<_}
+use native.Mathlib.Omega.{arith}
 use lib.Dec.{eqb}
+use lib.ListN.{length}
+use lib.Seq.{getD-set-same, getD-set-other}
+use borrow.Author.Tests.{eqb-true, eqb-false}
 use Rattle.model.specs.declared.Kind.{Kind}
 use Rattle.model.specs.declared.Kind.the-variants.{Lifo, Fifo, Deque}
 use Rattle.model.specs.declared.Line.{Line}
@@ -34,11 +39,11 @@ use Rattle.model.specs.declared.Task.{Task}
 use Rattle.model.specs.declared.Anchor.{Anchor}
 use Rattle.model.specs.declared.Refusal.{Refusal}
 use Rattle.model.specs.declared.Answer.the-variants.{Refused}
-use Rattle.model.specs.Tests.{if_then_else_}
+use Rattle.model.specs.Tests.{if_then_else_, _and_}
 use Rattle.model.specs.Figures.{isFull, isEmpty, putRead, takeRead, stealRead, note, stealLast}
 use Rattle.model.specs.Lines.{Effect, size, fits, succeeds, lineStep, failsCompare}
 use Rattle.model.specs.World.{Outcome, lineAt, isSteal1}
-use Rattle.model.specs.Calls.{oneMore}
+use Rattle.model.specs.Calls.{oneMore, restartsOf, raised}
 use Rattle.theorems.specs.Restarts.{RestartsAreFailedCompares, BackToLine1}
 use Rattle.theorems.proofs.Cases.{step-cases}
 
@@ -109,12 +114,28 @@ back-to-line-1 κ w ω q m i (StealWord r k t j) = either (eqb j ω) (stealLast 
 back-to-line-1 κ w ω q m i (StealNext r t) = refl
 back-to-line-1 κ w ω q m i (StealCompare r e t) = back (succeeds κ q i r) _ _ refl refl
 
+-- one worker's count raised, or none
+counted : (ns : List ℕ) (i k : ℕ) (x : Bool) → i < length ns
+    → restartsOf (if x then raised ns i else ns) k ≡ (if eqb k i and x then oneMore (restartsOf ns k) else restartsOf ns k)
+unfolding if_then_else_ _and_
+counted ns i k x h = go x (eqb k i) refl
+  where
+    go : (y b : Bool) → eqb k i ≡ b → restartsOf (if y then raised ns i else ns) k ≡ (if b and y then oneMore (restartsOf ns k) else restartsOf ns k)
+    go true true e =
+        subst (λ (j : ℕ). restartsOf (raised ns i) j ≡ oneMore (restartsOf ns j)) (sym (eqb-true k i e))
+        (getD-set-same ns i (oneMore (restartsOf ns i)) 0 h)
+    go true false e = getD-set-other ns i k (oneMore (restartsOf ns i)) 0 (λ q. absurd (omega (arith, eqb-false k i e, q)))
+    go false true e = refl
+    go false false e = refl
+
 pub restarts-are-failed-compares : RestartsAreFailedCompares
-restarts-are-failed-compares W i =
+restarts-are-failed-compares W i k n =
     step-cases
     (λ (D : Outcome).
     ((r : Refusal) → D .answer ≡ Refused r → ⊥)
-    → D .world .bench .restarts
-    ≡ (if failsCompare (W .bench .kind) (W .bench .queue) i (lineAt (W .bench .workers) i) then oneMore (W .bench .restarts) else W .bench .restarts))
+    → restartsOf (D .world .bench .restarts) k
+    ≡ (if eqb k i and failsCompare (W .bench .kind) (W .bench .queue) i (lineAt (W .bench .workers) i)
+    then oneMore (restartsOf (W .bench .restarts) k)
+    else restartsOf (W .bench .restarts) k))
     W (λ r l f. absurd (f r refl)) i
-    (λ M f. refl)
+    (λ M f. counted (W .bench .restarts) i k _ (omega (arith, M .member, n)))

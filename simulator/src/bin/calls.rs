@@ -1,20 +1,21 @@
 //! Plays a list of library calls and prints their answers.
 //!
-//!     calls [--demand3] < list > answers
+//!     calls [--check] < list > answers
 //!
 //! A line that is not of the form is named on standard error and ends it; the
-//! answers to what was played before stay printed. With `--demand3` what was
-//! played is also checked by demand 3, and the finding is said on standard error.
+//! answers to what was played before stay printed. With `--check` what was played
+//! is also checked by demand 3, and the restarts of each worker are counted from
+//! its history; what was found is said on standard error.
 //!
 //! Exit status: 0; 1 if the list can't be read or the answers can't be written;
-//! 2 if demand 3 was violated while its premise held; 64 for a flag it does not
-//! know; 65 if a line is not of the form.
+//! 2 if demand 3 was violated while its premise held or a restart was miscounted;
+//! 64 for a flag it does not know; 65 if a line is not of the form.
 
 use std::io::{self, BufWriter};
 use std::process::ExitCode;
 
 use simulator::calls::Calls;
-use simulator::demand3::Demand3;
+use simulator::checks::Checks;
 use simulator::input::{for_each_line, Trouble};
 use simulator::witness::{Blind, Witness};
 
@@ -22,19 +23,19 @@ fn main() -> ExitCode {
     let flags: Vec<String> = std::env::args().skip(1).collect();
     match &flags[..] {
         [] => play(&mut Calls::new(Blind)),
-        [flag] if flag == "--demand3" => {
-            let mut calls = Calls::new(Demand3::new());
+        [flag] if flag == "--check" => {
+            let mut calls = Calls::new(Checks::new());
             let status = play(&mut calls);
-            let finding = calls.witness().finding();
-            eprintln!("{finding}");
-            if finding.is_violation() {
+            let checks = calls.witness();
+            eprintln!("{checks}");
+            if checks.failed() {
                 ExitCode::from(2)
             } else {
                 status
             }
         }
         _ => {
-            eprintln!("usage: calls [--demand3] < list > answers");
+            eprintln!("usage: calls [--check] < list > answers");
             ExitCode::from(64)
         }
     }

@@ -81,6 +81,7 @@ fn run(seed: u64, steps: Option<u64>) -> Vec<u8> {
     let sixth = sixth(&mut script.random, shape.payload_words);
     let Shape { kind, width, size, crew, .. } = shape;
     script.say(&format!("queue {kind} {width} {size} {crew} {words}{sixth}"));
+    script.looks.who = *script.random.pick(&[0, 0, 1, 5, 25]);
 
     if style == Style::LogSoonFull {
         let left = script.random.between(5, 150);
@@ -213,7 +214,7 @@ fn before_the_queue(script: &mut Script, words: u32) {
             11 => {
                 let line = *script.random.pick(&[
                     "put 1", "put 1 2 3 4", "put", "put 1 2 3 4 5", "take", "steal 1", "step 0 1", "step 0 0",
-                    "end", "steal 0", "drop 1",
+                    "end", "steal 0", "drop 1", "who 0", "who 1", "who 8", "who",
                 ]);
                 script.say(line);
             }
@@ -265,6 +266,11 @@ fn episode(script: &mut Script, style: Style) {
 }
 
 fn the_end(script: &mut Script) {
+    script.looks.who = 0;
+    // The totals show the sum of these.
+    if script.random.chance(50) {
+        script.all_counts();
+    }
     match script.random.below(20) {
         // No end: the listing has no `T`.
         0 => {}

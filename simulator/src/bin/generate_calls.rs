@@ -127,7 +127,7 @@ fn looks(random: &mut Random, store: u32, log: u32) -> Looks {
         61..=400 => *random.pick(&[0, 1, 3]),
         _ => 0,
     };
-    Looks { state, front }
+    Looks { state, front, who: *random.pick(&[0, 0, 1, 5, 25]) }
 }
 
 /// A bench, what is done with it, and looks at what it leaves.
@@ -178,6 +178,9 @@ fn stretch(script: &mut Script, store: u32) {
     }
     if script.random.chance(50) {
         script.say("front");
+    }
+    if script.random.chance(50) {
+        script.all_counts();
     }
     if script.random.chance(if store > 600 { 20 } else { 50 }) {
         script.say("state");
@@ -236,7 +239,7 @@ fn strays(script: &mut Script) {
             8 => script.random.between(8, 300),
             _ => *script.random.pick(&[256, 257, 1 << 31, u32::MAX - 1, u32::MAX]),
         };
-        match script.random.below(10) {
+        match script.random.below(11) {
             0 | 1 => script.begin_put(worker),
             2 | 3 => script.begin_take(worker),
             4 | 5 => script.steal(worker),
@@ -245,6 +248,7 @@ fn strays(script: &mut Script) {
                 script.step(worker, count);
             }
             7 | 8 => script.drop_link(worker),
+            9 => script.who(worker),
             _ => {
                 let count = script.random.below(25);
                 script.step(worker, count);
@@ -264,6 +268,7 @@ fn the_end(script: &mut Script) {
                 "step 0 4294967296", "step 0 18446744073709551617", "step 0 -1", "step 0 x",
                 "begin 0", "begin 0 put", "begin 0 put x", "begin 0 put 1 2 3 4 5", "begin 0 drop",
                 "drop", "drop 1 1", "drop x", "unlink 1", "fresh 1 1 1 1", "fresh 1 1 1 1 1 1",
+                "who", "who ", "who 1 1", "who x", "who 01", "who 4294967296", "whom 1", "begin 1 who",
                 "memory 2 4", "State", "front 0",
             ]);
             script.say(line);

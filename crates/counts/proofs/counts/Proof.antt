@@ -5,16 +5,17 @@ use native.Mathlib.Nat.{mul-div-le}
 use Rattle.model.specs.declared.Counts.{Counts}
 use Rattle.model.specs.World.{World}
 use Rattle.model.specs.Window.{windowSize}
-use Rattle.model.specs.Counts.{isKind, outFirst, isLost, entriesIn, countBelow, countsOf}
+use Rattle.model.specs.Calls.{restartsOf}
+use Rattle.model.specs.Counts.{isKind, outFirst, isLost, entriesIn, countBelow, sumBelow, countsOf}
 use borrow.Author.Needs.{needs}
 use Rattle.counts.proofs.counts.Statement.{statement}
 use Rattle.counts.proofs.counts.Tie as tie
 
 -- the counts, one by one
-counted : (W : World) (f h d w l : ℕ) → f ≡ countBelow (isKind (W .bench .words) (W .log) 1) (entriesIn W) → h ≡ countBelow (isKind (W .bench .words) (W .log) 2) (entriesIn W) → d ≡ countBelow (outFirst (W .bench .words) (W .log)) (entriesIn W) → w ≡ windowSize W → l ≡ countBelow (isLost W (entriesIn W)) (entriesIn W) →
-    _≡_ {A = Counts} (record { finished = f; handouts = h; different = d; restarts = W .bench .restarts; window = w; lost = l }) (countsOf W)
+counted : (W : World) (f h d w l r : ℕ) → f ≡ countBelow (isKind (W .bench .words) (W .log) 1) (entriesIn W) → h ≡ countBelow (isKind (W .bench .words) (W .log) 2) (entriesIn W) → d ≡ countBelow (outFirst (W .bench .words) (W .log)) (entriesIn W) → w ≡ windowSize W → l ≡ countBelow (isLost W (entriesIn W)) (entriesIn W) → r ≡ sumBelow (restartsOf (W .bench .restarts)) 8 →
+    _≡_ {A = Counts} (record { finished = f; handouts = h; different = d; restarts = r; window = w; lost = l }) (countsOf W)
 unfolding countsOf
-counted W f h d w l ef eh ed ew el = rw (ef, eh, ed, ew, el)
+counted W f h d w l r ef eh ed ew el er = rw (ef, eh, ed, ew, el, er)
 
 cast-each : tie.Need-cast-each
 cast-each c = search needs
@@ -49,8 +50,11 @@ window-size-requires c κs = search needs
 lost-of-requires : tie.Need-lost-of-requires
 lost-of-requires c κs = search needs
 
+restarts-of-requires : tie.Need-restarts-of-requires
+restarts-of-requires c κs = search needs
+
 returns : tie.Need-returns
-returns c = counted _ _ _ _ _ _ (c .before .before .before .before .before .before .before .entries-of .ensures) (c .before .before .before .before .before .before .entries-of2 .ensures) (c .before .before .before .before .different-out .ensures .0) (c .before .before .window-size .ensures) (c .lost-of .ensures)
+returns c = counted _ _ _ _ _ _ _ (c .before .before .before .before .before .before .before .before .before .entries-of .ensures) (c .before .before .before .before .before .before .before .before .entries-of2 .ensures) (c .before .before .before .before .before .before .different-out .ensures .0) (c .before .before .before .before .window-size .ensures) (c .before .before .lost-of .ensures) (c .restarts-of .ensures)
 
 pub counts-spec : {M : Type 1} → statement M
 counts-spec =
@@ -66,4 +70,5 @@ counts-spec =
     different-out-requires
     window-size-requires
     lost-of-requires
+    restarts-of-requires
     returns)

@@ -3,9 +3,9 @@ use mathlib.Core.Path.{_≡_, sym, ap, _∙_}
 use Prim.Native.Nat.{ℕ, _-_, _*_, _^_, _%_, _≤_}
 use native.Mathlib.Omega.{arith}
 use borrow.Author.Needs.{needs}
-use Rattle.model.specs.Tests.{if_then_else_}
+use Rattle.model.specs.Tests.{if_then_else_, _and_}
 use Rattle.model.specs.World.{tagBits}
-use Rattle.model.specs.Limits.{anchorOk}
+use Rattle.model.specs.Limits.{anchorOk, linksOk}
 use Rattle.model.proofs.Tests.{holds, fails, passed, refused}
 use Rattle.limits.specs.Parts.{workersOk}
 use Rattle.limits.proofs.Directory.{current}
@@ -51,40 +51,26 @@ returns-2 c =
     let now = c .before .before .before .anchor-ok .ensures ∙ ap (λ (w : ℕ). anchorOk (b .kind) w (b .queue .initial * 2 ^ (b .queue .published - 1) % 2 ^ 32) (b .queue .anchor)) bits ∙ ap (λ (z : ℕ). anchorOk (b .kind) (tagBits b) z (b .queue .anchor)) z in
     sym (holds (passed now (c .before .before .if1 .left)) ∙ fails _ (refused (c .before .number-ok .ensures) (c .if2 .taken)))
 
-links-ok-requires : tie.Need-links-ok-requires
-links-ok-requires c κs = search needs
-
-returns-3 : tie.Need-returns-3
-returns-3 c =
-    let start = c .before .before .before .before .before .before .before .before .before .before .before in
-    let b = start .args .bench in
-    let z = current (b .words) (b .queue) (start .pre .1 .1 .0) (start .pre .1 .0 .0) in
-    let bits = c .before .before .before .before .before .before .before .before .tag-bits .ensures in
-    let now = c .before .before .before .before .before .anchor-ok .ensures ∙ ap (λ (w : ℕ). anchorOk (b .kind) w (b .queue .initial * 2 ^ (b .queue .published - 1) % 2 ^ 32) (b .queue .anchor)) bits ∙ ap (λ (z : ℕ). anchorOk (b .kind) (tagBits b) z (b .queue .anchor)) z in
-    sym
-    (holds (passed now (c .before .before .before .before .if1 .left)) ∙ holds (passed (c .before .before .before .number-ok .ensures) (c .before .before .if2 .left))
-    ∙ fails _ (refused (c .before .links-ok .ensures) (c .if3 .taken)))
-
 workers-ok-requires : tie.Need-workers-ok-requires
 workers-ok-requires c κs =
-    let start = c .before .before .before .before .before .before .before .before .before .before .before in
+    let start = c .before .before .before .before .before .before .before .before .before in
     let b = start .args .bench in
     let z = current (b .words) (b .queue) (start .pre .1 .1 .0) (start .pre .1 .0 .0) in
-    let bits = c .before .before .before .before .before .before .before .before .tag-bits .ensures in
+    let bits = c .before .before .before .before .before .before .tag-bits .ensures in
     let pre = start .pre in
     ((narrow (b .queue .linked) (b .width) bits (pre .0 .0), pre .0 .1), (pre .1 .0 .1, (pre .1 .1 .0, (z, pre .1 .1 .1))))
 
-returns-4 : tie.Need-returns-4
-returns-4 c =
-    let start = c .before .before .before .before .before .before .before .before .before .before .before .before in
+returns-3 : tie.Need-returns-3
+returns-3 c =
+    let start = c .before .before .before .before .before .before .before .before .before .before in
     let b = start .args .bench in
     let z = current (b .words) (b .queue) (start .pre .1 .1 .0) (start .pre .1 .0 .0) in
-    let bits = c .before .before .before .before .before .before .before .before .before .tag-bits .ensures in
-    let now = c .before .before .before .before .before .before .anchor-ok .ensures ∙ ap (λ (w : ℕ). anchorOk (b .kind) w (b .queue .initial * 2 ^ (b .queue .published - 1) % 2 ^ 32) (b .queue .anchor)) bits ∙ ap (λ (z : ℕ). anchorOk (b .kind) (tagBits b) z (b .queue .anchor)) z in
-    c .workers-ok .ensures ∙ ap (λ (w : ℕ). workersOk (b .kind) w (b .words) (b .queue) (b .crew) (b .workers) 8) bits
+    let bits = c .before .before .before .before .before .before .before .tag-bits .ensures in
+    let now = c .before .before .before .before .anchor-ok .ensures ∙ ap (λ (w : ℕ). anchorOk (b .kind) w (b .queue .initial * 2 ^ (b .queue .published - 1) % 2 ^ 32) (b .queue .anchor)) bits ∙ ap (λ (z : ℕ). anchorOk (b .kind) (tagBits b) z (b .queue .anchor)) z in
+    c .workers-ok .ensures
+    ∙ ap (λ (w : ℕ). linksOk (b .kind) (b .queue) (b .workers) 8 and workersOk (b .kind) w (b .words) (b .queue) (b .crew) (b .workers) 8) bits
     ∙ sym
-    (holds (passed now (c .before .before .before .before .before .if1 .left)) ∙ holds (passed (c .before .before .before .before .number-ok .ensures) (c .before .before .before .if2 .left))
-    ∙ holds (passed (c .before .before .links-ok .ensures) (c .before .if3 .left)))
+    (holds (passed now (c .before .before .before .if1 .left)) ∙ holds (passed (c .before .before .number-ok .ensures) (c .before .if2 .left)))
 
 pub contents-ok-spec : {M : Type 1} → statement M
 contents-ok-spec =
@@ -97,7 +83,5 @@ contents-ok-spec =
     returns
     number-ok-requires
     returns-2
-    links-ok-requires
-    returns-3
     workers-ok-requires
-    returns-4)
+    returns-3)

@@ -1,4 +1,4 @@
-use mathlib.Core.Bool.{false}
+use mathlib.Core.Bool.{true, false}
 use mathlib.Core.Path.{_≡_, sym}
 use Prim.Native.Nat.{_≤_}
 use native.Mathlib.Omega.{arith}
@@ -12,8 +12,9 @@ returns : tie.Need-returns
 unfolding if_then_else_
 returns c =
     let a = c .before .before .args in
+    let linked : a .t2 .linked ≡ true = c .before .if1 .taken in
     let eight : length (a .t2 .links) ≡ 8 = search needs in
-    simp (c .before .if1 .taken) (sym (List·getD-eq-default (a .t2 .links) false {n = a .worker} (let l : length (a .t2 .links) ≤ a .worker = omega (arith, eight, c .if2 .taken) in l)))
+    simp linked (sym (List·getD-eq-default (a .t2 .links) false {n = a .worker} (let l : length (a .t2 .links) ≤ a .worker = omega (arith, eight, c .if2 .taken) in l)))
 
 element-copy-out-result : tie.Need-element-copy-out-result
 element-copy-out-result c = search needs

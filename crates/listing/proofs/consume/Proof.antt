@@ -3,7 +3,7 @@ use native.Mathlib.Omega.{arith}
 use mathlib.Core.Path.{_≡_, refl, ap, sym, subst, _∙_}
 use mathlib.Core.Bool.{false}
 use Prim.Native.Nat.{_+_, _-_, _≤_, min}
-use lib.ListN.{length, take, drop, length-drop}
+use lib.ListN.{length, set, take, drop, length-drop}
 use lib.Seq.{length-take-le}
 use Rattle.model.specs.declared.Answer.the-variants.{GoesOn, Refused}
 use Rattle.model.specs.Calls.{lent}
@@ -24,20 +24,20 @@ use Rattle.listing.proofs.consume.Statement.{statement}
 use Rattle.listing.proofs.consume.Tie as tie
 
 abbrev Inv-loop : tie.InvT-loop
-Inv-loop buf store₀ log₀ out₀ live words bench₀ used wrote₀ stops most end worker times i n left₀ store log out bench wrote left =
-    Stepping (stepsOf (worldOf (sessionOf live words bench₀) store₀ log₀) worker times) (sessionOf live words bench) store log worker left out₀ wrote₀ wrote out
-    × Reached (lent bench (take words store) log) × (length store ≡ length store₀) × (length log ≡ length log₀) × (length out ≡ length out₀)
+Inv-loop buf store₀ log₀ out₀ live long bench₀ used wrote₀ stops most end worker times i n left₀ store log out bench wrote left =
+    Stepping (stepsOf (worldOf (sessionOf live long bench₀) store₀ log₀) worker times) (sessionOf live long bench) store log worker left out₀ wrote₀ wrote out
+    × Reached (lent bench (take long store) log) × (length store ≡ length store₀) × (length log ≡ length log₀) × (length out ≡ length out₀)
 
 abbrev μ-loop : tie.MeasureT-loop
-μ-loop buf store₀ log₀ out₀ live words bench₀ used wrote₀ stops most end worker times i n left₀ store log out bench wrote left = left
+μ-loop buf store₀ log₀ out₀ live long bench₀ used wrote₀ stops most end worker times i n left₀ store log out bench wrote left = left
 
 abbrev Inv-lines : tie.InvT-lines
-Inv-lines buf store₀ log₀ out₀ live₀ words₀ bench₀ used₀ wrote₀ stops₀ most store log out live words bench used wrote stops =
-    Standing (programOf (sessionOf live₀ words₀ bench₀) store₀ log₀) buf (sessionOf live words bench) store log out used wrote
+Inv-lines buf store₀ log₀ out₀ live₀ long₀ bench₀ used₀ wrote₀ stops₀ most store log out live long bench used wrote stops =
+    Standing (programOf (sessionOf live₀ long₀ bench₀) store₀ log₀) buf (sessionOf live long bench) store log out used wrote
     × (length store ≡ length store₀) × (length log ≡ length log₀) × (length out ≡ length out₀) × (stops ≡ false)
 
 abbrev μ-lines : tie.MeasureT-lines
-μ-lines buf store₀ log₀ out₀ live₀ words₀ bench₀ used₀ wrote₀ stops₀ most store log out live words bench used wrote stops = length buf - used
+μ-lines buf store₀ log₀ out₀ live₀ long₀ bench₀ used₀ wrote₀ stops₀ most store log out live long bench used wrote stops = length buf - used
 
 lines-holds : tie.Need-lines-holds Inv-loop μ-loop Inv-lines μ-lines
 lines-holds c = (standing-start _ _ _ _ _ (c .before .before .before .before .before .pre), refl, refl, refl, refl)
@@ -80,7 +80,7 @@ enum-told c = search needs
 refused-at-once-requires : tie.Need-refused-at-once-requires Inv-loop μ-loop Inv-lines μ-lines
 refused-at-once-requires c κs =
     let at-lines = c .before .before .before .before .before .before .before .before .before in
-    crew-of (sessionOf (at-lines .lines .live) (at-lines .lines .words) (at-lines .lines .bench)) (at-lines .lines .store) (at-lines .lines .log) (at-lines .lines .inv .0 .reach)
+    crew-of (sessionOf (at-lines .lines .live) (at-lines .lines .long) (at-lines .lines .bench)) (at-lines .lines .store) (at-lines .lines .log) (at-lines .lines .inv .0 .reach)
 
 enum-known-stop : tie.Need-enum-known-stop Inv-loop μ-loop Inv-lines μ-lines
 enum-known-stop c = search needs
@@ -90,8 +90,8 @@ show-requires c κs =
     let at-lines = c .before .before .before .before .before .before .before .before .before .before .before .before .before .before in
     let at-if1 = c .before .before .before .before .before .before .before .before .before .before .before .before in
     let l = at-lines .lines in
-    let s = sessionOf (l .live) (l .words) (l .bench) in
-    refusal-room (l .bench .words) (c .before .before .stop .given .0 .0) _ _ (let z : l .wrote + 136 ≤ length (l .out) = omega (arith, l .inv .0 .fits, l .inv .3, at-if1 .if1 .left) in z)
+    let s = sessionOf (l .live) (l .long) (l .bench) in
+    refusal-room (l .bench .words) (c .before .before .stop .given .0 .0) _ _ (let z : l .wrote + 256 ≤ length (l .out) = omega (arith, l .inv .0 .fits, l .inv .3, at-if1 .if1 .left) in z)
 
 lines-less : tie.Need-lines-less Inv-loop μ-loop Inv-lines μ-lines
 lines-less c =
@@ -108,9 +108,9 @@ lines-again c =
     let at-if2 = c .before .before .before .before .before .before .before .before .before .before .before .before .before in
     let at-if1 = c .before .before .before .before .before .before .before .before .before .before .before .before .before .before .before in
     let l = at-lines .lines in
-    let s = sessionOf (l .live) (l .words) (l .bench) in
-    let at-once = subst (RefusedAtOnce (l .live) (worldOf s (l .store) (l .log)) (at-parse .parse .result)) (at-stop .stop .given .1) (c .before .before .before .before .before .before .before .refused-at-once .ensures (take (l .words) (l .store)) (l .log) (valid-of s (l .store) (l .log) (l .inv .0 .reach))) in (
-      standing-on _ _ s (l .store) (l .log) (l .out) (l .used) (l .wrote) _ _ _ _ _ _ (l .inv .0) (at-line-end .line-end .ensures) (at-if2 .if2 .left) (let z : l .wrote + 136 ≤ length (l .out) = omega (arith, l .inv .0 .fits, l .inv .3, at-if1 .if1 .left) in z) (at-parse .parse .ensures)
+    let s = sessionOf (l .live) (l .long) (l .bench) in
+    let at-once = subst (RefusedAtOnce (l .live) (worldOf s (l .store) (l .log)) (at-parse .parse .result)) (at-stop .stop .given .1) (c .before .before .before .before .before .before .before .refused-at-once .ensures (take (l .long) (l .store)) (l .log) (valid-of s (l .store) (l .log) (l .inv .0 .reach))) in (
+      standing-on _ _ s (l .store) (l .log) (l .out) (l .used) (l .wrote) _ _ _ _ _ _ (l .inv .0) (at-line-end .line-end .ensures) (at-if2 .if2 .left) (let z : l .wrote + 256 ≤ length (l .out) = omega (arith, l .inv .0 .fits, l .inv .3, at-if1 .if1 .left) in z) (at-parse .parse .ensures)
           (at-once-by s (l .store) (l .log) (at-parse .parse .result) (at-stop .stop .given .0 .0) _ _ _ _ at-once (c .before .before .show .ensures)) (refl),
       l .inv .1,
       l .inv .2,
@@ -127,8 +127,8 @@ play-requires c κs =
     let at-if1 = c .before .before .before .before .before .before .before .before .before .before .before .before .before in
     let at-ask = c .before .before .before .before .before .before .before .before in
     let l = at-lines .lines in
-    let s = sessionOf (l .live) (l .words) (l .bench) in
-    ((let z : l .wrote + 136 ≤ length (l .out) = omega (arith, l .inv .0 .fits, l .inv .3, at-if1 .if1 .left) in z), sym (at-ask .ask .ensures) ∙ c .before .before .before .before .before .before .enum-told .given .1)
+    let s = sessionOf (l .live) (l .long) (l .bench) in
+    ((let z : l .wrote + 256 ≤ length (l .out) = omega (arith, l .inv .0 .fits, l .inv .3, at-if1 .if1 .left) in z), sym (at-ask .ask .ensures) ∙ c .before .before .before .before .before .before .enum-told .given .1)
 
 lines-less-2 : tie.Need-lines-less-2 Inv-loop μ-loop Inv-lines μ-lines
 lines-less-2 c =
@@ -145,8 +145,8 @@ lines-again-2 c =
     let at-parse = c .before .before .before .before .before .before .before .before .before .before .before .before .before .before .before .before .before .before in
     let at-play = c .before .before .before .before .before .before .before .before in
     let l = at-lines .lines in
-    let s = sessionOf (l .live) (l .words) (l .bench) in (
-      standing-on _ _ s (l .store) (l .log) (l .out) (l .used) (l .wrote) _ _ _ _ _ _ (l .inv .0) (at-line-end .line-end .ensures) (at-if2 .if2 .left) (let z : l .wrote + 136 ≤ length (l .out) = omega (arith, l .inv .0 .fits, l .inv .3, at-if1 .if1 .left) in z) (at-parse .parse .ensures)
+    let s = sessionOf (l .live) (l .long) (l .bench) in (
+      standing-on _ _ s (l .store) (l .log) (l .out) (l .used) (l .wrote) _ _ _ _ _ _ (l .inv .0) (at-line-end .line-end .ensures) (at-if2 .if2 .left) (let z : l .wrote + 256 ≤ length (l .out) = omega (arith, l .inv .0 .fits, l .inv .3, at-if1 .if1 .left) in z) (at-parse .parse .ensures)
           (at-play .play .ensures) (c .if3 .left),
       at-play .play .kept .1 .1 .0 ∙ l .inv .1,
       at-play .play .kept .1 .1 .1 .0 ∙ l .inv .2,
@@ -165,7 +165,7 @@ loop-holds c =
     let at-lines = c .before .before .before .before .before .before .before .before .before .before .before .before .before in
     let at-asked = c .before .before .before .before in
     let l = at-lines .lines in
-    let s = sessionOf (l .live) (l .words) (l .bench) in
+    let s = sessionOf (l .live) (l .long) (l .bench) in
     let v = asked-live (l .live) (c .before .before .before .before .before .before .before .parse .result) (at-asked .asked .given .0 .0) (at-asked .asked .given .0 .1 .0) (sym (c .before .before .before .before .before .before .ask .ensures) ∙ at-asked .asked .given .1) in
     (stepping-start s (l .store) (l .log) _ _ (l .out) (l .wrote) v, reached-of s (l .store) (l .log) v (l .inv .0 .reach), refl, refl, refl)
 
@@ -184,9 +184,9 @@ lines-again-3 c =
     let at-parse = c .before .before .before .before .before .before .before .before .before in
     let at-ask = c .before .before .before .before .before .before .before .before in
     let l = at-lines .lines in
-    let s = sessionOf (l .live) (l .words) (l .bench) in
+    let s = sessionOf (l .live) (l .long) (l .bench) in
     let k = c .before .loop in (
-      standing-on _ _ s (l .store) (l .log) (l .out) (l .used) (l .wrote) _ _ _ _ _ _ (l .inv .0) (at-line-end .line-end .ensures) (at-if2 .if2 .left) (let z : l .wrote + 136 ≤ length (l .out) = omega (arith, l .inv .0 .fits, l .inv .3, at-if1 .if1 .left) in z) (at-parse .parse .ensures)
+      standing-on _ _ s (l .store) (l .log) (l .out) (l .used) (l .wrote) _ _ _ _ _ _ (l .inv .0) (at-line-end .line-end .ensures) (at-if2 .if2 .left) (let z : l .wrote + 256 ≤ length (l .out) = omega (arith, l .inv .0 .fits, l .inv .3, at-if1 .if1 .left) in z) (at-parse .parse .ensures)
           (steps-by s _ _ _ _ _ _ _ _ _ _ _ (sym (at-ask .ask .ensures) ∙ c .before .before .before .before .before .before .asked .given .1) (stepping-over _ _ _ _ _ _ (k .left) _ _ _ _ (k .inv .0) (omega (arith, c .loop-test .left)))) (refl),
       k .inv .2 ∙ l .inv .1,
       k .inv .3 ∙ l .inv .2,
@@ -216,9 +216,9 @@ step-in-requires c κs =
     let at-lines = at-loop .before .before .before .before .before .before .before .before .before .before .before .before .before .before in
     let l = at-lines .lines in
     let k = at-loop .loop in
-    let e = at-span .span .ensures ∙ ap (min (l .words)) (sym (k .inv .2)) in
+    let e = at-span .span .ensures ∙ ap (min (l .long)) (sym (k .inv .2)) in
     steppable (lent (k .bench) (take (at-span .span .result) (k .store)) (k .log)) (at-asked .asked .given .0 .0) (at-place-of .place-of .result)
-    (valid-front (k .bench) (l .words) _ (k .store) (k .log) e (k .inv .1)) (at-place-of .place-of .ensures .1)
+    (valid-front (k .bench) (l .long) _ (k .store) (k .log) e (k .inv .1)) (at-place-of .place-of .ensures .1)
 
 sub-left : tie.Need-sub-left Inv-loop μ-loop Inv-lines μ-lines
 sub-left c = omega (arith, c .before .before .before .before .before .before .before .before .before .loop-test .taken)
@@ -240,17 +240,17 @@ show-requires-2 c κs =
     let l = at-lines .lines in
     let k = at-loop .loop in
     let at-step = c .before .before .before .before .before .before .before .before .before in
-    let e = at-span .span .ensures ∙ ap (min (l .words)) (sym (k .inv .2)) in
+    let e = at-span .span .ensures ∙ ap (min (l .long)) (sym (k .inv .2)) in
     let b = k .bench in
     let i = at-asked .asked .given .0 .0 in
     let place = at-place-of .place-of .result in
     let to = at-step .step-in .result .line in
     let made = at-step .step-in .result .made in
     let step =
-    stepped-front b (l .words) _ (k .store) (k .log) _ _ i place to made e (at-step .step-in .kept .1 .1 .1 .1 .1 .1 .1 .1 .0) (k .inv .1)
-    (at-step .step-in .ensures .1 (b .used) (b .restarts) place (b .workers) (at-place-of .place-of .ensures .1) refl) in
+    stepped-front b (l .long) _ (k .store) (k .log) _ _ i place to made e (at-step .step-in .kept .1 .1 .1 .1 .1 .1 .1 .1 .0) (k .inv .1)
+    (at-step .step-in .ensures .1 (b .used) place (b .restarts) (b .workers) (at-place-of .place-of .ensures .1) refl) in
     let by = refuses b place to made step _ (c .before .before .made .given .1) in
-    stepping-room _ _ _ _ _ _ (k .left) _ _ _ _ (k .inv .0) _ (let z : l .wrote + 136 ≤ length (l .out) = omega (arith, l .inv .0 .fits, l .inv .3, at-if1 .if1 .left) in z) (c .before .before .before .before .before .before .before .before .before .before .before .before .before .before .loop-test .taken)
+    stepping-room _ _ _ _ _ _ (k .left) _ _ _ _ (k .inv .0) _ (let z : l .wrote + 256 ≤ length (l .out) = omega (arith, l .inv .0 .fits, l .inv .3, at-if1 .if1 .left) in z) (c .before .before .before .before .before .before .before .before .before .before .before .before .before .before .loop-test .taken)
     by
 
 lines-less-4 : tie.Need-lines-less-4 Inv-loop μ-loop Inv-lines μ-lines
@@ -274,20 +274,20 @@ lines-again-4 c =
     let l = at-lines .lines in
     let k = at-loop .loop in
     let at-step = c .before .before .before .before .before .before .before .before .before .before .before .before in
-    let e = at-span .span .ensures ∙ ap (min (l .words)) (sym (k .inv .2)) in
+    let e = at-span .span .ensures ∙ ap (min (l .long)) (sym (k .inv .2)) in
     let b = k .bench in
     let i = at-asked .asked .given .0 .0 in
     let place = at-place-of .place-of .result in
     let to = at-step .step-in .result .line in
     let made = at-step .step-in .result .made in
     let step =
-    stepped-front b (l .words) _ (k .store) (k .log) _ _ i place to made e (at-step .step-in .kept .1 .1 .1 .1 .1 .1 .1 .1 .0) (k .inv .1)
-    (at-step .step-in .ensures .1 (b .used) (b .restarts) place (b .workers) (at-place-of .place-of .ensures .1) refl) in
-    let s = sessionOf (l .live) (l .words) (l .bench) in
-    let t = sessionOf (l .live) (l .words) b in
+    stepped-front b (l .long) _ (k .store) (k .log) _ _ i place to made e (at-step .step-in .kept .1 .1 .1 .1 .1 .1 .1 .1 .0) (k .inv .1)
+    (at-step .step-in .ensures .1 (b .used) place (b .restarts) (b .workers) (at-place-of .place-of .ensures .1) refl) in
+    let s = sessionOf (l .live) (l .long) (l .bench) in
+    let t = sessionOf (l .live) (l .long) b in
     let why = c .before .before .before .before .before .made .given .0 .0 in
     let by = refuses b place to made step why (c .before .before .before .before .before .made .given .1) in (
-      standing-on _ _ s (l .store) (l .log) (l .out) (l .used) (l .wrote) _ _ _ _ _ _ (l .inv .0) (at-line-end .line-end .ensures) (at-if2 .if2 .left) (let z : l .wrote + 136 ≤ length (l .out) = omega (arith, l .inv .0 .fits, l .inv .3, at-if1 .if1 .left) in z) (at-parse .parse .ensures)
+      standing-on _ _ s (l .store) (l .log) (l .out) (l .used) (l .wrote) _ _ _ _ _ _ (l .inv .0) (at-line-end .line-end .ensures) (at-if2 .if2 .left) (let z : l .wrote + 256 ≤ length (l .out) = omega (arith, l .inv .0 .fits, l .inv .3, at-if1 .if1 .left) in z) (at-parse .parse .ensures)
           (steps-by s _ _ _ _ _ _ _ _ _ _ _ (sym (at-ask .ask .ensures) ∙ at-asked .asked .given .1) (stepping-stops _ _ _ _ _ _ (k .left) _ _ _ _ (k .inv .0) (c .before .before .before .before .before .before .before .before .before .before .before .before .before .before .before .before .before .loop-test .taken) t (Refused why) _ _ by (k .inv .0 .live) _ _ (c .before .before .show2 .ensures) refl)) refl,
       back-length (at-span .span .result) (k .store) (at-step .step-in .last .1 .1 .1 .1 .1 .1 .1 .1 .0) (at-step .step-in .kept .1 .1 .1 .1 .1 .1 .1 .1 .0) ∙ k .inv .2 ∙ l .inv .1,
       at-step .step-in .kept .1 .1 .1 .1 .1 .1 .1 .1 .1 .0 ∙ k .inv .3 ∙ l .inv .2,
@@ -298,40 +298,52 @@ lines-again-4 c =
 enum-told-4 : tie.Need-enum-told-4 Inv-loop μ-loop Inv-lines μ-lines
 enum-told-4 c = search needs
 
+mul-one-more : tie.Need-mul-one-more Inv-loop μ-loop Inv-lines μ-lines
+mul-one-more c = search needs
+
+element-copy-out-one-more : tie.Need-element-copy-out-one-more Inv-loop μ-loop Inv-lines μ-lines
+element-copy-out-one-more c = omega (arith, c .before .before .before .before .before .before .before .before .before .before .before .before .before .before .before .before .before .place-of .ensures .0)
+
 one-more-requires : tie.Need-one-more-requires Inv-loop μ-loop Inv-lines μ-lines
 one-more-requires c κs = search needs
 
-mul-t74 : tie.Need-mul-t74 Inv-loop μ-loop Inv-lines μ-lines
-mul-t74 c = search needs
+mul-bench : tie.Need-mul-bench Inv-loop μ-loop Inv-lines μ-lines
+mul-bench c = search needs
+
+element-write-bench : tie.Need-element-write-bench Inv-loop μ-loop Inv-lines μ-lines
+element-write-bench c = omega (arith, c .before .before .before .before .before .before .before .before .before .before .before .before .before .before .before .before .before .before .before .place-of .ensures .0)
+
+mul-t72 : tie.Need-mul-t72 Inv-loop μ-loop Inv-lines μ-lines
+mul-t72 c = search needs
 
 element-set-from-bench : tie.Need-element-set-from-bench Inv-loop μ-loop Inv-lines μ-lines
-element-set-from-bench c = omega (arith, c .before .before .before .before .before .before .before .before .before .before .before .before .before .before .before .before .before .before .place-of .ensures .0)
+element-set-from-bench c = omega (arith, c .before .before .before .before .before .before .before .before .before .before .before .before .before .before .before .before .before .before .before .place-of .ensures .0)
 
 loop-less : tie.Need-loop-less Inv-loop μ-loop Inv-lines μ-lines
-loop-less c = omega (arith, c .before .before .before .before .before .before .before .before .before .before .before .before .before .before .loop-test .taken)
+loop-less c = omega (arith, c .before .before .before .before .before .before .before .before .before .before .before .before .before .before .before .loop-test .taken)
 
 loop-again : tie.Need-loop-again Inv-loop μ-loop Inv-lines μ-lines
 loop-again c =
-    let at-loop = c .before .before .before .before .before .before .before .before .before .before .before .before .before .before .before in
+    let at-loop = c .before .before .before .before .before .before .before .before .before .before .before .before .before .before .before .before in
     let at-span = at-loop .before in
     let at-place-of = at-loop .before .before .before in
     let at-asked = at-loop .before .before .before .before .before in
     let at-lines = at-loop .before .before .before .before .before .before .before .before .before .before .before .before .before .before in
     let l = at-lines .lines in
     let k = at-loop .loop in
-    let at-step = c .before .before .before .before .before .before .before .before .before in
-    let e = at-span .span .ensures ∙ ap (min (l .words)) (sym (k .inv .2)) in
+    let at-step = c .before .before .before .before .before .before .before .before .before .before in
+    let e = at-span .span .ensures ∙ ap (min (l .long)) (sym (k .inv .2)) in
     let b = k .bench in
     let i = at-asked .asked .given .0 .0 in
     let place = at-place-of .place-of .result in
     let to = at-step .step-in .result .line in
     let made = at-step .step-in .result .made in
     let step =
-    stepped-front b (l .words) _ (k .store) (k .log) _ _ i place to made e (at-step .step-in .kept .1 .1 .1 .1 .1 .1 .1 .1 .0) (k .inv .1)
-    (at-step .step-in .ensures .1 (b .used) (b .restarts) place (b .workers) (at-place-of .place-of .ensures .1) refl) in
-    let t = sessionOf (l .live) (l .words) b in
-    let by = restarts b place to made step (c .before .enum-told4 .given .1) (c .one-more .ensures) in (
-      stepping-on _ _ _ _ _ _ (k .left) _ _ _ _ (k .inv .0) (c .before .before .before .before .before .before .before .before .before .before .before .before .before .before .loop-test .taken) _ GoesOn _ _ by (k .inv .0 .live) _ _ (shows-none (k .out) (k .wrote)) refl,
+    stepped-front b (l .long) _ (k .store) (k .log) _ _ i place to made e (at-step .step-in .kept .1 .1 .1 .1 .1 .1 .1 .1 .0) (k .inv .1)
+    (at-step .step-in .ensures .1 (b .used) place (b .restarts) (b .workers) (at-place-of .place-of .ensures .1) refl) in
+    let t = sessionOf (l .live) (l .long) b in
+    let by = restarts b place to made step (c .before .before .enum-told4 .given .1) (ap (set (b .restarts) place) (c .one-more .ensures)) in (
+      stepping-on _ _ _ _ _ _ (k .left) _ _ _ _ (k .inv .0) (c .before .before .before .before .before .before .before .before .before .before .before .before .before .before .before .loop-test .taken) _ GoesOn _ _ by (k .inv .0 .live) _ _ (shows-none (k .out) (k .wrote)) refl,
       reached-step (worldOf t (k .store) (k .log)) _ _ _ by (k .inv .1),
       back-length (at-span .span .result) (k .store) (at-step .step-in .last .1 .1 .1 .1 .1 .1 .1 .1 .0) (at-step .step-in .kept .1 .1 .1 .1 .1 .1 .1 .1 .0) ∙ k .inv .2,
       at-step .step-in .kept .1 .1 .1 .1 .1 .1 .1 .1 .1 .0 ∙ k .inv .3,
@@ -354,17 +366,17 @@ show-requires-3 c κs =
     let l = at-lines .lines in
     let k = at-loop .loop in
     let at-step = c .before .before .before .before .before .before .before .before .before .before in
-    let e = at-span .span .ensures ∙ ap (min (l .words)) (sym (k .inv .2)) in
+    let e = at-span .span .ensures ∙ ap (min (l .long)) (sym (k .inv .2)) in
     let b = k .bench in
     let i = at-asked .asked .given .0 .0 in
     let place = at-place-of .place-of .result in
     let to = at-step .step-in .result .line in
     let made = at-step .step-in .result .made in
     let step =
-    stepped-front b (l .words) _ (k .store) (k .log) _ _ i place to made e (at-step .step-in .kept .1 .1 .1 .1 .1 .1 .1 .1 .0) (k .inv .1)
-    (at-step .step-in .ensures .1 (b .used) (b .restarts) place (b .workers) (at-place-of .place-of .ensures .1) refl) in
+    stepped-front b (l .long) _ (k .store) (k .log) _ _ i place to made e (at-step .step-in .kept .1 .1 .1 .1 .1 .1 .1 .1 .0) (k .inv .1)
+    (at-step .step-in .ensures .1 (b .used) place (b .restarts) (b .workers) (at-place-of .place-of .ensures .1) refl) in
     let by = settles b place to made step (c .before .before .settled .ensures) in
-    stepping-room _ _ _ _ _ _ (k .left) _ _ _ _ (k .inv .0) _ (let z : l .wrote + 136 ≤ length (l .out) = omega (arith, l .inv .0 .fits, l .inv .3, at-if1 .if1 .left) in z) (c .before .before .before .before .before .before .before .before .before .before .before .before .before .before .before .loop-test .taken)
+    stepping-room _ _ _ _ _ _ (k .left) _ _ _ _ (k .inv .0) _ (let z : l .wrote + 256 ≤ length (l .out) = omega (arith, l .inv .0 .fits, l .inv .3, at-if1 .if1 .left) in z) (c .before .before .before .before .before .before .before .before .before .before .before .before .before .before .before .loop-test .taken)
     by
 
 loop-less-2 : tie.Need-loop-less-2 Inv-loop μ-loop Inv-lines μ-lines
@@ -380,29 +392,29 @@ loop-again-2 c =
     let l = at-lines .lines in
     let k = at-loop .loop in
     let at-step = c .before .before .before .before .before .before .before .before .before .before .before .before .before in
-    let e = at-span .span .ensures ∙ ap (min (l .words)) (sym (k .inv .2)) in
+    let e = at-span .span .ensures ∙ ap (min (l .long)) (sym (k .inv .2)) in
     let b = k .bench in
     let i = at-asked .asked .given .0 .0 in
     let place = at-place-of .place-of .result in
     let to = at-step .step-in .result .line in
     let made = at-step .step-in .result .made in
     let step =
-    stepped-front b (l .words) _ (k .store) (k .log) _ _ i place to made e (at-step .step-in .kept .1 .1 .1 .1 .1 .1 .1 .1 .0) (k .inv .1)
-    (at-step .step-in .ensures .1 (b .used) (b .restarts) place (b .workers) (at-place-of .place-of .ensures .1) refl) in
-    let t = sessionOf (l .live) (l .words) b in
+    stepped-front b (l .long) _ (k .store) (k .log) _ _ i place to made e (at-step .step-in .kept .1 .1 .1 .1 .1 .1 .1 .1 .0) (k .inv .1)
+    (at-step .step-in .ensures .1 (b .used) place (b .restarts) (b .workers) (at-place-of .place-of .ensures .1) refl) in
+    let t = sessionOf (l .live) (l .long) b in
     let done = c .before .before .before .before .before .settled .result in
     let by = settles b place to made step (c .before .before .before .before .before .settled .ensures) in
     let answer = ap (λ (r : Returned). isRefused (r .answer)) (c .before .before .before .before .before .settled .ensures) in
     let stands = answer ∙ made-not-refused (b .words) (b .queue) (b .written) made (at-step .step-in .ensures .0) (c .before .before .before .before .before .before .before .match4 .keys2) in (
-      stepping-on _ _ _ _ _ _ (k .left) _ _ _ _ (k .inv .0) (c .before .before .before .before .before .before .before .before .before .before .before .before .before .before .before .before .before .before .loop-test .taken) (sessionOf (l .live) (l .words) (done .bench)) (done .answer) _ _ by (k .inv .0 .live) _ _ (c .before .before .show3 .ensures) stands,
+      stepping-on _ _ _ _ _ _ (k .left) _ _ _ _ (k .inv .0) (c .before .before .before .before .before .before .before .before .before .before .before .before .before .before .before .before .before .before .loop-test .taken) (sessionOf (l .live) (l .long) (done .bench)) (done .answer) _ _ by (k .inv .0 .live) _ _ (c .before .before .show3 .ensures) stands,
       reached-step (worldOf t (k .store) (k .log)) _ _ _ by (k .inv .1),
       back-length (at-span .span .result) (k .store) (at-step .step-in .last .1 .1 .1 .1 .1 .1 .1 .1 .0) (at-step .step-in .kept .1 .1 .1 .1 .1 .1 .1 .1 .0) ∙ k .inv .2,
       at-step .step-in .kept .1 .1 .1 .1 .1 .1 .1 .1 .1 .0 ∙ k .inv .3,
       c .before .before .show3 .kept .1 .1 .0 ∙ k .inv .4,
     )
 
-mul-t56 : tie.Need-mul-t56 Inv-loop μ-loop Inv-lines μ-lines
-mul-t56 c = search needs
+mul-t57 : tie.Need-mul-t57 Inv-loop μ-loop Inv-lines μ-lines
+mul-t57 c = search needs
 
 element-set-from-bench-2 : tie.Need-element-set-from-bench-2 Inv-loop μ-loop Inv-lines μ-lines
 element-set-from-bench-2 c = omega (arith, c .before .before .before .before .before .before .before .before .before .before .before .before .before .before .before .place-of .ensures .0)
@@ -420,16 +432,16 @@ loop-again-3 c =
     let l = at-lines .lines in
     let k = at-loop .loop in
     let at-step = c .before .before .before .before .before .before in
-    let e = at-span .span .ensures ∙ ap (min (l .words)) (sym (k .inv .2)) in
+    let e = at-span .span .ensures ∙ ap (min (l .long)) (sym (k .inv .2)) in
     let b = k .bench in
     let i = at-asked .asked .given .0 .0 in
     let place = at-place-of .place-of .result in
     let to = at-step .step-in .result .line in
     let made = at-step .step-in .result .made in
     let step =
-    stepped-front b (l .words) _ (k .store) (k .log) _ _ i place to made e (at-step .step-in .kept .1 .1 .1 .1 .1 .1 .1 .1 .0) (k .inv .1)
-    (at-step .step-in .ensures .1 (b .used) (b .restarts) place (b .workers) (at-place-of .place-of .ensures .1) refl) in
-    let t = sessionOf (l .live) (l .words) b in
+    stepped-front b (l .long) _ (k .store) (k .log) _ _ i place to made e (at-step .step-in .kept .1 .1 .1 .1 .1 .1 .1 .1 .0) (k .inv .1)
+    (at-step .step-in .ensures .1 (b .used) place (b .restarts) (b .workers) (at-place-of .place-of .ensures .1) refl) in
+    let t = sessionOf (l .live) (l .long) b in
     let by = replaces b place to made step (c .enum-told3 .given .1) in (
       stepping-on _ _ _ _ _ _ (k .left) _ _ _ _ (k .inv .0) (c .before .before .before .before .before .before .before .before .before .before .before .loop-test .taken) _ GoesOn _ _ by (k .inv .0 .live) _ _ (shows-none (k .out) (k .wrote)) refl,
       reached-step (worldOf t (k .store) (k .log)) _ _ _ by (k .inv .1),
@@ -509,8 +521,8 @@ returns-4 c =
     let at-parse = c .before .before .before .before .before .before .before .before .before .before .before .before .before .before .before .before .before .before in
     let at-play = c .before .before .before .before .before .before .before .before in
     let l = at-lines .lines in
-    let s = sessionOf (l .live) (l .words) (l .bench) in (
-      standing-over _ _ s (l .store) (l .log) (l .out) (l .used) (l .wrote) _ _ _ _ _ _ (l .inv .0) (at-line-end .line-end .ensures) (at-if2 .if2 .left) (let z : l .wrote + 136 ≤ length (l .out) = omega (arith, l .inv .0 .fits, l .inv .3, at-if1 .if1 .left) in z) (at-parse .parse .ensures)
+    let s = sessionOf (l .live) (l .long) (l .bench) in (
+      standing-over _ _ s (l .store) (l .log) (l .out) (l .used) (l .wrote) _ _ _ _ _ _ (l .inv .0) (at-line-end .line-end .ensures) (at-if2 .if2 .left) (let z : l .wrote + 256 ≤ length (l .out) = omega (arith, l .inv .0 .fits, l .inv .3, at-if1 .if1 .left) in z) (at-parse .parse .ensures)
           (at-play .play .ensures) (c .if3 .taken),
       reach-over (at-play .play .result .session) (at-play .play .last .1 .1 .0) (at-play .play .last .1 .1 .1 .0),
     )
@@ -560,8 +572,12 @@ consume-spec =
     lines-less-4
     lines-again-4
     enum-told-4
+    mul-one-more
+    element-copy-out-one-more
     one-more-requires
-    mul-t74
+    mul-bench
+    element-write-bench
+    mul-t72
     element-set-from-bench
     loop-less
     loop-again
@@ -569,7 +585,7 @@ consume-spec =
     show-requires-3
     loop-less-2
     loop-again-2
-    mul-t56
+    mul-t57
     element-set-from-bench-2
     loop-less-3
     loop-again-3

@@ -17,7 +17,7 @@ use Rattle.machine.proofs.step_in.Tie as tie
 
 returns : tie.Need-returns
 unfolding benchAfter answerAfter Fits
-returns c = (tt, λ u n k ws at e. sym (if-false _ (le-ltb _ _ (c .if1 .taken))))
+returns c = (tt, λ u k n ws at e. sym (if-false _ (le-ltb _ _ (c .if1 .taken))))
 
 is-idle-requires : tie.Need-is-idle-requires
 is-idle-requires c κs = search needs
@@ -29,7 +29,7 @@ returns-2 c =
     let a = start .args in
     let h = c .before .before .if1 .left in (
       tt,
-      λ u n k ws at e.
+      λ u k n ws at e.
           idle-worker (benchOf (a .kind) (a .width) (a .words) (a .crew) (a .queue) (a .written) u n ws) (a .worker) (a .line) _ _
           (ap (lineAt ws) (sym (at (omega (arith, h, start .pre .crew)))) ∙ e) h (sym (c .before .is-idle .ensures) ∙ c .if2 .taken),
     )
@@ -54,7 +54,7 @@ returns-3 c =
     let x = c .before .before .next-line .result in
     let h = c .before .before .before .before .before .before .if1 .left in (
       tt,
-      λ u n k ws at e.
+      λ u k n ws at e.
           let b = benchOf (a .kind) (a .width) (a .words) (a .crew) (a .queue) (a .written) u n ws in
           let is = at (omega (arith, h, start .pre .crew)) in
           ap (λ (j : ℕ). movedBy b j x made.Links m l) is
@@ -95,7 +95,7 @@ returns-4 c =
     let h = c .before .before .before .before .before .before .before .before .before .before .before .before .before .before .before .before .if1 .left in
     let made = at-act .act .ensures .0 in (
       subst (Fits (a .words) (a .queue) (a .written)) (sym made) (fits (a .words) (a .queue) (a .written) (length m) l d (start .pre .ground .listed) safe),
-      λ u n k ws at e.
+      λ u k n ws at e.
           let b = benchOf (a .kind) (a .width) (a .words) (a .crew) (a .queue) (a .written) u n ws in
           let is = at (omega (arith, h, start .pre .crew)) in
           same-moved b k x made (at-act .act .ensures .1 .0) (at-act .act .ensures .1 .1)

@@ -23,7 +23,7 @@ same-length : tie.Need-same-length
 same-length c = search needs
 
 returns : tie.Need-returns
-returns c = let a = c .before .before .before .before .before .before .before .before .before .before .before .before .args in shown-by _ _ _ _ _ _ _ _ _ _ (begun-by (a .session .bench) _ _ (a .worker) (a .operation) (a .session .words) _ (a .store .now) (a .log .now) (c .before .before .before .before .before .before .before .before .span .ensures) (c .before .before .before .before .before .begin .ensures)) (c .before .before .show .ensures)
+returns c = let a = c .before .before .before .before .before .before .before .before .before .before .before .before .args in shown-by _ _ _ _ _ _ _ _ _ _ (begun-by (a .session .bench) _ _ (a .worker) (a .operation) (a .session .long) _ (a .store .now) (a .log .now) (c .before .before .before .before .before .before .before .before .span .ensures) (c .before .before .before .before .before .begin .ensures)) (c .before .before .show .ensures)
 
 pub begin-spec : {M : Type 1} → statement M
 begin-spec =

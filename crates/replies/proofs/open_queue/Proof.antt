@@ -42,7 +42,7 @@ returns c =
     let start = c .before .before .before .before .before .before .before .before .before .before .before .before .before .before .before .before in
     let at-fresh = c .before .before .before .before .before .before .before .before .before .before in
     let a = start .args in λ l.
-    refused-by (a .setup) (a .words) _ (a .store .now) l _ (at-fresh .fresh .result .bench) (at-fresh .fresh .result .answer) _ _ _ _ (c .before .before .before .before .before .before .before .before .before .before .before .before .span .ensures) (at-fresh .fresh .kept .1 .0) (at-fresh .fresh .ensures l) (c .before .before .before .before .before .show .ensures)
+    refused-by (a .setup) (a .long) _ (a .store .now) l _ (at-fresh .fresh .result .bench) (at-fresh .fresh .result .answer) _ _ _ _ (c .before .before .before .before .before .before .before .before .before .before .before .before .span .ensures) (at-fresh .fresh .kept .1 .0) (at-fresh .fresh .ensures l) (c .before .before .before .before .before .show .ensures)
     (a .session) (start .pre .1) (progress-stopped (at-fresh .fresh .result .answer) (sym (c .before .before .progress-of .ensures) ∙ c .enum-told2 .given .1))
 
 same-length-3 : tie.Need-same-length-3
@@ -55,7 +55,7 @@ returns-2 : tie.Need-returns-2
 returns-2 c =
     let at-fresh = c .before .before .before .before .before .before .before .before .before .before in
     let a = c .before .before .before .before .before .before .before .before .before .before .before .before .before .before .before .before .args in λ l.
-    opened-by (a .setup) (a .words) _ (a .store .now) l _ (at-fresh .fresh .result .bench) (at-fresh .fresh .result .answer) _ _ _ _ (c .before .before .before .before .before .before .before .before .before .before .before .before .span .ensures) (at-fresh .fresh .kept .1 .0) (at-fresh .fresh .ensures l) (c .before .before .before .before .before .show .ensures)
+    opened-by (a .setup) (a .long) _ (a .store .now) l _ (at-fresh .fresh .result .bench) (at-fresh .fresh .result .answer) _ _ _ _ (c .before .before .before .before .before .before .before .before .before .before .before .before .span .ensures) (at-fresh .fresh .kept .1 .0) (at-fresh .fresh .ensures l) (c .before .before .before .before .before .show .ensures)
     (progress-made (at-fresh .fresh .result .answer) (sym (c .before .before .progress-of .ensures) ∙ c .enum-told .given .1))
 
 pub open-queue-spec : {M : Type 1} → statement M

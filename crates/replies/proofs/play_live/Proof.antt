@@ -24,6 +24,12 @@ enum-known-command-2 c = search needs
 begin-requires-2 : tie.Need-begin-requires-2
 begin-requires-2 c κs = search needs
 
+enum-known-command-3 : tie.Need-enum-known-command-3
+enum-known-command-3 c = search needs
+
+who-requires : tie.Need-who-requires
+who-requires c κs = search needs
+
 enum-told-2 : tie.Need-enum-told-2
 enum-told-2 c = search needs
 
@@ -83,16 +89,29 @@ same-length-12 c = search needs
 
 returns-4 : tie.Need-returns-4
 unfolding respond
-returns-4 c = rw (c .before .before .before .before .before .before .enum-told2 .given .1) (c .before .before .total .ensures)
+returns-4 c = rw (c .before .before .before .before .before .before .before .command3 .given .1) (c .before .before .who .ensures)
 
 same-length-13 : tie.Need-same-length-13
 same-length-13 c = search needs
 
+same-length-14 : tie.Need-same-length-14
+same-length-14 c = search needs
+
+same-length-15 : tie.Need-same-length-15
+same-length-15 c = search needs
+
 returns-5 : tie.Need-returns-5
-returns-5 c =
+unfolding respond
+returns-5 c = rw (c .before .before .before .before .before .before .enum-told2 .given .1) (c .before .before .total .ensures)
+
+same-length-16 : tie.Need-same-length-16
+same-length-16 c = search needs
+
+returns-6 : tie.Need-returns-6
+returns-6 c =
     let start = c .before .before .before .before .before .before .before .before in
     let a = start .args in
-    played-as (plays-bad _ (a .command) (start .pre .1) (c .before .before .before .before .match .keys5) ∙ ap bad (sym (program-live (a .session) (a .store .now) (a .log .now) (start .pre .0 .1))))
+    played-as (plays-bad _ (a .command) (start .pre .1) (c .before .before .before .before .match .keys6) ∙ ap bad (sym (program-live (a .session) (a .store .now) (a .log .now) (start .pre .0 .1))))
     (c .before .before .refuse .ensures (a .store .now) (a .log .now))
 
 pub play-live-spec : {M : Type 1} → statement M
@@ -105,6 +124,8 @@ play-live-spec =
     begin-requires
     enum-known-command-2
     begin-requires-2
+    enum-known-command-3
+    who-requires
     enum-told-2
     total-requires
     refuse-requires
@@ -125,4 +146,8 @@ play-live-spec =
     same-length-12
     returns-4
     same-length-13
-    returns-5)
+    same-length-14
+    same-length-15
+    returns-5
+    same-length-16
+    returns-6)

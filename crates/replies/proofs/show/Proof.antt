@@ -20,12 +20,15 @@ enum-told-3 c = search needs
 enum-known-answer : tie.Need-enum-known-answer
 enum-known-answer c = search needs
 
+cast-t16 : tie.Need-cast-t16
+cast-t16 c = search needs
+
 slice-aggregate-print : tie.Need-slice-aggregate-print
 slice-aggregate-print c = search needs
 
 print-requires : tie.Need-print-requires
 unfolding shown
-print-requires c κs = shows-room _ _ _ refl _ _ (rw (c .before .before .before .answer .given .1) at (c .before .before .before .before .before .before .pre))
+print-requires c κs = shows-room _ _ _ refl _ _ (rw (c .before .before .before .before .answer .given .1) at (c .before .before .before .before .before .before .before .pre))
 
 enum-known-answer-2 : tie.Need-enum-known-answer-2
 enum-known-answer-2 c = search needs
@@ -37,6 +40,9 @@ print-out-requires c κs = shows-room _ _ _ refl _ _ (rw (c .before .before .ans
 enum-known-answer-3 : tie.Need-enum-known-answer-3
 enum-known-answer-3 c = search needs
 
+cast-t23 : tie.Need-cast-t23
+cast-t23 c = search needs
+
 slice-aggregate-print-2 : tie.Need-slice-aggregate-print-2
 slice-aggregate-print-2 c = search needs
 
@@ -47,18 +53,24 @@ print-requires-2 c κs = shows-room _ _ _ refl _ _ (rw (c .before .before .befor
 enum-known-answer-4 : tie.Need-enum-known-answer-4
 enum-known-answer-4 c = search needs
 
+cast-t28 : tie.Need-cast-t28
+cast-t28 c = search needs
+
 slice-aggregate-print-3 : tie.Need-slice-aggregate-print-3
 slice-aggregate-print-3 c = search needs
 
 print-requires-3 : tie.Need-print-requires-3
 unfolding shown
-print-requires-3 c κs = shows-room _ _ _ refl _ _ (rw (c .before .before .before .answer4 .given .1) at (c .before .before .before .before .before .before .pre))
+print-requires-3 c κs = shows-room _ _ _ refl _ _ (rw (c .before .before .before .before .answer4 .given .1) at (c .before .before .before .before .before .before .before .pre))
 
 enum-known-answer-5 : tie.Need-enum-known-answer-5
 enum-known-answer-5 c = search needs
 
 number-of-requires : tie.Need-number-of-requires
 number-of-requires c κs = search needs
+
+cast-t34 : tie.Need-cast-t34
+cast-t34 c = search needs
 
 slice-aggregate-print-4 : tie.Need-slice-aggregate-print-4
 slice-aggregate-print-4 c = search needs
@@ -81,7 +93,7 @@ same-length c = search needs
 
 returns-4 : tie.Need-returns-4
 unfolding shown
-returns-4 c = rw (c .before .before .before .before .before .before .answer .given .1) (shows-one _ _ _ refl _ _ _ _ (c .before .before .print .ensures))
+returns-4 c = rw (c .before .before .before .before .before .before .before .answer .given .1) (shows-one _ _ _ refl _ _ _ _ (c .before .before .print .ensures))
 
 same-length-2 : tie.Need-same-length-2
 same-length-2 c = search needs
@@ -102,7 +114,7 @@ same-length-4 c = search needs
 
 returns-7 : tie.Need-returns-7
 unfolding shown
-returns-7 c = rw (c .before .before .before .before .before .before .answer4 .given .1) (shows-one _ _ _ refl _ _ _ _ (c .before .before .print3 .ensures))
+returns-7 c = rw (c .before .before .before .before .before .before .before .answer4 .given .1) (shows-one _ _ _ refl _ _ _ _ (c .before .before .print3 .ensures))
 
 same-length-5 : tie.Need-same-length-5
 same-length-5 c = search needs
@@ -119,18 +131,22 @@ show-spec =
     enum-told-2
     enum-told-3
     enum-known-answer
+    cast-t16
     slice-aggregate-print
     print-requires
     enum-known-answer-2
     print-out-requires
     enum-known-answer-3
+    cast-t23
     slice-aggregate-print-2
     print-requires-2
     enum-known-answer-4
+    cast-t28
     slice-aggregate-print-3
     print-requires-3
     enum-known-answer-5
     number-of-requires
+    cast-t34
     slice-aggregate-print-4
     print-requires-4
     returns

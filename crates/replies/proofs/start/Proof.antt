@@ -12,7 +12,7 @@ fresh-requires : tie.Need-fresh-requires
 fresh-requires c κs = search needs
 
 returns : tie.Need-returns
-returns c = λ m l. program-waits (record { live = false; words = 0; bench = c .before .before .fresh .result .bench }) m l refl
+returns c = λ m l. program-waits (record { live = false; long = 0; bench = c .before .before .fresh .result .bench }) m l refl
 
 pub start-spec : {M : Type 1} → statement M
 start-spec = tie.close (tie.spec slice-aggregate-fresh fresh-requires returns)

@@ -16,19 +16,34 @@ slice-aggregate-counts c = sym (length-take-le _ _ (omega (arith, c .before .bef
 counts-requires : tie.Need-counts-requires
 counts-requires c κs = search needs
 
+cast-t13 : tie.Need-cast-t13
+cast-t13 c = search needs
+
+cast-t14 : tie.Need-cast-t14
+cast-t14 c = search needs
+
+cast-t15 : tie.Need-cast-t15
+cast-t15 c = search needs
+
+cast-t16 : tie.Need-cast-t16
+cast-t16 c = search needs
+
+cast-t17 : tie.Need-cast-t17
+cast-t17 c = search needs
+
 slice-aggregate-print : tie.Need-slice-aggregate-print
 slice-aggregate-print c = search needs
 
 print-requires : tie.Need-print-requires
-print-requires c κs = let p = c .before .before .before .before .before .before .before .before .before .pre in line-fits _ _ _ _ (omega (arith, p)) (omega arith)
+print-requires c κs = let p = c .before .before .before .before .before .before .before .before .before .before .before .before .before .before .pre in line-fits _ _ _ _ (omega (arith, p)) (omega arith)
 
 same-length : tie.Need-same-length
 same-length c = search needs
 
 returns : tie.Need-returns
 returns c =
-    let at-counts = c .before .before .before .before .before in
-    let a = c .before .before .before .before .before .before .before .before .before .before .before .before .args in total-by (a .session) _ (a .store .now) (a .log .now) (at-counts .counts .result) _ _ _ _ (c .before .before .before .before .before .before .before .before .span .ensures) (at-counts .counts .ensures) (c .before .before .print .ensures)
+    let at-counts = c .before .before .before .before .before .before .before .before .before .before in
+    let a = c .before .before .before .before .before .before .before .before .before .before .before .before .before .before .before .before .before .args in total-by (a .session) _ (a .store .now) (a .log .now) (at-counts .counts .result) _ _ _ _ (c .before .before .before .before .before .before .before .before .before .before .before .before .before .span .ensures) (at-counts .counts .ensures) (c .before .before .print .ensures)
 
 pub total-spec : {M : Type 1} → statement M
 total-spec =
@@ -37,6 +52,11 @@ total-spec =
     span-requires
     slice-aggregate-counts
     counts-requires
+    cast-t13
+    cast-t14
+    cast-t15
+    cast-t16
+    cast-t17
     slice-aggregate-print
     print-requires
     same-length

@@ -117,41 +117,57 @@ enum-told-7 c = search needs
 returns-9 : tie.Need-returns-9
 unfolding formed _and_ if_then_else_
 returns-9 c = let a = c .before .before .before .args in let six : length (a .t3) ≡ 6 = search needs in let h : a .n ≤ length (a .t3) = omega arith in
-    sym (rw (c .before .enum-told7 .given .1, count-not (a .t3) (a .n) 0 h (c .if9 .taken)))
+    sym (rw (c .before .enum-told7 .given .1, count-not (a .t3) (a .n) 1 h (c .if9 .taken)))
+
+array-read-t49 : tie.Need-array-read-t49
+array-read-t49 c = search needs
+
+enum-told-8 : tie.Need-enum-told-8
+enum-told-8 c = search needs
 
 returns-10 : tie.Need-returns-10
-unfolding formed
-returns-10 c = sym (rw (c .enum-told .given .1))
+unfolding formed _and_ if_then_else_
+returns-10 c = let a = c .before .before .before .args in let six : length (a .t3) ≡ 6 = search needs in let h : a .n ≤ length (a .t3) = omega arith in
+    sym (rw (c .before .enum-told8 .given .1, count-not (a .t3) (a .n) 0 h (c .if10 .taken)))
 
 returns-11 : tie.Need-returns-11
-unfolding formed _and_ if_then_else_
-returns-11 c = let a = c .before .before .before .before .before .args in let six : length (a .t3) ≡ 6 = search needs in let h : a .n ≤ length (a .t3) = omega arith in
-    sym (rw (c .before .before .before .enum-told2 .given .1, count-from (a .t3) (a .n) 5 h (omega arith), count-to (a .t3) (a .n) 6 h (omega arith), getD-take (a .n) (a .t3) 0 0 (omega arith), getD-take (a .n) (a .t3) 1 0 (omega arith), getD-take (a .n) (a .t3) 2 0 (omega arith), getD-take (a .n) (a .t3) 3 0 (omega arith), getD-take (a .n) (a .t3) 4 0 (omega arith), le-leb _ _ (c .before .if2 .left), c .value-at .ensures))
+unfolding formed
+returns-11 c = sym (rw (c .enum-told .given .1))
 
 returns-12 : tie.Need-returns-12
 unfolding formed _and_ if_then_else_
-returns-12 c = let a = c .before .before .before .before .before .before .before .before .args in let six : length (a .t3) ≡ 6 = search needs in let h : a .n ≤ length (a .t3) = omega arith in
-    sym (rw (c .before .before .before .before .before .before .enum-told3 .given .1, count-from (a .t3) (a .n) 1 h (omega arith), count-to (a .t3) (a .n) 4 h (omega arith), c .value-at5 .ensures, c .before .value-at4 .ensures, c .before .before .value-at3 .ensures, c .before .before .before .value-at2 .ensures, length-take-le (a .n) (a .t3) h))
+returns-12 c = let a = c .before .before .before .before .before .args in let six : length (a .t3) ≡ 6 = search needs in let h : a .n ≤ length (a .t3) = omega arith in
+    sym (rw (c .before .before .before .enum-told2 .given .1, count-from (a .t3) (a .n) 5 h (omega arith), count-to (a .t3) (a .n) 6 h (omega arith), getD-take (a .n) (a .t3) 0 0 (omega arith), getD-take (a .n) (a .t3) 1 0 (omega arith), getD-take (a .n) (a .t3) 2 0 (omega arith), getD-take (a .n) (a .t3) 3 0 (omega arith), getD-take (a .n) (a .t3) 4 0 (omega arith), le-leb _ _ (c .before .if2 .left), c .value-at .ensures))
 
 returns-13 : tie.Need-returns-13
 unfolding formed _and_ if_then_else_
-returns-13 c = let a = c .before .before .before .args in let six : length (a .t3) ≡ 6 = search needs in let h : a .n ≤ length (a .t3) = omega arith in
-    sym (rw (c .before .enum-told4 .given .1, count-is (a .t3) (a .n) 0 h (c .if5 .left)))
+returns-13 c = let a = c .before .before .before .before .before .before .before .before .args in let six : length (a .t3) ≡ 6 = search needs in let h : a .n ≤ length (a .t3) = omega arith in
+    sym (rw (c .before .before .before .before .before .before .enum-told3 .given .1, count-from (a .t3) (a .n) 1 h (omega arith), count-to (a .t3) (a .n) 4 h (omega arith), c .value-at5 .ensures, c .before .value-at4 .ensures, c .before .before .value-at3 .ensures, c .before .before .before .value-at2 .ensures, length-take-le (a .n) (a .t3) h))
 
 returns-14 : tie.Need-returns-14
 unfolding formed _and_ if_then_else_
 returns-14 c = let a = c .before .before .before .args in let six : length (a .t3) ≡ 6 = search needs in let h : a .n ≤ length (a .t3) = omega arith in
-    sym (rw (c .before .enum-told5 .given .1, count-is (a .t3) (a .n) 1 h (c .if6 .left), getD-take (a .n) (a .t3) 0 0 (omega arith)))
+    sym (rw (c .before .enum-told4 .given .1, count-is (a .t3) (a .n) 0 h (c .if5 .left)))
 
 returns-15 : tie.Need-returns-15
 unfolding formed _and_ if_then_else_
-returns-15 c = let a = c .before .before .before .before .args in let six : length (a .t3) ≡ 6 = search needs in let h : a .n ≤ length (a .t3) = omega arith in
-    sym (rw (c .before .before .enum-told6 .given .1, count-is (a .t3) (a .n) 2 h (c .before .if7 .left), getD-take (a .n) (a .t3) 0 0 (omega arith), getD-take (a .n) (a .t3) 1 0 (omega arith), le-leb _ _ (c .if8 .left)))
+returns-15 c = let a = c .before .before .before .args in let six : length (a .t3) ≡ 6 = search needs in let h : a .n ≤ length (a .t3) = omega arith in
+    sym (rw (c .before .enum-told5 .given .1, count-is (a .t3) (a .n) 1 h (c .if6 .left), getD-take (a .n) (a .t3) 0 0 (omega arith)))
 
 returns-16 : tie.Need-returns-16
 unfolding formed _and_ if_then_else_
-returns-16 c = let a = c .before .before .before .args in let six : length (a .t3) ≡ 6 = search needs in let h : a .n ≤ length (a .t3) = omega arith in
-    sym (rw (c .before .enum-told7 .given .1, count-is (a .t3) (a .n) 0 h (c .if9 .left)))
+returns-16 c = let a = c .before .before .before .before .args in let six : length (a .t3) ≡ 6 = search needs in let h : a .n ≤ length (a .t3) = omega arith in
+    sym (rw (c .before .before .enum-told6 .given .1, count-is (a .t3) (a .n) 2 h (c .before .if7 .left), getD-take (a .n) (a .t3) 0 0 (omega arith), getD-take (a .n) (a .t3) 1 0 (omega arith), le-leb _ _ (c .if8 .left)))
+
+returns-17 : tie.Need-returns-17
+unfolding formed _and_ if_then_else_
+returns-17 c = let a = c .before .before .before .args in let six : length (a .t3) ≡ 6 = search needs in let h : a .n ≤ length (a .t3) = omega arith in
+    sym (rw (c .before .enum-told7 .given .1, count-is (a .t3) (a .n) 1 h (c .if9 .left), getD-take (a .n) (a .t3) 0 0 (omega arith)))
+
+returns-18 : tie.Need-returns-18
+unfolding formed _and_ if_then_else_
+returns-18 c = let a = c .before .before .before .args in let six : length (a .t3) ≡ 6 = search needs in let h : a .n ≤ length (a .t3) = omega arith in
+    sym (rw (c .before .enum-told8 .given .1, count-is (a .t3) (a .n) 0 h (c .if10 .left)))
 
 pub form-spec : {M : Type 1} → statement M
 form-spec =
@@ -187,10 +203,14 @@ form-spec =
     array-read-t43
     enum-told-7
     returns-9
+    array-read-t49
+    enum-told-8
     returns-10
     returns-11
     returns-12
     returns-13
     returns-14
     returns-15
-    returns-16)
+    returns-16
+    returns-17
+    returns-18)

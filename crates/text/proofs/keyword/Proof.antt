@@ -90,15 +90,34 @@ returns-6 c = sym (rw (
   sym (c .before .same6 .ensures) ∙ c .if6 .taken,
 ))
 
+slice-aggregate-same-7 : tie.Need-slice-aggregate-same-7
+slice-aggregate-same-7 c = search needs
+
+same-requires-7 : tie.Need-same-requires-7
+same-requires-7 c κs = search needs
+
 returns-7 : tie.Need-returns-7
 unfolding keyOf if_then_else_
 returns-7 c = sym (rw (
-  sym (c .before .before .before .before .before .before .before .before .before .before .before .before .before .before .before .before .same .ensures) ∙ c .before .before .before .before .before .before .before .before .before .before .before .before .before .before .before .if1 .left,
-  sym (c .before .before .before .before .before .before .before .before .before .before .before .before .before .same2 .ensures) ∙ c .before .before .before .before .before .before .before .before .before .before .before .before .if2 .left,
-  sym (c .before .before .before .before .before .before .before .before .before .before .same3 .ensures) ∙ c .before .before .before .before .before .before .before .before .before .if3 .left,
-  sym (c .before .before .before .before .before .before .before .same4 .ensures) ∙ c .before .before .before .before .before .before .if4 .left,
-  sym (c .before .before .before .before .same5 .ensures) ∙ c .before .before .before .if5 .left,
-  sym (c .before .same6 .ensures) ∙ c .if6 .left,
+  sym (c .before .before .before .before .before .before .before .before .before .before .before .before .before .before .before .before .before .before .before .same .ensures) ∙ c .before .before .before .before .before .before .before .before .before .before .before .before .before .before .before .before .before .before .if1 .left,
+  sym (c .before .before .before .before .before .before .before .before .before .before .before .before .before .before .before .before .same2 .ensures) ∙ c .before .before .before .before .before .before .before .before .before .before .before .before .before .before .before .if2 .left,
+  sym (c .before .before .before .before .before .before .before .before .before .before .before .before .before .same3 .ensures) ∙ c .before .before .before .before .before .before .before .before .before .before .before .before .if3 .left,
+  sym (c .before .before .before .before .before .before .before .before .before .before .same4 .ensures) ∙ c .before .before .before .before .before .before .before .before .before .if4 .left,
+  sym (c .before .before .before .before .before .before .before .same5 .ensures) ∙ c .before .before .before .before .before .before .if5 .left,
+  sym (c .before .before .before .before .same6 .ensures) ∙ c .before .before .before .if6 .left,
+  sym (c .before .same7 .ensures) ∙ c .if7 .taken,
+))
+
+returns-8 : tie.Need-returns-8
+unfolding keyOf if_then_else_
+returns-8 c = sym (rw (
+  sym (c .before .before .before .before .before .before .before .before .before .before .before .before .before .before .before .before .before .before .before .same .ensures) ∙ c .before .before .before .before .before .before .before .before .before .before .before .before .before .before .before .before .before .before .if1 .left,
+  sym (c .before .before .before .before .before .before .before .before .before .before .before .before .before .before .before .before .same2 .ensures) ∙ c .before .before .before .before .before .before .before .before .before .before .before .before .before .before .before .if2 .left,
+  sym (c .before .before .before .before .before .before .before .before .before .before .before .before .before .same3 .ensures) ∙ c .before .before .before .before .before .before .before .before .before .before .before .before .if3 .left,
+  sym (c .before .before .before .before .before .before .before .before .before .before .same4 .ensures) ∙ c .before .before .before .before .before .before .before .before .before .if4 .left,
+  sym (c .before .before .before .before .before .before .before .same5 .ensures) ∙ c .before .before .before .before .before .before .if5 .left,
+  sym (c .before .before .before .before .same6 .ensures) ∙ c .before .before .before .if6 .left,
+  sym (c .before .same7 .ensures) ∙ c .if7 .left,
 ))
 
 pub keyword-spec : {M : Type 1} → statement M
@@ -123,4 +142,7 @@ keyword-spec =
     slice-aggregate-same-6
     same-requires-6
     returns-6
-    returns-7)
+    slice-aggregate-same-7
+    same-requires-7
+    returns-7
+    returns-8)

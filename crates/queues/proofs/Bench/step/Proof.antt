@@ -1,8 +1,9 @@
 use borrow.Author.Needs.{needs}
 use mathlib.Core.Path.{refl, sym, ap, _∙_}
+use lib.ListN.{set}
 use Rattle.model.specs.Calls.{lent, stepOf}
 use Rattle.model.proofs.Tests.{if-true, if-false, passed, refused}
-use Rattle.machine.proofs.Stepping.{steppable, settles, replaces}
+use Rattle.machine.proofs.Stepping.{steppable, settles, restarts, replaces}
 use Rattle.queues.specs.declared.Reply.{Reply}
 use Rattle.queues.specs.Left.{left}
 use Rattle.queues.proofs.Faces.{reply-left}
@@ -48,11 +49,29 @@ step-in-requires c κs =
 enum-told : tie.Need-enum-told
 enum-told c = search needs
 
-settled-requires : tie.Need-settled-requires
-settled-requires c κs = search needs
+enum-told-2 : tie.Need-enum-told-2
+enum-told-2 c = search needs
 
-reply-of-requires : tie.Need-reply-of-requires
-reply-of-requires c κs = search needs
+mul-one-more : tie.Need-mul-one-more
+mul-one-more c = search needs
+
+element-copy-out-one-more : tie.Need-element-copy-out-one-more
+element-copy-out-one-more c = search needs
+
+one-more-requires : tie.Need-one-more-requires
+one-more-requires c κs = search needs
+
+mul-next : tie.Need-mul-next
+mul-next c = search needs
+
+element-write-next : tie.Need-element-write-next
+element-write-next c = search needs
+
+mul-back : tie.Need-mul-back
+mul-back c = search needs
+
+element-set-from-back : tie.Need-element-set-from-back
+element-set-from-back c = search needs
 
 same-length-3 : tie.Need-same-length-3
 same-length-3 c = search needs
@@ -63,21 +82,21 @@ same-length-4 c = search needs
 returns-2 : tie.Need-returns-2
 unfolding stepOf
 returns-2 c =
-    let at-step = c .before .before .before .before .before .before .before in
+    let at-step = c .before .before .before .before .before .before .before .before .before in
     let at-place-of = at-step .before .before .before .before .before in
     let at-valid = at-place-of .before .before in
     let a = at-valid .before .before .before .before .before .before .args in
     let b = a .self .state in
     let k = at-place-of .place-of .result in
-    let step = at-step .step-in .ensures .1 (b .used) (b .restarts) k (b .workers) (at-place-of .place-of .ensures .1) refl in
-    reply-left (c .reply-of .ensures) (settles b k (at-step .step-in .result .line) (at-step .step-in .result .made) step (c .before .settled .ensures))
+    let step = at-step .step-in .ensures .1 (b .used) k (b .restarts) (b .workers) (at-place-of .place-of .ensures .1) refl in
+    restarts b k (at-step .step-in .result .line) (at-step .step-in .result .made) step (c .before .before .enum-told2 .given .1) (ap (set (b .restarts) k) (c .one-more .ensures))
     ∙ sym (if-true _ (passed (at-valid .valid .ensures) (at-place-of .before .if1 .left)))
 
-mul-t22 : tie.Need-mul-t22
-mul-t22 c = search needs
+settled-requires : tie.Need-settled-requires
+settled-requires c κs = search needs
 
-element-set-from-next : tie.Need-element-set-from-next
-element-set-from-next c = search needs
+reply-of-requires : tie.Need-reply-of-requires
+reply-of-requires c κs = search needs
 
 same-length-5 : tie.Need-same-length-5
 same-length-5 c = search needs
@@ -88,13 +107,38 @@ same-length-6 c = search needs
 returns-3 : tie.Need-returns-3
 unfolding stepOf
 returns-3 c =
+    let at-step = c .before .before .before .before .before .before .before .before in
+    let at-place-of = at-step .before .before .before .before .before in
+    let at-valid = at-place-of .before .before in
+    let a = at-valid .before .before .before .before .before .before .args in
+    let b = a .self .state in
+    let k = at-place-of .place-of .result in
+    let step = at-step .step-in .ensures .1 (b .used) k (b .restarts) (b .workers) (at-place-of .place-of .ensures .1) refl in
+    reply-left (c .reply-of .ensures) (settles b k (at-step .step-in .result .line) (at-step .step-in .result .made) step (c .before .settled .ensures))
+    ∙ sym (if-true _ (passed (at-valid .valid .ensures) (at-place-of .before .if1 .left)))
+
+mul-t24 : tie.Need-mul-t24
+mul-t24 c = search needs
+
+element-set-from-next : tie.Need-element-set-from-next
+element-set-from-next c = search needs
+
+same-length-7 : tie.Need-same-length-7
+same-length-7 c = search needs
+
+same-length-8 : tie.Need-same-length-8
+same-length-8 c = search needs
+
+returns-4 : tie.Need-returns-4
+unfolding stepOf
+returns-4 c =
     let at-step = c .before .before .before .before .before .before in
     let at-place-of = at-step .before .before .before .before .before in
     let at-valid = at-place-of .before .before in
     let a = at-valid .before .before .before .before .before .before .args in
     let b = a .self .state in
     let k = at-place-of .place-of .result in
-    let step = at-step .step-in .ensures .1 (b .used) (b .restarts) k (b .workers) (at-place-of .place-of .ensures .1) refl in
+    let step = at-step .step-in .ensures .1 (b .used) k (b .restarts) (b .workers) (at-place-of .place-of .ensures .1) refl in
     replaces b k (at-step .step-in .result .line) (at-step .step-in .result .made) step (c .enum-told .given .1)
     ∙ sym (if-true _ (passed (at-valid .valid .ensures) (at-place-of .before .if1 .left)))
 
@@ -112,13 +156,24 @@ step-spec =
     element-copy-out-own
     step-in-requires
     enum-told
-    settled-requires
-    reply-of-requires
+    enum-told-2
+    mul-one-more
+    element-copy-out-one-more
+    one-more-requires
+    mul-next
+    element-write-next
+    mul-back
+    element-set-from-back
     same-length-3
     same-length-4
     returns-2
-    mul-t22
-    element-set-from-next
+    settled-requires
+    reply-of-requires
     same-length-5
     same-length-6
-    returns-3)
+    returns-3
+    mul-t24
+    element-set-from-next
+    same-length-7
+    same-length-8
+    returns-4)

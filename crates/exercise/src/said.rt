@@ -1,0 +1,60 @@
+// What is printed: what was tried, and what the bench answered.
+use libc::STDOUT_FILENO;
+use model::Answer;
+
+pub fn text(bytes: &[u8]) {
+    io::write_all(STDOUT_FILENO, bytes);
+}
+
+pub fn number(n: u32) {
+    io::print_decimal(STDOUT_FILENO, n as u64);
+}
+
+// What an answer says, in numbers: 0 accepted, 1 to 4 the kind of its log entry, 5 goes on, 6 refused, 7 accepted with a put
+// number; and beside it the put's number or the refusal's.
+struct Said {
+    kind: u32,
+    number: u32,
+}
+
+fn said_as(kind: u32, number: u32) -> Said {
+    Said { kind, number }
+}
+
+fn said_by(answer: Answer) -> Said {
+    match answer {
+        Answer::Accepted => said_as(0, 0),
+        Answer::Numbered { number } => said_as(7, number),
+        Answer::GoesOn => said_as(5, 0),
+        Answer::Finished { worker: _, task } => said_as(1, task.number),
+        Answer::HandedOut { worker: _, task } => said_as(2, task.number),
+        Answer::Empty { worker: _ } => said_as(3, 0),
+        Answer::Full { worker: _, task } => said_as(4, task.number),
+        Answer::Refused { why } => said_as(6, queues::number_of(why)),
+    }
+}
+
+fn said_text(said: Said) {
+    let kind = said.kind;
+    match kind {
+        1 => text(b"finished put "),
+        2 => text(b"handed out put "),
+        3 => text(b"EMPTY"),
+        4 => text(b"FULL for put "),
+        5 => text(b"goes on"),
+        6 => text(b"refused "),
+        7 => text(b"accepted as put "),
+        _ => text(b"accepted"),
+    }
+    if 0 < said.number {
+        number(said.number);
+    }
+    text(b"\n");
+}
+
+// A line of output.
+pub fn report(tried: &[u8], answer: Answer) {
+    text(tried);
+    text(b": ");
+    said_text(said_by(answer));
+}
