@@ -1,6 +1,6 @@
 //! The bench: one of the three machines and a crew, and the calls fresh, begin,
-//! step, drop_link and who with their refusals in order. Store and log are lent to it;
-//! the log is kept by whoever steps.
+//! step, drop_link, drain and who with their refusals in order. Store and log are
+//! lent to it; the log is kept by whoever steps.
 
 use crate::double_ended::DoubleEnded;
 use crate::fifo::Fifo;
@@ -9,7 +9,7 @@ use crate::lifo::Lifo;
 use crate::outcome::{refusal, Outcome, Place};
 use crate::store::{Store, LARGEST};
 use crate::task::{Payload, Task, MOST_PAYLOAD};
-use crate::witness::Witness;
+use crate::witness::{Shown, Witness};
 
 /// The last put number.
 pub const LAST_NUMBER: u32 = 65_535;
@@ -39,6 +39,8 @@ pub struct Shape {
     pub size: u32,
     pub crew: u32,
     pub payload_words: u32,
+    /// With delayed stores.
+    pub delayed: bool,
 }
 
 #[derive(Clone, Copy, Debug, PartialEq, Eq)]
@@ -61,7 +63,7 @@ impl Bench {
     /// Fresh, on the lent words. They are taken if the bench is accepted, and
     /// stay where they are if it is refused.
     pub fn fresh(shape: Shape, words: &mut Vec<u32>) -> Result<Bench, u32> {
-        let Shape { kind, width, size, crew, payload_words } = shape;
+        let Shape { kind, width, size, crew, payload_words, delayed } = shape;
         if !(1..=5).contains(&kind) {
             return Err(refusal::UNKNOWN_QUEUE);
         }
@@ -80,7 +82,7 @@ impl Bench {
         if words.len() < (size * (payload_words + 1)) as usize {
             return Err(refusal::SHORT_STORE);
         }
-        let store = Store::fresh(std::mem::take(words), size, payload_words);
+        let store = Store::fresh(std::mem::take(words), size, payload_words).with_line(delayed);
         let queue = match kind {
             1 => Queue::Lifo(Lifo::new(Guard::tag(width), store)),
             2 => Queue::Fifo(Fifo::new(store)),
@@ -148,6 +150,15 @@ impl Bench {
         }
     }
 
+    /// The event: the oldest waiting store is put down.
+    pub fn drain(&mut self) -> Result<(), u32> {
+        if with_queue!(&mut self.queue, machine => machine.drain()) {
+            Ok(())
+        } else {
+            Err(refusal::NONE_WAITING)
+        }
+    }
+
     /// How often `worker` was beaten.
     pub fn who(&self, worker: u32) -> Result<u32, u32> {
         if worker >= self.crew {
@@ -170,7 +181,8 @@ impl Bench {
         self.restarts.iter().map(|&count| u64::from(count)).sum()
     }
 
-    /// Head, count and tag; of FIFO head, tail and 0; of LIFO 0, t and g.
+    /// What memory has: head, count and tag; of FIFO head, tail and 0; of LIFO 0,
+    /// t and g.
     pub fn anchor(&self) -> [u32; 3] {
         with_queue!(&self.queue, machine => machine.anchor())
     }
@@ -179,12 +191,21 @@ impl Bench {
         with_queue!(&self.queue, machine => machine.store())
     }
 
+    pub fn shown(&self) -> Shown<'_> {
+        Shown {
+            anchor: self.anchor(),
+            restarts: &self.restarts,
+            store: self.store(),
+            copying: with_queue!(&self.queue, machine => machine.copying()),
+        }
+    }
+
     /// Gives the lent words back.
     pub fn into_words(self) -> Vec<u32> {
         with_queue!(self.queue, machine => machine.into_store()).into_words()
     }
 
-    /// Each task in the window.
+    /// Each task in the window, as the owner reads it.
     pub fn window(&self) -> Box<dyn Iterator<Item = Task> + '_> {
         with_queue!(&self.queue, machine => Box::new(machine.window()))
     }
@@ -204,9 +225,10 @@ impl Bench {
 mod tests {
     use super::*;
     use crate::random::Random;
+    use crate::settled::Memory;
     use crate::witness::Blind;
 
-    const LIFO: Shape = Shape { kind: 1, width: 4, size: 1, crew: 2, payload_words: 1 };
+    const LIFO: Shape = Shape { kind: 1, width: 4, size: 1, crew: 2, payload_words: 1, delayed: false };
 
     const PUT: Operation = Operation::Put { payload: [5, 6, 7, 8] };
 
@@ -257,7 +279,7 @@ mod tests {
 
     #[test]
     fn fresh_refuses_in_the_order_1_to_4_16_5() {
-        let wrong = Shape { kind: 0, width: 0, size: 0, crew: 0, payload_words: 0 };
+        let wrong = Shape { kind: 0, width: 0, size: 0, crew: 0, payload_words: 0, delayed: false };
         assert_eq!(refused(wrong, 0), 1);
         assert_eq!(refused(Shape { kind: 1, ..wrong }, 0), 2);
         assert_eq!(refused(Shape { kind: 1, width: 1, ..wrong }, 0), 3);
@@ -364,6 +386,150 @@ mod tests {
         }
     }
 
+    /// Steps the owner until the line is full or it is idle; what was answered
+    /// last.
+    fn until_refused(bench: &mut Bench) -> Outcome {
+        loop {
+            let outcome = bench.step(0, true, &mut Blind);
+            if !matches!(outcome, Outcome::GoesOn | Outcome::Published) {
+                return outcome;
+            }
+        }
+    }
+
+    #[test]
+    fn a_step_refuses_in_the_order_6_8_18_11_and_a_drain_19() {
+        for kind in 1..=5 {
+            for payload_words in 1..=4 {
+                let shape = Shape { kind, payload_words, size: 8, delayed: true, ..LIFO };
+                let mut bench = Bench::fresh(shape, &mut vec![0; 40]).unwrap();
+                assert_eq!(bench.drain(), Err(19));
+                let refused = loop {
+                    bench.begin(0, PUT).unwrap();
+                    let outcome = until_refused(&mut bench);
+                    if !matches!(outcome, Outcome::Finished(_)) {
+                        break outcome;
+                    }
+                };
+                assert_eq!(refused, Outcome::Refused(18));
+                assert_eq!(bench.store().line().stores().len(), 8);
+                // 18 before 11; 6 and 8 before it.
+                assert_eq!(bench.step(0, false, &mut Blind), Outcome::Refused(18));
+                assert_eq!(bench.step(2, true, &mut Blind), Outcome::Refused(6));
+                assert_eq!(bench.step(1, true, &mut Blind), Outcome::Refused(8));
+                // A thief's lines make no stores that wait.
+                bench.begin(1, Operation::Steal).unwrap();
+                while bench.step(1, true, &mut Blind) == Outcome::GoesOn {}
+                while bench.place(0) != Some(Place::Idle) {
+                    assert_eq!(bench.drain(), Ok(()));
+                    until_refused(&mut bench);
+                }
+                assert_eq!(bench.store().line().stores().len(), 8);
+                assert_eq!(bench.step(0, true, &mut Blind), Outcome::Refused(8), "8 before 18");
+                for _ in 0..8 {
+                    assert_eq!(bench.drain(), Ok(()));
+                }
+                assert_eq!(bench.drain(), Err(19));
+            }
+        }
+    }
+
+    #[test]
+    fn without_the_mode_none_waits() {
+        for kind in 1..=5 {
+            let mut bench = Bench::fresh(Shape { kind, size: 8, ..LIFO }, &mut vec![0; 16]).unwrap();
+            for _ in 0..3 {
+                bench.begin(0, PUT).unwrap();
+                for _ in 0..6 {
+                    bench.step(0, true, &mut Blind);
+                    assert_eq!(bench.drain(), Err(19));
+                }
+            }
+        }
+    }
+
+    /// A bench that drains each store before anything else happens is one that
+    /// does not delay them.
+    #[test]
+    fn drained_at_once_is_as_without_the_mode() {
+        let mut random = Random::new(8);
+        for _ in 0..60 {
+            let shape = Shape {
+                kind: random.between(1, 5),
+                width: random.between(1, 3),
+                size: 1 << random.below(3),
+                crew: random.between(1, 8),
+                payload_words: random.between(1, 4),
+                delayed: false,
+            };
+            let mut benches = [false, true].map(|delayed| Bench::fresh(Shape { delayed, ..shape }, &mut vec![9; 130]).unwrap());
+            for _ in 0..2000 {
+                let worker = random.below(shape.crew);
+                let room = random.chance(95);
+                let draw = random.below(100);
+                let answers = benches.each_mut().map(|bench| {
+                    if bench.place(worker) == Some(Place::Idle) {
+                        let operation = match worker {
+                            0 if draw < 60 => PUT,
+                            0 => Operation::Take,
+                            _ => Operation::Steal,
+                        };
+                        return Err(bench.begin(worker, operation));
+                    }
+                    if draw < 5 {
+                        return Err(bench.drop_link(worker).map(|()| None));
+                    }
+                    let outcome = bench.step(worker, room, &mut Blind);
+                    while bench.drain().is_ok() {}
+                    Ok(outcome)
+                });
+                assert_eq!(answers[0], answers[1]);
+                let [one, other] = &benches;
+                assert_eq!(one.anchor(), other.anchor());
+                assert_eq!(one.restarts(), other.restarts());
+                assert_eq!(one.store().words(), other.store().words());
+                assert_eq!(one.store().published(), other.store().published());
+                assert!(one.window().eq(other.window()));
+            }
+        }
+    }
+
+    /// What the machines read for the owner is memory with its stores put down.
+    #[test]
+    fn the_window_is_what_is_left_when_all_stores_are_down() {
+        let mut random = Random::new(9);
+        for round in 0..60 {
+            let shape = Shape {
+                kind: random.between(1, 5),
+                width: random.between(1, 3),
+                size: 1 << random.below(3),
+                crew: random.between(1, 4),
+                payload_words: random.between(1, 4),
+                delayed: true,
+            };
+            let mut bench = Bench::fresh(shape, &mut vec![9; 130]).unwrap();
+            let drains = *random.pick(&[5, 20, 40]);
+            for _ in 0..2000 {
+                let worker = random.below(shape.crew);
+                if random.chance(drains) {
+                    bench.drain().ok();
+                } else if bench.place(worker) == Some(Place::Idle) {
+                    let operation = match worker {
+                        0 if random.chance(60) => PUT,
+                        0 => Operation::Take,
+                        _ => Operation::Steal,
+                    };
+                    bench.begin(worker, operation).unwrap();
+                } else {
+                    bench.step(worker, true, &mut Blind);
+                }
+                let settled = Memory::of_owner(shape.kind, &bench.shown());
+                assert_eq!(bench.window().collect::<Vec<_>>(), settled.window(), "round {round}");
+                assert_eq!(bench.full(), settled.count() == settled.size());
+            }
+        }
+    }
+
     /// Hears of line 1 alone.
     struct LineOne(Option<usize>);
 
@@ -386,6 +552,7 @@ mod tests {
                 size: 1 << random.below(3),
                 crew: random.between(2, 8),
                 payload_words: random.between(1, 4),
+                delayed: false,
             };
             let mut bench = Bench::fresh(shape, &mut vec![0; 100]).unwrap();
             let mut held = [false; 8];

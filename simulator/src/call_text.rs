@@ -22,14 +22,17 @@ pub enum Call {
     Step { worker: u32, count: u32 },
     /// The event: the worker's link fails.
     Drop { worker: u32 },
+    /// The event: the oldest waiting store is put down.
+    Drain,
     Who { worker: u32 },
     Front,
     State,
 }
 
 /// What a line says, its newline taken off; none if it is not of the form.
-/// Numbers are written as in the bench program's input.
-pub fn parse(line: &[u8]) -> Option<Line> {
+/// Numbers are written as in the bench program's input. Delayed stores are of the
+/// form only where they are asked for: the library has none yet.
+pub fn parse(line: &[u8], delayed_stores: bool) -> Option<Line> {
     let words: Vec<&[u8]> = line.split(|&byte| byte == b' ').collect();
     let call = match words[..] {
         [b"memory", store, log] => {
@@ -37,12 +40,18 @@ pub fn parse(line: &[u8]) -> Option<Line> {
             return (store <= LONGEST_STORE && log <= LONGEST_LOG)
                 .then_some(Line::Memory { store, log });
         }
-        [b"fresh", kind, width, size, crew, payload_words] => Call::Fresh(Shape {
+        [b"fresh", kind, width, size, crew, payload_words, ref delayed @ ..] => Call::Fresh(Shape {
             kind: number(kind)?,
             width: number(width)?,
             size: number(size)?,
             crew: number(crew)?,
             payload_words: number(payload_words)?,
+            delayed: match delayed {
+                [] => false,
+                [b"0"] if delayed_stores => false,
+                [b"1"] if delayed_stores => true,
+                _ => return None,
+            },
         }),
         [b"begin", worker, b"put", ref words @ ..] if (1..=MOST_PAYLOAD).contains(&words.len()) => {
             // Words that are not there are 0.
@@ -60,6 +69,7 @@ pub fn parse(line: &[u8]) -> Option<Line> {
         }
         [b"step", worker, count] => Call::Step { worker: number(worker)?, count: number(count)? },
         [b"drop", worker] => Call::Drop { worker: number(worker)? },
+        [b"drain"] if delayed_stores => Call::Drain,
         [b"who", worker] => Call::Who { worker: number(worker)? },
         [b"front"] => Call::Front,
         [b"state"] => Call::State,
@@ -76,13 +86,40 @@ fn number(word: &[u8]) -> Option<u32> {
 mod tests {
     use super::*;
 
+    /// As the library takes it.
+    fn parse(line: &[u8]) -> Option<Line> {
+        super::parse(line, false)
+    }
+
+    #[test]
+    fn delayed_stores_where_they_are_asked_for() {
+        let fresh = |delayed| {
+            Some(Line::Call(Call::Fresh(Shape { kind: 3, width: 16, size: 1024, crew: 8, payload_words: 4, delayed })))
+        };
+        let parse = |line: &str, asked| super::parse(line.as_bytes(), asked);
+        assert_eq!(parse("fresh 3 16 1024 8 4", true), fresh(false));
+        assert_eq!(parse("fresh 3 16 1024 8 4 0", true), fresh(false));
+        assert_eq!(parse("fresh 3 16 1024 8 4 1", true), fresh(true));
+        assert_eq!(parse("drain", true), Some(Line::Call(Call::Drain)));
+        for line in ["fresh 3 16 1024 8 4 0", "fresh 3 16 1024 8 4 1", "drain"] {
+            assert_eq!(parse(line, false), None, "{line}");
+        }
+        for line in [
+            "fresh 3 16 1024 8 4 2", "fresh 3 16 1024 8 4 4294967295", "fresh 3 16 1024 8 4 01", "fresh 3 16 1024 8 4 x",
+            "fresh 3 16 1024 8 4 ", "fresh 3 16 1024 8 4 1 1", "fresh 3 16 1024 8", "drain 0", "drain ", "drains", "Drain",
+            "begin 0 drain",
+        ] {
+            assert_eq!(parse(line, true), None, "{line}");
+        }
+    }
+
     #[test]
     fn each_form() {
         assert_eq!(parse(b"memory 10300 20000"), Some(Line::Memory { store: 10_300, log: 20_000 }));
         assert_eq!(parse(b"memory 0 0"), Some(Line::Memory { store: 0, log: 0 }));
         assert_eq!(
             parse(b"fresh 3 16 1024 8 4"),
-            Some(Line::Call(Call::Fresh(Shape { kind: 3, width: 16, size: 1024, crew: 8, payload_words: 4 })))
+            Some(Line::Call(Call::Fresh(Shape { kind: 3, width: 16, size: 1024, crew: 8, payload_words: 4, delayed: false })))
         );
         let begin = |worker, operation| Some(Line::Call(Call::Begin { worker, operation }));
         let put = |payload| begin(0, Operation::Put { payload });

@@ -8,8 +8,10 @@ use crate::call_text::{self, Call, Line};
 use crate::listing::{print, print_hand_out};
 use crate::log_judge::{EMPTY, FINISHED, FULL, HANDED_OUT};
 use crate::outcome::{refusal, Outcome, Place};
+use crate::settled::Memory;
 use crate::task::Task;
-use crate::witness::Witness;
+use crate::waiting::Waiting;
+use crate::witness::{Cause, Witness};
 
 /// What word 0 of the store and of the log is at the start; each later word is
 /// one more than the word before it.
@@ -19,23 +21,34 @@ const LOG_FROM: u32 = 4_000_000_000;
 pub struct Calls<W> {
     /// None before the first line.
     lent: Option<Lent>,
+    /// Whether the list may have delayed stores.
+    delayed_stores: bool,
     witness: W,
 }
 
 impl<W: Witness> Calls<W> {
     pub fn new(witness: W) -> Calls<W> {
-        Calls { lent: None, witness }
+        Calls { lent: None, delayed_stores: false, witness }
+    }
+
+    /// A list that may have delayed stores, which the library has not yet.
+    pub fn with_delayed_stores(self) -> Calls<W> {
+        Calls { delayed_stores: true, ..self }
     }
 
     pub fn witness(&self) -> &W {
         &self.witness
     }
 
+    pub fn into_witness(self) -> W {
+        self.witness
+    }
+
     /// Plays one line, its newline taken off, and writes its answers, each as
     /// soon as it is there. Answers false if the line is not of the form: then
     /// nothing was played.
     pub fn line(&mut self, line: &[u8], out: &mut impl Write) -> io::Result<bool> {
-        match (call_text::parse(line), &mut self.lent) {
+        match (call_text::parse(line, self.delayed_stores), &mut self.lent) {
             (Some(Line::Memory { store, log }), None) => self.lent = Some(Lent::new(store, log)),
             (Some(Line::Call(call)), Some(lent)) => {
                 lent.play(call, &mut self.witness, out)?;
@@ -61,6 +74,11 @@ impl<W: Witness> Calls<W> {
         self.bench().is_some_and(Bench::full)
     }
 
+    /// How many stores wait.
+    pub fn waiting(&self) -> usize {
+        self.bench().map_or(0, |bench| bench.store().line().stores().len())
+    }
+
     /// How many more entries the log can take.
     pub fn entries_left(&self) -> u32 {
         self.lent.as_ref().map_or(0, |lent| (lent.words_left() / lent.entry()) as u32)
@@ -73,7 +91,8 @@ struct Lent {
     log: Vec<u32>,
     /// Words of the log written.
     written: usize,
-    /// The payload words of the last bench.
+    /// The kind and the payload words of the last bench.
+    kind: u32,
     payload_words: u32,
     /// None before the first fresh and after a refused one.
     bench: Option<Bench>,
@@ -85,6 +104,7 @@ impl Lent {
             store: (STORE_FROM..STORE_FROM + store).collect(),
             log: (LOG_FROM..LOG_FROM + log).collect(),
             written: 0,
+            kind: 0,
             payload_words: 1,
             bench: None,
         }
@@ -103,6 +123,9 @@ impl Lent {
     fn show<W: Witness>(&self, witness: &mut W) {
         if let Some(bench) = &self.bench {
             witness.shared(bench.anchor(), bench.restarts());
+            if witness.watches() {
+                witness.after(Cause::Other, &bench.shown());
+            }
         }
     }
 
@@ -110,6 +133,7 @@ impl Lent {
         match call {
             Call::Fresh(shape) => answer(self.fresh(shape, witness), out),
             Call::Drop { worker } => answer(self.drop_link(worker, witness), out),
+            Call::Drain => answer(self.drain(witness), out),
             Call::Begin { worker, operation } => match self.begin(worker, operation, witness) {
                 Ok(Some(number)) => say(out, b'N', &[number]),
                 Ok(None) => say(out, b'A', &[]),
@@ -141,6 +165,7 @@ impl Lent {
             self.store = bench.into_words();
         }
         self.bench = Some(Bench::fresh(shape, &mut self.store)?);
+        self.kind = shape.kind;
         self.payload_words = shape.payload_words;
         self.written = 0;
         witness.fresh(shape);
@@ -170,6 +195,22 @@ impl Lent {
         Ok(())
     }
 
+    fn drain<W: Witness>(&mut self, witness: &mut W) -> Result<(), u32> {
+        let bench = self.bench.as_mut().ok_or(refusal::FOREIGN_STATE)?;
+        witness.call();
+        let oldest = bench.store().line().stores().first().copied();
+        bench.drain()?;
+        witness.shared(bench.anchor(), bench.restarts());
+        if witness.watches() {
+            witness.after(Cause::Drain, &bench.shown());
+        }
+        if let Some(store) = oldest {
+            witness.drained(store);
+        }
+        show_window(self.kind, bench, witness);
+        Ok(())
+    }
+
     fn who<W: Witness>(&self, worker: u32, witness: &mut W) -> Result<u32, u32> {
         let bench = self.bench.as_ref().ok_or(refusal::FOREIGN_STATE)?;
         let count = bench.who(worker)?;
@@ -185,10 +226,11 @@ impl Lent {
         witness.call();
         let outcome = bench.step(worker, room, witness);
         witness.shared(bench.anchor(), bench.restarts());
-        witness.answered(worker, outcome);
-        if witness.wants_window() {
-            witness.window(&mut bench.window());
+        if witness.watches() {
+            witness.after(Cause::Step { worker, outcome }, &bench.shown());
         }
+        witness.answered(worker, outcome);
+        show_window(self.kind, bench, witness);
         match outcome {
             Outcome::GoesOn | Outcome::Restarted | Outcome::Published => say(out, b'G', &[]),
             Outcome::Finished(task) => {
@@ -225,7 +267,8 @@ impl Lent {
 
     /// What is shared: the anchor; how many arrays are published and how many
     /// claimed; each claimed one; put numbers used; words of the log written;
-    /// each worker's restarts, all eight; and the store.
+    /// each worker's restarts, all eight; with delayed stores how many wait, and
+    /// each of them; and the store.
     fn state(&self, bench: &Bench) -> Vec<u32> {
         let store = bench.store();
         let mut values = bench.anchor().to_vec();
@@ -235,8 +278,36 @@ impl Lent {
         }
         values.extend([bench.numbers_used(), self.written as u32]);
         values.extend(bench.restarts());
+        if store.line().delayed() {
+            values.push(store.line().stores().len() as u32);
+            for &waiting in store.line().stores() {
+                match waiting {
+                    Waiting::Word { array, slot, word, value } => {
+                        values.extend([1, store.address(array, slot, word) as u32, value]);
+                    }
+                    Waiting::Note { published } => values.extend([2, published as u32]),
+                    Waiting::Anchor([head, count, tag]) => values.extend([3, head, count, tag]),
+                    Waiting::Head(head) => values.extend([4, head]),
+                    Waiting::Tail(tail) => values.extend([5, tail]),
+                }
+            }
+        }
         values.extend(store.words());
         values
+    }
+}
+
+/// Shows the witness the window, if it has moved: with delayed stores the one
+/// that is left when all waiting stores are put down.
+fn show_window<W: Witness>(kind: u32, bench: &Bench, witness: &mut W) {
+    if !witness.wants_window() {
+        return;
+    }
+    if bench.store().line().delayed() {
+        let window = Memory::of_owner(kind, &bench.shown()).window();
+        witness.window(&mut window.into_iter());
+    } else {
+        witness.window(&mut bench.window());
     }
 }
 
@@ -467,6 +538,23 @@ mod tests {
             assert_eq!(*calls.witness().finding() == Finding::Kept, restarts);
             assert!(!calls.witness().finding().is_violation());
         }
+    }
+
+    #[test]
+    fn delayed_stores_are_shown_and_drained() {
+        let mut calls = Calls::new(Blind).with_delayed_stores();
+        let mut out = Vec::new();
+        let list = "memory 3 8, drain, fresh 2 1 1 2 1 1, begin 0 put 5, step 0 6, state, begin 1 steal, step 1 3, \
+                    drain, drain, drain, state, drain, fresh 2 1 1 2 1 0, state, drain";
+        for line in list.split(", ") {
+            assert!(calls.line(line.as_bytes(), &mut out).unwrap());
+        }
+        assert_eq!(
+            String::from_utf8(out).unwrap().trim_end().replace('\n', ", "),
+            "R 12, A, N 1, G, G, G, G, G, D 1, S 0 0 0 1 1 0 2 1 4 0 0 0 0 0 0 0 0 3 1 0 1 1 1 5 5 1 0 0 3000000002, \
+             A, G, G, E 1, A, A, A, S 0 1 0 1 1 0 2 1 8 0 0 0 0 0 0 0 0 0 1 5 3000000002, R 19, \
+             A, S 0 0 0 1 1 0 2 0 0 0 0 0 0 0 0 0 0 0 0 3000000002, R 19"
+        );
     }
 
     #[test]

@@ -11,12 +11,20 @@
 //! compare. Every front of a list is a list, so what goes wrong before the
 //! break is wrong, and what goes wrong from the break on is not. A list starts at
 //! an accepted fresh, so a later fresh starts another.
+//!
+//! With delayed stores (wish 8) the window is the one that the owner reads, its
+//! words included; the premise counts the puts whose anchor store (FIFO: tail's)
+//! drained between line 1 and the compare; a thief's EMPTY concerns only puts
+//! drained by its line 1. A put that leaves n stores waiting, its own last, is
+//! drained by the n-th drain after it. Puts drain in the order they finished.
 
+use std::collections::VecDeque;
 use std::fmt;
 
 use crate::bench::Shape;
 use crate::task::Task;
-use crate::witness::Witness;
+use crate::waiting::Waiting;
+use crate::witness::{Cause, Shown, Witness};
 
 #[derive(Clone, Copy, Default)]
 struct Put {
@@ -62,8 +70,16 @@ pub struct Demand3 {
     finished: Vec<u32>,
     /// All finished puts before this place were handed out.
     open_from: usize,
-    /// How many puts had finished by line 1 of each worker's attempt.
-    finished_by_line_one: [usize; 8],
+    /// How many of the finished puts are drained; without delayed stores all are.
+    drained: usize,
+    /// For each of the others, the drain that it waits for, counted from 1.
+    due: VecDeque<u64>,
+    drains: u64,
+    /// How many stores wait.
+    waiting: usize,
+    /// How many puts had finished by line 1 of the owner's attempt, and how many
+    /// were drained by line 1 of each thief's.
+    there_by_line_one: [usize; 8],
     looks: u64,
     window_moved: bool,
     finding: Finding,
@@ -79,7 +95,11 @@ impl Demand3 {
             puts: vec![Put::default()],
             finished: Vec::new(),
             open_from: 0,
-            finished_by_line_one: [0; 8],
+            drained: 0,
+            due: VecDeque::new(),
+            drains: 0,
+            waiting: 0,
+            there_by_line_one: [0; 8],
             looks: 0,
             window_moved: false,
             finding: Finding::Kept,
@@ -100,6 +120,14 @@ impl Demand3 {
         // Only the first word counts: after a break nothing is promised.
         if self.finding == Finding::Kept {
             self.finding = Finding::Violated { call: self.calls, what };
+        }
+    }
+
+    /// Counts the puts that wait for no further drain.
+    fn count_drained(&mut self) {
+        while self.due.front().is_some_and(|&drain| drain <= self.drains) {
+            self.due.pop_front();
+            self.drained += 1;
         }
     }
 
@@ -141,12 +169,12 @@ impl Witness for Demand3 {
     }
 
     fn line_one(&mut self, worker: usize) {
-        self.finished_by_line_one[worker] = self.finished.len();
+        self.there_by_line_one[worker] = if worker == 0 { self.finished.len() } else { self.drained };
     }
 
     fn compare(&mut self, worker: usize) {
         let Some(limit) = self.limit else { return };
-        let between = self.finished.len() - self.finished_by_line_one[worker];
+        let between = self.drained - self.there_by_line_one[worker];
         if between >= limit && self.finding == Finding::Kept {
             self.finding = Finding::PremiseBroken { call: self.calls, worker };
         }
@@ -159,6 +187,14 @@ impl Witness for Demand3 {
             _ => self.violation(format!("put {number} can't have finished")),
         }
         self.finished.push(number);
+        self.due.push_back(self.drains + self.waiting as u64);
+        self.count_drained();
+    }
+
+    fn drained(&mut self, _store: Waiting) {
+        self.window_moved = true;
+        self.drains += 1;
+        self.count_drained();
     }
 
     fn handed_out(&mut self, worker: usize, task: Task) {
@@ -176,13 +212,21 @@ impl Witness for Demand3 {
     }
 
     fn empty(&mut self, worker: usize) {
-        // The puts are held in the order they finished, so those finished by
-        // line 1 are a front of the list.
+        // The puts are held in the order they finished, so those finished or
+        // drained by line 1 are a front of the list.
         self.skip_handed_out();
-        if self.open_from < self.finished_by_line_one[worker] {
+        if self.open_from < self.there_by_line_one[worker] {
             let number = self.finished[self.open_from];
             self.violation(format!("worker {worker} answered EMPTY with put {number} there"));
         }
+    }
+
+    fn watches(&self) -> bool {
+        true
+    }
+
+    fn after(&mut self, _cause: Cause, shown: &Shown) {
+        self.waiting = shown.store.line().stores().len();
     }
 
     fn wants_window(&self) -> bool {
@@ -218,7 +262,7 @@ mod tests {
     use super::*;
 
     fn shape(kind: u32, width: u32) -> Shape {
-        Shape { kind, width, size: 1, crew: 2, payload_words: 2 }
+        Shape { kind, width, size: 1, crew: 2, payload_words: 2, delayed: false }
     }
 
     /// With another word behind it, which is the same for all.
@@ -332,6 +376,67 @@ mod tests {
             history.window(&mut [].into_iter());
             assert_eq!(violated(&history), ![1, 3].contains(&kind));
         }
+    }
+
+    /// With put 1 finished and so many stores waiting.
+    fn with_waiting_put(waiting: usize) -> Demand3 {
+        let mut history = Demand3::new();
+        history.fresh(Shape { delayed: true, ..shape(1, 1) });
+        history.put_begun(task(1, 50));
+        history.waiting = waiting;
+        history.finished(1);
+        history
+    }
+
+    const STORE: Waiting = Waiting::Head(0);
+
+    #[test]
+    fn a_thiefs_empty_concerns_the_puts_drained_by_its_line_one() {
+        for (drains, there) in [(0, false), (3, false), (4, true), (6, true)] {
+            let mut history = with_waiting_put(4);
+            for _ in 0..drains {
+                history.drained(STORE);
+            }
+            history.line_one(1);
+            // What drains later is no concern of this attempt.
+            history.drained(STORE);
+            history.empty(1);
+            assert_eq!(violated(&history), there, "{drains} drains");
+        }
+        let mut history = with_waiting_put(4);
+        history.line_one(0);
+        history.empty(0);
+        assert!(violated(&history), "the owner's concerns all that finished");
+    }
+
+    #[test]
+    fn the_premise_counts_the_puts_drained_between() {
+        // Put 1's store is the third, put 2's the sixth.
+        for (before, between, broken) in [(0, 5, false), (0, 6, true), (2, 4, true), (3, 3, false), (6, 2, false)] {
+            let mut history = with_waiting_put(3);
+            history.put_begun(task(2, 60));
+            history.waiting = 6;
+            history.finished(2);
+            for _ in 0..before {
+                history.drained(STORE);
+            }
+            history.line_one(1);
+            for _ in 0..between {
+                history.drained(STORE);
+            }
+            history.compare(1);
+            assert_eq!(history.finding != Finding::Kept, broken, "{before} and {between} drains");
+        }
+        // Finishing in the attempt is not draining in it.
+        let mut history = with_waiting_put(3);
+        history.line_one(1);
+        for number in 2..=5 {
+            history.put_begun(task(number, 60));
+            history.waiting = 8;
+            history.finished(number);
+        }
+        history.compare(1);
+        assert_eq!(history.finding, Finding::Kept);
     }
 
     #[test]

@@ -6,6 +6,7 @@ use crate::guard::Guard;
 use crate::outcome::{refusal, Outcome, Place};
 use crate::store::{Array, Store};
 use crate::task::{Payload, Task};
+use crate::waiting::Waiting;
 use crate::witness::Witness;
 
 /// The head counts modulo this.
@@ -103,28 +104,76 @@ impl DoubleEnded {
         self.workers[worker].counter = Counter::S1;
     }
 
+    /// The anchor that the owner reads.
+    fn owners_anchor(&self) -> Anchor {
+        self.store.line().anchor().map_or(self.anchor, |[h, s, g]| Anchor { h, s, g })
+    }
+
+    /// How many stores the owner's next line makes.
+    fn stores(&self) -> usize {
+        match self.workers[0].counter {
+            Counter::P3(_) | Counter::P4 | Counter::X4 | Counter::T4 => 1,
+            Counter::X3 => self.store.payload_words() as usize + 1,
+            _ => 0,
+        }
+    }
+
+    /// Stores of the owner: they wait or, without the mode, do not.
+    fn own(&mut self, stores: impl IntoIterator<Item = Waiting>) {
+        for store in stores {
+            if let Some(now) = self.store.line_mut().join(store) {
+                self.put_down(now);
+            }
+        }
+    }
+
+    fn put_down(&mut self, store: Waiting) {
+        match store {
+            Waiting::Anchor([h, s, g]) => {
+                self.anchor = Anchor { h, s, g };
+                self.guard.anchor_written();
+            }
+            store => self.store.put_down(store),
+        }
+    }
+
+    /// The oldest waiting store is put down; answers whether one waited.
+    pub fn drain(&mut self) -> bool {
+        let oldest = self.store.line_mut().oldest();
+        oldest.map(|store| self.put_down(store)).is_some()
+    }
+
     pub fn step<W: Witness>(&mut self, worker: usize, room: bool, witness: &mut W) -> Outcome {
+        if worker == 0 && !self.store.line().takes(self.stores()) {
+            return Outcome::Refused(refusal::LINE_FULL);
+        }
+        // What the owner's lines read and what the thieves' do.
+        let seen = if worker == 0 { self.owners_anchor() } else { self.anchor };
         let DoubleEnded { store, anchor, guard, workers, copy_index, copies_left } = self;
         let me = &mut workers[worker];
         match me.counter {
             Counter::Idle => Outcome::Refused(refusal::IDLE),
 
             Counter::P1 => {
-                me.read = *anchor;
+                witness.put_line_one();
+                me.read = seen;
                 go(me, Counter::P2)
             }
-            Counter::P2 if me.read.s == store.size() => go(me, Counter::X1),
+            Counter::P2 if me.read.s == store.owners_size() => go(me, Counter::X1),
             Counter::P2 => go(me, Counter::P3(0)),
             Counter::P3(word) => {
-                store.set_word(me.read.h + me.read.s, word, me.task.0[word]);
-                go(me, if store.more_words(word) { Counter::P3(word + 1) } else { Counter::P4 })
+                let written = store.word_store(me.read.h + me.read.s, word, me.task.0[word]);
+                me.counter = if store.more_words(word) { Counter::P3(word + 1) } else { Counter::P4 };
+                self.own([written]);
+                Outcome::GoesOn
             }
             Counter::P4 if room => {
                 let Anchor { h, s, g } = me.read;
-                *anchor = Anchor { h, s: s + 1, g: guard.next_tag(g) };
-                guard.anchor_written();
+                let next = [h, s + 1, guard.next_tag(g)];
+                let task = me.task;
                 me.counter = Counter::Idle;
-                Outcome::Finished(me.task)
+                self.own([Waiting::Anchor(next)]);
+                Outcome::Finished(task)
             }
             Counter::P4 => Outcome::Refused(refusal::LOG_FULL),
 
@@ -142,31 +191,34 @@ impl DoubleEnded {
             Counter::X2 => {
                 // The anchor as it is now: thieves may have emptied the queue
                 // since line 1, and then there is nothing to copy.
-                *copy_index = anchor.h;
-                *copies_left = anchor.s;
-                go(me, if anchor.s == 0 { Counter::X4 } else { Counter::X3 })
+                *copy_index = seen.h;
+                *copies_left = seen.s;
+                go(me, if seen.s == 0 { Counter::X4 } else { Counter::X3 })
             }
             Counter::X3 => {
-                store.copy_to_claimed(*copy_index);
+                let copies = store.copies_to_claimed(*copy_index);
                 *copy_index += 1;
                 *copies_left -= 1;
-                go(me, if *copies_left == 0 { Counter::X4 } else { Counter::X3 })
+                me.counter = if *copies_left == 0 { Counter::X4 } else { Counter::X3 };
+                self.own(copies);
+                Outcome::GoesOn
             }
             Counter::X4 => {
-                store.publish();
+                let note = store.note_of_claimed();
                 me.counter = Counter::P1;
+                self.own([note]);
                 Outcome::Published
             }
 
             Counter::T1 => {
                 witness.line_one(worker);
-                me.read = *anchor;
+                me.read = seen;
                 go(me, Counter::T2)
             }
             Counter::S1 => {
                 witness.line_one(worker);
                 guard.thief_reads(worker);
-                me.read = *anchor;
+                me.read = seen;
                 go(me, Counter::S2)
             }
             Counter::T2 | Counter::S2 if me.read.s == 0 => {
@@ -179,15 +231,16 @@ impl DoubleEnded {
             }
             Counter::T2 => go(me, Counter::T3(0)),
             Counter::T3(word) => {
-                me.task.0[word] = store.word(store.current(), me.read.h + me.read.s - 1, word);
+                me.task.0[word] = store.owners_word(me.read.h + me.read.s - 1, word);
                 go(me, if store.more_words(word) { Counter::T3(word + 1) } else { Counter::T4 })
             }
             Counter::T4 if room => {
                 // Head and count of the pair read: this can undo steals.
-                *anchor = Anchor { s: me.read.s - 1, ..me.read };
-                guard.anchor_written();
+                let Anchor { h, s, g } = me.read;
+                let task = me.task;
                 me.counter = Counter::Idle;
-                Outcome::HandedOut(me.task)
+                self.own([Waiting::Anchor([h, s - 1, g])]);
+                Outcome::HandedOut(task)
             }
             Counter::T4 => Outcome::Refused(refusal::LOG_FULL),
 
@@ -225,13 +278,13 @@ impl DoubleEnded {
         self.guard.drop_link(worker)
     }
 
-    /// The s tasks from h in the current array.
+    /// The s tasks from h in the current array, as the owner reads them.
     pub fn window(&self) -> impl Iterator<Item = Task> + '_ {
-        let Anchor { h, s, .. } = self.anchor;
+        let Anchor { h, s, .. } = self.owners_anchor();
         (h..h + s).map(|index| self.store.task(index))
     }
 
-    /// What is shared: head, count and tag.
+    /// What memory has: head, count and tag.
     pub fn anchor(&self) -> [u32; 3] {
         [self.anchor.h, self.anchor.s, self.anchor.g]
     }
@@ -246,7 +299,12 @@ impl DoubleEnded {
 
     /// Whether the next put, left alone, would have to expand.
     pub fn full(&self) -> bool {
-        self.anchor.s == self.store.size()
+        self.owners_anchor().s == self.store.owners_size()
+    }
+
+    /// Whether the owner has claimed an array that it has not published.
+    pub fn copying(&self) -> bool {
+        matches!(self.workers[0].counter, Counter::X2 | Counter::X3 | Counter::X4)
     }
 
     pub fn place(&self, worker: usize) -> Place {
@@ -437,7 +495,7 @@ mod tests {
         queue.begin_steal(1);
         steps(&mut queue, 1, 7);
         assert_eq!(steps(&mut queue, 0, 3), Outcome::Published);
-        assert_eq!(queue.store.size(), 2, "twice the size, not twice the count");
+        assert_eq!(queue.store.owners_size(), 2, "twice the size, not twice the count");
         assert_eq!(steps(&mut queue, 0, 5), Outcome::Finished(task(2, 20)));
         assert_eq!(queue.window().collect::<Vec<_>>(), [task(2, 20)]);
     }

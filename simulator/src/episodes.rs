@@ -2,7 +2,7 @@
 
 use crate::damage;
 use crate::outcome::Place;
-use crate::script::Script;
+use crate::script::{Drains, Script};
 use crate::store::LARGEST;
 
 /// Begins something for an idle worker.
@@ -448,6 +448,174 @@ pub fn any(script: &mut Script) {
         9 => equal_value(script),
         10 => links_fail(script),
         _ => race(script),
+    }
+}
+
+/// The owner works on without a drain until no store more can wait, with thieves
+/// that see nothing of it; then the stores drain one by one, with thieves between.
+pub fn held_back(script: &mut Script) {
+    let drains = std::mem::take(&mut script.drains);
+    for _ in 0..script.random.between(1, 6) {
+        if script.idle(0) {
+            begin(script, 0);
+        }
+        if !script.finish(0) {
+            break;
+        }
+        if script.random.chance(40) {
+            if let Some(thief) = script.thief() {
+                whole_steal(script, thief);
+            }
+        }
+    }
+    let thieves_between = script.random.chance(60);
+    for _ in 0..script.random.below(10) {
+        script.drain();
+        if thieves_between {
+            if let Some(thief) = script.thief() {
+                if script.idle(thief) {
+                    script.steal(thief);
+                }
+                let count = script.random.between(1, script.shape.payload_words + 6);
+                script.step_until(thief, count, |place| place == Place::Idle);
+            }
+        }
+    }
+    script.drains = drains;
+}
+
+/// Puts finish before a thief's line 1, in its attempt or after it, and their
+/// stores drain when they may: it is the drains that its premise counts.
+pub fn drained_in_an_attempt(script: &mut Script) {
+    let drains = script.drains;
+    // All of the puts finish before line 1 and drain behind it.
+    let early = script.random.chance(50);
+    script.drains = Drains { now_and_then: 0, go_on: 100, sparing: early };
+    whole_put(script);
+    script.drain_all();
+    let Some(thief) = script.thief() else { return script.drains = drains };
+    if !script.finish(thief) {
+        return script.drains = drains;
+    }
+    // Takes and puts in turn bring the anchor back.
+    let round = 1u32 << script.shape.width.min(3);
+    for _ in 0..if early { round } else { script.random.below(3) } {
+        whole_take(script);
+        whole_put(script);
+    }
+    script.steal(thief);
+    if early {
+        script.step_until(thief, 20, |place| matches!(place, Place::Last | Place::Idle));
+        script.drain_all();
+    } else {
+        for _ in 0..script.random.below(4) {
+            script.drain();
+        }
+        let count = script.random.between(1, script.shape.payload_words + 5);
+        script.step_until(thief, count, |place| matches!(place, Place::Last | Place::Idle));
+        for _ in 0..script.random.below(1 + 2 * round) {
+            whole_take(script);
+            whole_put(script);
+        }
+        match script.random.below(4) {
+            0 => {}
+            1 | 2 => script.drain_all(),
+            _ => script.some_drains(),
+        }
+        script.step_until(thief, 20, |place| matches!(place, Place::Last | Place::Idle));
+        if script.random.chance(30) {
+            script.drain_all();
+        }
+    }
+    script.step(thief, 1);
+    script.drains = drains;
+}
+
+/// The array grows, and its copies and its note wait while thieves are at work in
+/// the old one; small arrays grow again before that.
+pub fn growth_waits(script: &mut Script) {
+    let drains = script.drains;
+    script.drains = Drains { now_and_then: 0, go_on: 100, sparing: true };
+    for _ in 0..64 {
+        if script.full() || !whole_put(script) {
+            break;
+        }
+    }
+    if script.random.chance(80) {
+        script.drain_all();
+    }
+    let mut paused = script.thief().filter(|_| script.shape.crew > 2);
+    if let Some(thief) = paused {
+        if script.idle(thief) {
+            script.steal(thief);
+        }
+        let count = script.random.below(script.shape.payload_words + 6);
+        script.step_until(thief, count, |place| matches!(place, Place::Last | Place::Idle));
+    }
+    // A FIFO thief that steals between the second growth's line 1 and X2 leaves so
+    // little to copy that the first one's note still waits when the second's joins.
+    if script.shape.kind == 2 && script.random.chance(60) {
+        let Some(thief) = script.thief() else { return script.drains = drains };
+        for growth in 1..=2 {
+            script.put();
+            script.step_until(0, 40, |place| matches!(place, Place::Expanding | Place::Idle));
+            if growth == 2 {
+                whole_steal(script, thief);
+            }
+            script.finish(0);
+        }
+    }
+    for _ in 0..script.random.between(1, 4) {
+        if !owner_idle(script) {
+            break;
+        }
+        script.put();
+        script.step_until(0, 40, |place| matches!(place, Place::Expanding | Place::Idle));
+        // The fewer tasks X2 finds, the fewer copies push older stores out.
+        if script.random.chance(50) {
+            if let Some(thief) = other_thief(script, paused.as_slice()) {
+                whole_steal(script, thief);
+            }
+        }
+        script.step_until(0, 3000, |place| place != Place::Expanding);
+        if script.random.chance(50) {
+            if let Some(thief) = other_thief(script, paused.as_slice()) {
+                whole_steal(script, thief);
+            }
+        }
+        if script.random.chance(30) {
+            if let Some(thief) = paused.take() {
+                script.step_until(thief, 20, |place| matches!(place, Place::Last | Place::Idle));
+                script.step(thief, 1);
+            }
+        }
+        if script.random.chance(70) {
+            script.finish(0);
+        }
+        if script.random.chance(20) {
+            script.some_drains();
+        }
+    }
+    if let Some(thief) = paused {
+        script.step_until(thief, 20, |place| matches!(place, Place::Last | Place::Idle));
+        if script.random.chance(50) {
+            script.drain_all();
+        }
+        script.step(thief, 1);
+    }
+    script.drains = drains;
+    script.finish(0);
+    if script.random.chance(40) {
+        whole_take(script);
+    }
+}
+
+/// One of the three above.
+pub fn delayed(script: &mut Script) {
+    match script.random.below(3) {
+        0 => held_back(script),
+        1 => drained_in_an_attempt(script),
+        _ => growth_waits(script),
     }
 }
 

@@ -5,6 +5,7 @@
 use crate::outcome::{refusal, Outcome, Place};
 use crate::store::{Array, Store};
 use crate::task::{Payload, Task};
+use crate::waiting::Waiting;
 use crate::witness::Witness;
 
 /// What the owner is doing, with the line it does next by the figure's number; a
@@ -124,32 +125,87 @@ impl Fifo {
         if worker > 0 {
             return self.steal(worker, room, witness);
         }
+        if !self.store.line().takes(self.stores()) {
+            return Outcome::Refused(refusal::LINE_FULL);
+        }
         match self.doing {
             Doing::Nothing => Outcome::Refused(refusal::IDLE),
-            Doing::Put(line) => self.put(line, room),
+            Doing::Put(line) => self.put(line, room, witness),
             Doing::Take(line) => self.take(line, room, witness),
         }
     }
 
-    fn put(&mut self, line: PutLine, room: bool) -> Outcome {
+    /// The head that the owner reads.
+    fn owners_head(&self) -> u32 {
+        let waiting = self.store.line().youngest(|store| match store {
+            Waiting::Head(head) => Some(head),
+            _ => None,
+        });
+        waiting.unwrap_or(self.head)
+    }
+
+    /// The tail that the owner reads.
+    fn owners_tail(&self) -> u32 {
+        let waiting = self.store.line().youngest(|store| match store {
+            Waiting::Tail(tail) => Some(tail),
+            _ => None,
+        });
+        waiting.unwrap_or(self.tail)
+    }
+
+    /// How many stores the owner's next line makes.
+    fn stores(&self) -> usize {
+        match self.doing {
+            Doing::Put(PutLine::L4(_) | PutLine::L5 | PutLine::X4) | Doing::Take(TakeLine::L5) => 1,
+            Doing::Put(PutLine::X3) => self.store.payload_words() as usize + 1,
+            _ => 0,
+        }
+    }
+
+    /// A store of the owner: it waits or, without the mode, does not.
+    fn own(&mut self, store: Waiting) {
+        if let Some(now) = self.store.line_mut().join(store) {
+            self.put_down(now);
+        }
+    }
+
+    fn put_down(&mut self, store: Waiting) {
+        match store {
+            Waiting::Head(head) => self.head = head,
+            Waiting::Tail(tail) => self.tail = tail,
+            other => self.store.put_down(other),
+        }
+    }
+
+    /// The oldest waiting store is put down; answers whether one waited.
+    pub fn drain(&mut self) -> bool {
+        let Some(store) = self.store.line_mut().oldest() else {
+            return false;
+        };
+        self.put_down(store);
+        true
+    }
+
+    fn put<W: Witness>(&mut self, line: PutLine, room: bool, witness: &mut W) -> Outcome {
         let next = match line {
             PutLine::L1 => {
-                self.head_read = self.head;
+                witness.put_line_one();
+                self.head_read = self.owners_head();
                 PutLine::L2
             }
             PutLine::L2 => {
-                self.tail_read = self.tail;
+                self.tail_read = self.owners_tail();
                 PutLine::L3
             }
             PutLine::L3 => {
-                if self.tail_read == self.head_read + self.store.size() {
+                if self.tail_read == self.head_read + self.store.owners_size() {
                     PutLine::X1
                 } else {
                     PutLine::L4(0)
                 }
             }
             PutLine::L4(word) => {
-                self.store.set_word(self.tail_read, word, self.task.0[word]);
+                self.own(self.store.word_store(self.tail_read, word, self.task.0[word]));
                 if self.store.more_words(word) {
                     PutLine::L4(word + 1)
                 } else {
@@ -160,7 +216,7 @@ impl Fifo {
                 if !room {
                     return Outcome::Refused(refusal::LOG_FULL);
                 }
-                self.tail = self.tail_read + 1;
+                self.own(Waiting::Tail(self.tail_read + 1));
                 self.doing = Doing::Nothing;
                 return Outcome::Finished(self.task);
             }
@@ -178,17 +234,19 @@ impl Fifo {
             PutLine::X2 => {
                 // The indices in the queue now, not those lines 1 and 2 read;
                 // what is stolen after this is copied all the same.
-                self.copying = self.head;
-                self.copy_end = self.tail;
+                self.copying = self.owners_head();
+                self.copy_end = self.owners_tail();
                 self.copy_or_publish()
             }
             PutLine::X3 => {
-                self.store.copy_to_claimed(self.copying);
+                for copy in self.store.copies_to_claimed(self.copying) {
+                    self.own(copy);
+                }
                 self.copying += 1;
                 self.copy_or_publish()
             }
             PutLine::X4 => {
-                self.store.publish();
+                self.own(self.store.note_of_claimed());
                 self.doing = Doing::Put(PutLine::L1);
                 return Outcome::Published;
             }
@@ -209,11 +267,11 @@ impl Fifo {
         let next = match line {
             TakeLine::L1 => {
                 witness.line_one(0);
-                self.head_read = self.head;
+                self.head_read = self.owners_head();
                 TakeLine::L2
             }
             TakeLine::L2 => {
-                self.tail_read = self.tail;
+                self.tail_read = self.owners_tail();
                 TakeLine::L3
             }
             TakeLine::L3 => {
@@ -227,7 +285,7 @@ impl Fifo {
                 TakeLine::L4(0)
             }
             TakeLine::L4(word) => {
-                self.task.0[word] = self.store.word(self.store.current(), self.head_read, word);
+                self.task.0[word] = self.store.owners_word(self.head_read, word);
                 if self.store.more_words(word) {
                     TakeLine::L4(word + 1)
                 } else {
@@ -240,7 +298,7 @@ impl Fifo {
                 }
                 // This may set the head back: thieves can have moved it past
                 // the head read, and their tasks are then handed out again.
-                self.head = self.head_read + 1;
+                self.own(Waiting::Head(self.head_read + 1));
                 self.doing = Doing::Nothing;
                 return Outcome::HandedOut(self.task);
             }
@@ -307,12 +365,12 @@ impl Fifo {
         false
     }
 
-    /// The tasks of head to tail−1 in the current array.
+    /// The tasks of head to tail−1 in the current array, as the owner reads them.
     pub fn window(&self) -> impl Iterator<Item = Task> + '_ {
-        (self.head..self.tail).map(|index| self.store.task(index))
+        (self.owners_head()..self.owners_tail()).map(|index| self.store.task(index))
     }
 
-    /// What is shared, with 0 for the tag, which this queue has not.
+    /// What memory has, with 0 for the tag, which this queue has not.
     pub fn anchor(&self) -> [u32; 3] {
         [self.head, self.tail, 0]
     }
@@ -327,7 +385,12 @@ impl Fifo {
 
     /// Whether the next put, left alone, would have to expand.
     pub fn full(&self) -> bool {
-        self.tail == self.head + self.store.size()
+        self.owners_tail() == self.owners_head() + self.store.owners_size()
+    }
+
+    /// Whether the owner has claimed an array that it has not published.
+    pub fn copying(&self) -> bool {
+        matches!(self.doing, Doing::Put(PutLine::X2 | PutLine::X3 | PutLine::X4))
     }
 
     pub fn place(&self, worker: usize) -> Place {
@@ -466,7 +529,7 @@ mod tests {
         steps(&mut queue, 1, 7);
         // X2 finds one task left, X3 copies it, X4.
         assert_eq!(steps(&mut queue, 0, 3), Outcome::Published);
-        assert_eq!(queue.store.size(), 4);
+        assert_eq!(queue.store.owners_size(), 4);
         assert_eq!(queue.store.task(0).number(), 0);
         assert_eq!(queue.store.task(1).number(), 2);
         assert_eq!(steps(&mut queue, 0, 6), Outcome::Finished(task(3, 30)));

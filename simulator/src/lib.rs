@@ -10,17 +10,19 @@
 //! - [`lifo`], [`fifo`], [`double_ended`]: figures 1, 2 and 3, a step a line;
 //! - [`guard`]: tags, and the links of kinds 4 and 5;
 //! - [`task`]: a task's words; [`store`]: the lent words and the directory of
-//!   arrays;
-//! - [`bench`]: fresh, begin, step, drop_link and who, the refusals and their
-//!   order;
+//!   arrays; [`waiting`]: the owner's waiting line, of delayed stores;
+//! - [`bench`]: fresh, begin, step, drop_link, drain and who, the refusals and
+//!   their order;
 //! - [`account`]: the log's room and the six counts of `T`;
 //! - [`text`]: what a line of the input says; [`input`]: where it ends;
 //!   [`listing`]: a line of output;
 //! - [`play`]: the program's rules;
 //! - [`call_text`], [`calls`]: lists of library calls;
-//! - [`witness`]: who watches a run; [`demand3`], [`restarts`]: demand 3 and the
-//!   restarts of each worker, checked from the history of the calls; [`checks`]:
-//!   both;
+//! - [`witness`]: who watches a run; [`demand3`], [`restarts`], [`order`]: demand
+//!   3, the restarts of each worker and FIFO's order, checked from the history of
+//!   the calls; [`limits`], [`drains`], [`owner`]: the limits on what is shared,
+//!   what each call did to memory and to the waiting line, and what the owner read
+//!   and wrote; [`settled`]: memory with stores put down; [`checks`]: all of these;
 //! - [`log_judge`]: the judgement of a matcher's own log, [`log_cases`]: logs to
 //!   judge, by seed;
 //! - [`random`], [`script`], [`episodes`], [`damage`]: long random runs by seed.
@@ -33,20 +35,26 @@ pub mod checks;
 pub mod damage;
 pub mod demand3;
 pub mod double_ended;
+pub mod drains;
 pub mod episodes;
 pub mod fifo;
 pub mod guard;
 pub mod input;
 pub mod lifo;
+pub mod limits;
 pub mod listing;
 pub mod log_cases;
 pub mod log_judge;
+pub mod order;
 pub mod outcome;
+pub mod owner;
 pub mod play;
 pub mod random;
 pub mod restarts;
 pub mod script;
+pub mod settled;
 pub mod store;
 pub mod task;
 pub mod text;
+pub mod waiting;
 pub mod witness;

@@ -5,6 +5,7 @@ use crate::guard::Guard;
 use crate::outcome::{refusal, Outcome, Place};
 use crate::store::{Array, Store};
 use crate::task::{Payload, Task};
+use crate::waiting::Waiting;
 use crate::witness::Witness;
 
 /// The line the owner does next; of a line that writes or reads a task, the word
@@ -124,40 +125,91 @@ impl Lifo {
         }
     }
 
+    /// The anchor that the owner reads.
+    fn owners_anchor(&self) -> (u32, u32) {
+        match self.store.line().anchor() {
+            Some([_, t, g]) => (t, g),
+            None => (self.t, self.g),
+        }
+    }
+
+    /// How many stores the owner's next line makes.
+    fn stores(&self) -> usize {
+        match self.owner.at {
+            OwnerAt::PutWrite(_)
+            | OwnerAt::PutSetAnchor
+            | OwnerAt::X4Publish
+            | OwnerAt::TakeSetAnchor => 1,
+            OwnerAt::X3Copy => self.store.payload_words() as usize + 1,
+            _ => 0,
+        }
+    }
+
+    /// A store of the owner, which joins its waiting line or, without one, is put
+    /// down at once.
+    fn own(&mut self, store: Waiting) {
+        if let Some(now) = self.store.line_mut().join(store) {
+            self.put_down(now);
+        }
+    }
+
+    fn put_down(&mut self, store: Waiting) {
+        if let Waiting::Anchor([_, t, g]) = store {
+            self.t = t;
+            self.g = g;
+            self.guard.anchor_written();
+        } else {
+            self.store.put_down(store);
+        }
+    }
+
+    /// The oldest waiting store is put down; answers whether one waited.
+    pub fn drain(&mut self) -> bool {
+        let oldest = self.store.line_mut().oldest();
+        if let Some(store) = oldest {
+            self.put_down(store);
+        }
+        oldest.is_some()
+    }
+
     fn step_owner<W: Witness>(&mut self, room: bool, witness: &mut W) -> Outcome {
+        if !self.store.line().takes(self.stores()) {
+            return Outcome::Refused(refusal::LINE_FULL);
+        }
         let owner = &mut self.owner;
         match owner.at {
             OwnerAt::Idle => return Outcome::Refused(refusal::IDLE),
 
             OwnerAt::PutReadAnchor => {
-                owner.t = self.t;
-                owner.g = self.g;
-                owner.at = OwnerAt::PutTestFull;
+                witness.put_line_one();
+                (self.owner.t, self.owner.g) = self.owners_anchor();
+                self.owner.at = OwnerAt::PutTestFull;
             }
             OwnerAt::PutTestFull => {
-                owner.at = if owner.t == self.store.size() {
+                owner.at = if owner.t == self.store.owners_size() {
                     OwnerAt::X1Claim
                 } else {
                     OwnerAt::PutWrite(0)
                 };
             }
             OwnerAt::PutWrite(word) => {
-                self.store.set_word(owner.t, word, owner.task.0[word]);
+                let store = self.store.word_store(owner.t, word, owner.task.0[word]);
                 owner.at = if self.store.more_words(word) {
                     OwnerAt::PutWrite(word + 1)
                 } else {
                     OwnerAt::PutSetAnchor
                 };
+                self.own(store);
             }
             OwnerAt::PutSetAnchor => {
                 if !room {
                     return Outcome::Refused(refusal::LOG_FULL);
                 }
-                self.t = owner.t + 1;
-                self.g = self.guard.next_tag(owner.g);
-                self.guard.anchor_written();
+                let anchor = [0, owner.t + 1, self.guard.next_tag(owner.g)];
+                let task = owner.task;
                 owner.at = OwnerAt::Idle;
-                return Outcome::Finished(owner.task);
+                self.own(Waiting::Anchor(anchor));
+                return Outcome::Finished(task);
             }
 
             OwnerAt::X1Claim => match self.store.next_array() {
@@ -177,27 +229,29 @@ impl Lifo {
                 // All slots of the old array, also those the thieves have
                 // emptied: its size is at least 1, so there is one to copy.
                 owner.next = 0;
-                owner.stop = self.store.size();
+                owner.stop = self.store.owners_size();
                 owner.at = OwnerAt::X3Copy;
             }
             OwnerAt::X3Copy => {
-                self.store.copy_to_claimed(owner.next);
+                let copies = self.store.copies_to_claimed(owner.next);
                 owner.next += 1;
                 if owner.next == owner.stop {
                     owner.at = OwnerAt::X4Publish;
                 }
+                for copy in copies {
+                    self.own(copy);
+                }
             }
             OwnerAt::X4Publish => {
-                self.store.publish();
                 owner.at = OwnerAt::PutReadAnchor;
+                self.own(self.store.note_of_claimed());
                 return Outcome::Published;
             }
 
             OwnerAt::TakeReadAnchor => {
                 witness.line_one(0);
-                owner.t = self.t;
-                owner.g = self.g;
-                owner.at = OwnerAt::TakeTestEmpty;
+                (self.owner.t, self.owner.g) = self.owners_anchor();
+                self.owner.at = OwnerAt::TakeTestEmpty;
             }
             OwnerAt::TakeTestEmpty => {
                 if owner.t == 0 {
@@ -210,7 +264,7 @@ impl Lifo {
                 owner.at = OwnerAt::TakeRead(0);
             }
             OwnerAt::TakeRead(word) => {
-                owner.task.0[word] = self.store.word(self.store.current(), owner.t - 1, word);
+                owner.task.0[word] = self.store.owners_word(owner.t - 1, word);
                 owner.at = if self.store.more_words(word) {
                     OwnerAt::TakeRead(word + 1)
                 } else {
@@ -221,11 +275,11 @@ impl Lifo {
                 if !room {
                     return Outcome::Refused(refusal::LOG_FULL);
                 }
-                self.t = owner.t - 1;
-                self.g = owner.g;
-                self.guard.anchor_written();
+                let anchor = [0, owner.t - 1, owner.g];
+                let task = owner.task;
                 owner.at = OwnerAt::Idle;
-                return Outcome::HandedOut(owner.task);
+                self.own(Waiting::Anchor(anchor));
+                return Outcome::HandedOut(task);
             }
         }
         Outcome::GoesOn
@@ -290,12 +344,12 @@ impl Lifo {
         self.guard.drop_link(worker)
     }
 
-    /// The tasks in slots 0 to t−1 of the current array.
+    /// The tasks in slots 0 to t−1 of the current array, as the owner reads them.
     pub fn window(&self) -> impl Iterator<Item = Task> + '_ {
-        (0..self.t).map(|index| self.store.task(index))
+        (0..self.owners_anchor().0).map(|index| self.store.task(index))
     }
 
-    /// What is shared, with 0 for the head, which this queue has not.
+    /// What memory has, with 0 for the head, which this queue has not.
     pub fn anchor(&self) -> [u32; 3] {
         [0, self.t, self.g]
     }
@@ -310,7 +364,12 @@ impl Lifo {
 
     /// Whether the next put, left alone, would have to expand.
     pub fn full(&self) -> bool {
-        self.t == self.store.size()
+        self.owners_anchor().0 == self.store.owners_size()
+    }
+
+    /// Whether the owner has claimed an array that it has not published.
+    pub fn copying(&self) -> bool {
+        matches!(self.owner.at, OwnerAt::X2Note | OwnerAt::X3Copy | OwnerAt::X4Publish)
     }
 
     pub fn place(&self, worker: usize) -> Place {

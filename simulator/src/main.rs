@@ -2,12 +2,13 @@
 //!
 //!     simulator [--check] < input > listing
 //!
-//! With `--check` the run is also checked by demand 3, and the restarts of each
-//! worker are counted from its history; what was found is said on standard error.
+//! With `--check` the run is also checked by demand 3, the restarts of each worker
+//! are counted from its history, and so on; what was found is said on standard
+//! error.
 //!
 //! Exit status: 0; 1 if the input can't be read or the listing can't be
-//! written; 2 if demand 3 was violated while its premise held or a restart was
-//! miscounted; 64 for a flag it does not know.
+//! written; 2 if a check failed, demand 3 while its premise held; 64 for a flag it
+//! does not know.
 
 // The usual start would quietly put the null device in the place of a closed
 // standard stream, and a listing written there would be lost without a word.

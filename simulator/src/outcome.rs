@@ -19,6 +19,8 @@ pub mod refusal {
     pub const BAD_LINE: u32 = 13;
     pub const PAYLOAD_WORDS: u32 = 16;
     pub const NO_LINK: u32 = 17;
+    pub const LINE_FULL: u32 = 18;
+    pub const NONE_WAITING: u32 = 19;
 }
 
 /// What one step did. A machine that answers `Refused` has changed nothing.

@@ -7,7 +7,7 @@ use crate::listing::{print, print_hand_out};
 use crate::outcome::{refusal, Outcome, Place};
 use crate::task::{Payload, Task};
 use crate::text::{self, Command};
-use crate::witness::Witness;
+use crate::witness::{Cause, Witness};
 
 pub struct Player<W> {
     /// None until a `queue` is accepted.
@@ -74,6 +74,9 @@ impl<W: Witness> Player<W> {
         }
         if let Some(Game { bench, .. }) = &self.game {
             self.witness.shared(bench.anchor(), bench.restarts());
+            if self.witness.watches() {
+                self.witness.after(Cause::Other, &bench.shown());
+            }
         }
         true
     }
@@ -118,6 +121,9 @@ impl<W: Witness> Player<W> {
             witness.call();
             let outcome = bench.step(worker, account.room(), witness);
             witness.shared(bench.anchor(), bench.restarts());
+            if witness.watches() {
+                witness.after(Cause::Step { worker, outcome }, &bench.shown());
+            }
             match outcome {
                 Outcome::GoesOn => continue,
                 Outcome::Restarted | Outcome::Published => {}

@@ -7,17 +7,21 @@
 //! machine made of it. With a tag it failed if the anchor before that step was not
 //! the one before the attempt's line 1; of FIFO that is the head alone. With links
 //! it failed if after line 1 a put was finished or a task handed out, each of
-//! which writes the anchor, or the worker's link was dropped.
+//! which writes the anchor, or the worker's link was dropped. With delayed stores
+//! it is memory's anchor, and what the owner finished or was handed writes it when
+//! its store is drained.
 
 use std::fmt;
 
 use crate::bench::Shape;
 use crate::task::Task;
+use crate::waiting::Waiting;
 use crate::witness::Witness;
 
 pub struct Restarts {
     calls: u64,
     kind: u32,
+    delayed: bool,
     /// As the last call left it.
     anchor: [u32; 3],
     /// By worker number: the anchor before line 1 of its attempt, and whether its
@@ -34,6 +38,7 @@ impl Restarts {
         Restarts {
             calls: 0,
             kind: 0,
+            delayed: false,
             anchor: [0; 3],
             read: [[0; 3]; 8],
             broken: [false; 8],
@@ -81,6 +86,7 @@ impl Witness for Restarts {
         *self = Restarts {
             calls: self.calls,
             kind: shape.kind,
+            delayed: shape.delayed,
             wrong: self.wrong.take(),
             ..Restarts::new()
         };
@@ -102,11 +108,21 @@ impl Witness for Restarts {
     }
 
     fn finished(&mut self, _number: u32) {
-        self.broken = [true; 8];
+        if !self.delayed {
+            self.broken = [true; 8];
+        }
     }
 
-    fn handed_out(&mut self, _worker: usize, _task: Task) {
-        self.broken = [true; 8];
+    fn handed_out(&mut self, worker: usize, _task: Task) {
+        if !self.delayed || worker > 0 {
+            self.broken = [true; 8];
+        }
+    }
+
+    fn drained(&mut self, store: Waiting) {
+        if matches!(store, Waiting::Anchor(_)) {
+            self.broken = [true; 8];
+        }
     }
 
     fn dropped(&mut self, worker: usize) {
@@ -140,7 +156,7 @@ mod tests {
 
     fn history(kind: u32) -> Restarts {
         let mut history = Restarts::new();
-        history.fresh(Shape { kind, width: 1, size: 1, crew: 8, payload_words: 1 });
+        history.fresh(Shape { kind, width: 1, size: 1, crew: 8, payload_words: 1, delayed: false });
         history
     }
 
@@ -200,6 +216,24 @@ mod tests {
     }
 
     #[test]
+    fn with_delayed_stores_a_link_is_broken_by_the_drain() {
+        let counted = |between: &dyn Fn(&mut Restarts)| {
+            let mut history = history(4);
+            history.delayed = true;
+            history.line_one(3);
+            between(&mut history);
+            history.compare(3);
+            history.counts
+        };
+        assert_eq!(counted(&|history| history.finished(1)), NONE);
+        assert_eq!(counted(&|history| history.handed_out(0, Task::default())), NONE);
+        assert_eq!(counted(&|history| history.handed_out(1, Task::default())), THIRD);
+        assert_eq!(counted(&|history| history.drained(Waiting::Anchor([0; 3]))), THIRD);
+        assert_eq!(counted(&|history| history.drained(Waiting::Note { published: 2 })), NONE);
+        assert_eq!(counted(&|history| history.dropped(3)), THIRD);
+    }
+
+    #[test]
     fn a_count_of_another_worker_or_of_no_failed_compare_is_wrong() {
         for shown in [NONE, [0, 0, 1, 0, 0, 0, 0, 0], [0, 0, 0, 2, 0, 0, 0, 0], [1; 8], THIRD] {
             let mut history = history(2);
@@ -210,7 +244,7 @@ mod tests {
             assert_eq!(history.is_wrong(), shown != THIRD, "{shown:?}");
             // It stays wrong, whatever comes.
             history.shared([1, 1, 0], &THIRD);
-            history.fresh(Shape { kind: 1, width: 1, size: 1, crew: 1, payload_words: 1 });
+            history.fresh(Shape { kind: 1, width: 1, size: 1, crew: 1, payload_words: 1, delayed: false });
             assert_eq!(history.is_wrong(), shown != THIRD);
         }
     }
@@ -246,7 +280,7 @@ mod tests {
         history.line_one(1);
         history.shared([0, 1, 1], &NONE);
         history.compare(1);
-        history.fresh(Shape { kind: 3, width: 1, size: 1, crew: 2, payload_words: 1 });
+        history.fresh(Shape { kind: 3, width: 1, size: 1, crew: 2, payload_words: 1, delayed: false });
         history.shared([0, 0, 0], &NONE);
         history.who(1, 0);
         assert!(!history.is_wrong());

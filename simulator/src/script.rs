@@ -24,11 +24,26 @@ pub struct Looks {
     pub who: u32,
 }
 
+/// How the stores of a bench that delays them drain. Without delayed stores
+/// nothing is drawn for it.
+#[derive(Clone, Copy, Default)]
+pub struct Drains {
+    /// After how many lines of a hundred, and steps of a line of steps, some do.
+    pub now_and_then: u32,
+    /// How many times of a hundred the owner goes on after 18, by drains.
+    pub go_on: u32,
+    /// One drain at a time then, and no more than it needs.
+    pub sparing: bool,
+}
+
 pub struct Script {
     pub random: Random,
     /// The bench's, as the last accepted fresh made it.
     pub shape: Shape,
     pub looks: Looks,
+    pub drains: Drains,
+    /// Whether the list may have delayed stores.
+    delayed_stores: bool,
     form: Form,
     text: Vec<u8>,
     /// What the last line printed.
@@ -43,10 +58,13 @@ impl Script {
         Script::new(random, shape, Form::Program(Player::new(Blind)))
     }
 
-    /// A list of library calls.
-    pub fn calls(random: Random, store: u32, log: u32) -> Script {
-        let none = Shape { kind: 0, width: 0, size: 0, crew: 0, payload_words: 1 };
-        let mut script = Script::new(random, none, Form::Calls(Calls::new(Blind)));
+    /// A list of library calls; with delayed stores the library has no such list.
+    pub fn calls(random: Random, store: u32, log: u32, delayed_stores: bool) -> Script {
+        let none = Shape { kind: 0, width: 0, size: 0, crew: 0, payload_words: 1, delayed: false };
+        let calls = Calls::new(Blind);
+        let calls = if delayed_stores { calls.with_delayed_stores() } else { calls };
+        let mut script = Script::new(random, none, Form::Calls(calls));
+        script.delayed_stores = delayed_stores;
         script.say(&format!("memory {store} {log}"));
         script
     }
@@ -56,6 +74,8 @@ impl Script {
             random,
             shape,
             looks: Looks::default(),
+            drains: Drains::default(),
+            delayed_stores: false,
             form,
             text: Vec::new(),
             heard: Vec::new(),
@@ -108,10 +128,59 @@ impl Script {
         (self.shape.crew > 1).then(|| self.random.between(1, self.shape.crew - 1))
     }
 
+    /// Whether the list may have delayed stores.
+    pub fn delayed_stores(&self) -> bool {
+        self.delayed_stores
+    }
+
+    /// Whether stores can wait here.
+    pub fn delayed(&self) -> bool {
+        self.shape.delayed
+    }
+
+    /// How many stores wait.
+    pub fn waiting(&self) -> usize {
+        match &self.form {
+            Form::Program(_) => 0,
+            Form::Calls(calls) => calls.waiting(),
+        }
+    }
+
     pub fn bytes(&mut self, line: &[u8]) {
         self.write(line);
         self.play(line);
         self.steps += 1;
+        if self.delayed() && self.random.chance(self.drains.now_and_then) {
+            self.some_drains();
+        }
+    }
+
+    /// One drain, whether a store waits or not.
+    pub fn drain(&mut self) {
+        self.write(b"drain");
+        self.play(b"drain");
+        self.steps += 1;
+    }
+
+    /// One, a few, or all, and now and then one more.
+    pub fn some_drains(&mut self) {
+        let waiting = self.waiting() as u32;
+        let count = match self.random.below(8) {
+            0..=4 => 1,
+            5 | 6 => self.random.between(1, 4),
+            _ => waiting,
+        };
+        let over = u32::from(self.random.chance(3));
+        for _ in 0..count.min(waiting) + over {
+            self.drain();
+        }
+    }
+
+    /// Until none waits.
+    pub fn drain_all(&mut self) {
+        while self.waiting() > 0 {
+            self.drain();
+        }
     }
 
     pub fn say(&mut self, line: &str) {
@@ -120,8 +189,15 @@ impl Script {
 
     /// A library call; whether it is accepted.
     pub fn fresh(&mut self, shape: Shape) -> bool {
-        let Shape { kind, width, size, crew, payload_words } = shape;
-        self.say(&format!("fresh {kind} {width} {size} {crew} {payload_words}"));
+        let Shape { kind, width, size, crew, payload_words, delayed } = shape;
+        let sixth = match (self.delayed_stores, delayed) {
+            (false, _) => "",
+            (true, true) => " 1",
+            // It may be left out.
+            (true, false) if self.random.chance(50) => "",
+            (true, false) => " 0",
+        };
+        self.say(&format!("fresh {kind} {width} {size} {crew} {payload_words}{sixth}"));
         let accepted = self.heard.first() == Some(&b'A');
         if accepted {
             self.shape = shape;
@@ -232,17 +308,60 @@ impl Script {
     /// Steps `worker` until it stands as `there` asks, at most `most` times.
     /// Answers whether it does.
     pub fn step_until(&mut self, worker: u32, most: u32, there: impl Fn(Place) -> bool) -> bool {
+        if self.delayed() {
+            return self.step_and_drain_until(worker, most, there);
+        }
+        let (made, refused) = self.play_until(worker, most, &there);
+        self.write_steps(worker, made, refused);
+        there(self.place(worker))
+    }
+
+    /// The same with drains between the steps; with a line that is full the
+    /// owner goes on after drains, or does not.
+    fn step_and_drain_until(&mut self, worker: u32, most: u32, there: impl Fn(Place) -> bool) -> bool {
+        let mut left = most;
+        while left > 0 && !there(self.place(worker)) {
+            // So many steps until some stores drain.
+            let mut stretch = 1;
+            while stretch < left && !self.random.chance(self.drains.now_and_then) {
+                stretch += 1;
+            }
+            let (made, refused) = self.play_until(worker, stretch, &there);
+            let line_full = self.heard.starts_with(b"R 18");
+            self.write_steps(worker, made, refused);
+            left -= made;
+            if line_full && self.random.chance(self.drains.go_on) {
+                self.drain();
+                if !self.drains.sparing {
+                    self.some_drains();
+                }
+            } else if refused {
+                break;
+            } else if made == stretch && stretch < left + made {
+                self.some_drains();
+            }
+        }
+        there(self.place(worker))
+    }
+
+    /// Plays steps of `worker` until it stands as `there` asks or is refused, at
+    /// most so many; how many, and whether it was refused. They are not written.
+    fn play_until(&mut self, worker: u32, most: u32, there: &impl Fn(Place) -> bool) -> (u32, bool) {
         let one = format!("step {worker} 1");
         let mut made = 0;
-        let mut refused = false;
         while made < most && !there(self.place(worker)) {
             self.play(one.as_bytes());
             if self.heard.first() == Some(&b'R') {
-                refused = true;
-                break;
+                return (made, true);
             }
             made += 1;
         }
+        (made, false)
+    }
+
+    /// Writes steps that were played.
+    fn write_steps(&mut self, worker: u32, made: u32, refused: bool) {
+        let one = format!("step {worker} 1");
         // The steps are played; they are written as a line or two, or one by
         // one. A refused one changed nothing and may be written or left out.
         let watched = self.looks.state > 20;
@@ -265,7 +384,6 @@ impl Script {
             self.write(one.as_bytes());
         }
         self.steps += u64::from(made) + 1;
-        there(self.place(worker))
     }
 
     /// Steps `worker` until its operation has ended, if the log has room.

@@ -1,9 +1,12 @@
-//! The store: the lent words, and the arrays laid end to end in them.
+//! The store: the lent words, the arrays laid end to end in them, and the owner's
+//! waiting line.
 //!
 //! A task takes its put number's word and the payload's, and an array as many
-//! times that as it holds tasks.
+//! times that as it holds tasks. What a thief reads is memory; what the owner
+//! reads is its own youngest waiting store to a place, and memory if none waits.
 
 use crate::task::Task;
+use crate::waiting::{Line, Waiting};
 
 /// No array holds more tasks than this.
 pub const LARGEST: u32 = 1024;
@@ -22,12 +25,13 @@ pub struct Array {
 pub struct Store {
     words: Vec<u32>,
     payload_words: u32,
-    /// Every array claimed so far, oldest first, and how many of them are
-    /// published.
+    /// Every array claimed so far, oldest first, and how many of them memory has
+    /// as published.
     arrays: Vec<Array>,
     published: usize,
-    /// The last published one, which nearly every line asks for.
+    /// The last of these, which nearly every line of a thief asks for.
     current: Array,
+    line: Line,
 }
 
 impl Store {
@@ -35,7 +39,14 @@ impl Store {
     /// first array and zeroes them. The others stay as they are.
     pub fn fresh(words: Vec<u32>, size: u32, payload_words: u32) -> Store {
         let first = Array { offset: 0, size };
-        let mut store = Store { words, payload_words, arrays: vec![first], published: 1, current: first };
+        let mut store = Store {
+            words,
+            payload_words,
+            arrays: vec![first],
+            published: 1,
+            current: first,
+            line: Line::default(),
+        };
         store.zero(first);
         store
     }
@@ -58,17 +69,47 @@ impl Store {
         &self.arrays
     }
 
-    /// How many of the arrays are published.
+    /// The same with delayed stores, or without.
+    pub fn with_line(self, delayed: bool) -> Store {
+        Store { line: Line::new(delayed), ..self }
+    }
+
+    pub fn line(&self) -> &Line {
+        &self.line
+    }
+
+    pub fn line_mut(&mut self) -> &mut Line {
+        &mut self.line
+    }
+
+    /// How many of the arrays memory has as published.
     pub fn published(&self) -> usize {
         self.published
     }
 
+    /// The array that is current for the thieves.
     pub fn current(&self) -> Array {
         self.current
     }
 
-    pub fn size(&self) -> u32 {
-        self.current.size
+    /// How many arrays are published for the owner: those whose notes wait too.
+    fn owners_published(&self) -> usize {
+        let noted = self.line.youngest(|store| match store {
+            Waiting::Note { published } => Some(published),
+            _ => None,
+        });
+        noted.unwrap_or(self.published)
+    }
+
+    /// The array that is current for the owner, and its place in the directory.
+    fn owners_array(&self) -> (usize, Array) {
+        let at = self.owners_published() - 1;
+        (at, self.arrays[at])
+    }
+
+    /// The size of the array that is current for the owner.
+    pub fn owners_size(&self) -> u32 {
+        self.owners_array().1.size
     }
 
     /// How many words an array takes.
@@ -84,11 +125,11 @@ impl Store {
 
     /// The array X1 would claim, if X1 can claim one.
     ///
-    /// The arrays lie end to end and the current one is the last, so it ends
-    /// where the words left begin.
+    /// The arrays lie end to end and the one that is current for the owner is the
+    /// last, so it ends where the words left begin.
     pub fn next_array(&self) -> Option<Array> {
-        let Array { offset, size } = self.current;
-        let next = Array { offset: offset + self.length(self.current), size: 2 * size };
+        let (_, last) = self.owners_array();
+        let next = Array { offset: last.offset + self.length(last), size: 2 * last.size };
         let left = self.words.len() as u32 - next.offset;
         if next.size > LARGEST || left < self.length(next) {
             None
@@ -97,24 +138,54 @@ impl Store {
         }
     }
 
-    /// X1: takes `array` for the owner and zeroes it.
+    /// X1: takes `array` for the owner and zeroes it. Neither waits.
     pub fn claim(&mut self, array: Array) {
         self.zero(array);
         self.arrays.push(array);
     }
 
-    /// X3: carries the whole task at `index` into the claimed array. Both arrays
-    /// hold an index at its remainder by their size.
-    pub fn copy_to_claimed(&mut self, index: u32) {
-        let from = self.place(self.current, index);
-        let to = self.place(self.arrays[self.published], index);
-        self.words.copy_within(from..=from + self.payload_words as usize, to);
+    /// X3: the stores that carry the whole task at `index` into the claimed array.
+    /// Both arrays hold an index at its remainder by their size.
+    pub fn copies_to_claimed(&self, index: u32) -> Vec<Waiting> {
+        let array = self.owners_published();
+        let slot = slot(self.arrays[array], index);
+        let store = |word| Waiting::Word { array, slot, word, value: self.owners_word(index, word) };
+        (0..=self.payload_words as usize).map(store).collect()
     }
 
-    /// X4: the claimed array becomes current.
-    pub fn publish(&mut self) {
-        self.current = self.arrays[self.published];
-        self.published += 1;
+    /// X4: the store by which the claimed array becomes current.
+    pub fn note_of_claimed(&self) -> Waiting {
+        Waiting::Note { published: self.owners_published() + 1 }
+    }
+
+    /// The store of one word of the task at `index`. The owner only ever writes
+    /// the array that is current for it.
+    pub fn word_store(&self, index: u32, word: usize, value: u32) -> Waiting {
+        let (array, current) = self.owners_array();
+        Waiting::Word { array, slot: slot(current, index), word, value }
+    }
+
+    /// Where in memory a word lies that a waiting store names.
+    pub fn address(&self, array: usize, slot: u32, word: usize) -> usize {
+        let each = self.payload_words as usize + 1;
+        self.arrays[array].offset as usize + slot as usize * each + word
+    }
+
+    /// Puts down a store of a word or of the note; an anchor is the queue's own.
+    pub fn put_down(&mut self, store: Waiting) {
+        match store {
+            Waiting::Word { array, slot, word, value } => {
+                let at = self.address(array, slot, word);
+                self.words[at] = value;
+            }
+            Waiting::Note { published } => {
+                self.published = published;
+                self.current = self.arrays[published - 1];
+            }
+            Waiting::Anchor(_) | Waiting::Head(_) | Waiting::Tail(_) => {
+                unreachable!("the store has no anchor")
+            }
+        }
     }
 
     /// Whether a task has a word after this one: word 0 is the put number, word
@@ -123,31 +194,41 @@ impl Store {
         word < self.payload_words as usize
     }
 
-    /// One word of the task kept for `index` in `array`.
+    /// One word of the task that memory has for `index` in `array`.
     pub fn word(&self, array: Array, index: u32, word: usize) -> u32 {
         self.words[self.place(array, index) + word]
     }
 
-    /// The owner only ever writes the current array.
-    pub fn set_word(&mut self, index: u32, word: usize, value: u32) {
-        let at = self.place(self.current, index) + word;
-        self.words[at] = value;
+    /// One word of the task that the owner reads for `index`, in the array that is
+    /// current for it.
+    pub fn owners_word(&self, index: u32, word: usize) -> u32 {
+        let (at, current) = self.owners_array();
+        let there = (at, slot(current, index), word);
+        let waiting = self.line.youngest(|store| match store {
+            Waiting::Word { array, slot, word, value } if (array, slot, word) == there => Some(value),
+            _ => None,
+        });
+        waiting.unwrap_or_else(|| self.word(current, index, word))
     }
 
-    /// The whole task kept for `index` in the current array.
+    /// The whole task that the owner reads for `index`.
     pub fn task(&self, index: u32) -> Task {
-        let at = self.place(self.current, index);
         let mut task = Task::default();
-        let count = self.payload_words as usize + 1;
-        task.0[..count].copy_from_slice(&self.words[at..at + count]);
+        for word in 0..=self.payload_words as usize {
+            task.0[word] = self.owners_word(index, word);
+        }
         task
     }
 
     /// The word where the task of `index` starts in `array`.
     fn place(&self, array: Array, index: u32) -> usize {
-        // A size is a power of two: the mask is the remainder by it.
-        (array.offset + (index & (array.size - 1)) * (self.payload_words + 1)) as usize
+        (array.offset + slot(array, index) * (self.payload_words + 1)) as usize
     }
+}
+
+/// A size is a power of two: the mask is the remainder by it.
+fn slot(array: Array, index: u32) -> u32 {
+    index & (array.size - 1)
 }
 
 #[cfg(test)]
@@ -162,6 +243,26 @@ mod tests {
     /// Room for so many tasks of any one width.
     fn room(tasks: u32, payload_words: u32) -> usize {
         (tasks * (payload_words + 1)) as usize
+    }
+
+    fn own(store: &mut Store, waiting: Waiting) {
+        if let Some(now) = store.line.join(waiting) {
+            store.put_down(now);
+        }
+    }
+
+    fn set_word(store: &mut Store, index: u32, word: usize, value: u32) {
+        own(store, store.word_store(index, word, value));
+    }
+
+    fn copy_to_claimed(store: &mut Store, index: u32) {
+        for copy in store.copies_to_claimed(index) {
+            own(store, copy);
+        }
+    }
+
+    fn publish(store: &mut Store) {
+        own(store, store.note_of_claimed());
     }
 
     #[test]
@@ -181,14 +282,14 @@ mod tests {
             let second = store.next_array().unwrap();
             assert_eq!(second, Array { offset: each, size: 2 });
             store.claim(second);
-            assert_eq!(store.size(), 1, "a claimed array is not yet current");
+            assert_eq!(store.owners_size(), 1, "a claimed array is not yet current");
             assert_eq!((store.published(), store.arrays().len()), (1, 2));
-            store.publish();
+            publish(&mut store);
             assert_eq!((store.published(), store.arrays().len()), (2, 2));
             let third = store.next_array().unwrap();
             assert_eq!(third, Array { offset: 3 * each, size: 4 });
             store.claim(third);
-            store.publish();
+            publish(&mut store);
             assert_eq!(store.next_array(), None, "no words left");
             // Offset and length in words.
             let pairs: Vec<(u32, u32)> =
@@ -219,14 +320,14 @@ mod tests {
             let task = Task::new(9, [90, 91, 92, 93], payload_words);
             let mut store = store(room(6, payload_words), 2, payload_words);
             for (word, &value) in task.words(payload_words).iter().enumerate() {
-                store.set_word(5, word, value);
+                set_word(&mut store, 5, word, value);
             }
             assert_eq!(store.task(1), task);
             assert_eq!(store.task(0), Task::default());
             let next = store.next_array().unwrap();
             store.claim(next);
-            store.copy_to_claimed(7);
-            store.publish();
+            copy_to_claimed(&mut store, 7);
+            publish(&mut store);
             assert_eq!(store.task(3), task, "the whole task is copied");
             assert_eq!([0, 1, 2].map(|index| store.task(index)), [Task::default(); 3]);
         }
@@ -237,7 +338,7 @@ mod tests {
         let mut store = store(12, 4, 2);
         for index in 0..4 {
             for word in 0..3 {
-                store.set_word(index, word, 10 * index + word as u32);
+                set_word(&mut store, index, word, 10 * index + word as u32);
             }
         }
         assert_eq!(store.words(), [0, 1, 2, 10, 11, 12, 20, 21, 22, 30, 31, 32]);
@@ -259,7 +360,7 @@ mod tests {
             let mut store = store(10_300, 1, payload_words);
             while let Some(next) = store.next_array() {
                 store.claim(next);
-                store.publish();
+                publish(&mut store);
             }
             let used = store.words().iter().take_while(|&&word| word == 0).count();
             assert_eq!((used, store.published()), (most, 11));

@@ -4,16 +4,43 @@
 
 use crate::bench::Shape;
 use crate::outcome::Outcome;
+use crate::store::Store;
 use crate::task::Task;
+use crate::waiting::Waiting;
+
+/// What a bench shows: memory, and the owner's waiting line.
+pub struct Shown<'a> {
+    /// Head, count and tag; of FIFO head, tail and 0; of LIFO 0, t and g.
+    pub anchor: [u32; 3],
+    /// By worker number.
+    pub restarts: &'a [u32; 8],
+    /// The words, the arrays and the waiting line.
+    pub store: &'a Store,
+    /// The owner is at X2 to X4.
+    pub copying: bool,
+}
+
+/// Which call brought a bench to what it shows.
+#[derive(Clone, Copy, Debug, PartialEq, Eq)]
+pub enum Cause {
+    Step { worker: u32, outcome: Outcome },
+    /// An accepted drain.
+    Drain,
+    /// Any other, or a drain that was refused.
+    Other,
+}
 
 pub trait Witness {
     /// A fresh bench was accepted, the first one or one in another's place.
     fn fresh(&mut self, _shape: Shape) {}
-    /// A begin, a step or a drop of a link, refused or not, is about to be made.
+    /// A begin, a step, a drop of a link or a drain, refused or not, is about to
+    /// be made.
     fn call(&mut self) {}
     fn put_begun(&mut self, _task: Task) {}
     /// An accepted step did line 1 of a take or a steal.
     fn line_one(&mut self, _worker: usize) {}
+    /// An accepted step did line 1 of a put.
+    fn put_line_one(&mut self) {}
     /// An accepted step did the compare of a steal, whichever way it went.
     fn compare(&mut self, _worker: usize) {}
     fn finished(&mut self, _number: u32) {}
@@ -22,6 +49,8 @@ pub trait Witness {
     fn full(&mut self, _number: u32) {}
     /// A drop of a link was accepted.
     fn dropped(&mut self, _worker: usize) {}
+    /// A drain was accepted, and put down this store.
+    fn drained(&mut self, _store: Waiting) {}
     /// X4: the window is now seen in another array.
     fn published(&mut self) {}
     /// What a step answered.
@@ -44,6 +73,12 @@ pub trait Witness {
     /// A call was made, refused or not: the anchor, and the restarts by worker
     /// number, as it left them.
     fn shared(&mut self, _anchor: [u32; 3], _restarts: &[u32; 8]) {}
+    /// Whether all that a bench shows is looked at.
+    fn watches(&self) -> bool {
+        false
+    }
+    /// The same whole, for one who watches. A step's answer is told after it.
+    fn after(&mut self, _cause: Cause, _shown: &Shown) {}
     /// `who` answered a worker's count.
     fn who(&mut self, _worker: usize, _count: u32) {}
     /// `T` shows this sum of the restarts.

@@ -1,19 +1,38 @@
 // What differs from figure to figure of the anchor: whether it tells of an empty queue, whether a compare finds it as it was read,
-// and which anchor a last line leaves. `anchor` is the anchor now, `read` the anchor as a worker read it at line 1.
-// Uses `model`. It is used by `lines` and `limits`.
+// what a last line stores, and which anchor that leaves. `anchor` is the anchor now, `read` the anchor as a worker read it at
+// line 1.
+// Uses `model`. It is used by `lines`, `limits` and `machine`.
 ghost use mathlib.Core.Path.{_≡_};
 ghost use mathlib.Core.Bool.{true};
 ghost use Prim.Native.Nat.{_+_, _≤_, _%_};
-ghost use Rattle.model.specs.Figures.{nextTag, isEmpty, afterPut, afterTake, afterSteal, isSame};
+ghost use Rattle.model.specs.declared.Store.the-variants.{StorePut, StoreOut};
+ghost use Rattle.model.specs.Figures.{nextTag, isEmpty, putStore, takeStore, stealStore, isSame};
 ghost use Rattle.model.specs.Limits.{someOk};
+ghost use Rattle.anchors.specs.After.{afterStore};
 use model::Anchor;
 use model::Kind;
+use model::Store;
 
 // An anchor of its three parts.
 fn anchor_of(head: u32, count: u32, tag: u32) -> Anchor
     ensures { λ r. ⌜ r ≡ record { head = head; count = count; tag = tag } ⌝ }
 {
     Anchor { head, count, tag }
+}
+
+// The store of such an anchor, by a put and by a hand-out.
+fn put_of(head: u32, count: u32, tag: u32) -> Store
+    ensures { λ r. ⌜ r ≡ StorePut (record { head = head; count = count; tag = tag }) ⌝ }
+{
+    let value = anchor_of(head, count, tag);
+    Store::StorePut { value }
+}
+
+fn out_of(head: u32, count: u32, tag: u32) -> Store
+    ensures { λ r. ⌜ r ≡ StoreOut (record { head = head; count = count; tag = tag }) ⌝ }
+{
+    let value = anchor_of(head, count, tag);
+    Store::StoreOut { value }
 }
 
 // g+1 of a put's last line: after the largest value of `width` bits comes 0. The lowest `width` bits are the remainder.
@@ -37,44 +56,67 @@ pub fn is_empty(kind: Kind, read: Anchor) -> bool
     }
 }
 
-// Put 4 (FIFO 5): (t+1, g+1) of the old pair read; tail+1, the head as it is now; (h, s+1, g+1).
-pub fn after_put(kind: Kind, width: u32, anchor: Anchor, read: Anchor) -> Anchor
+// Put 4 (FIFO 5): (t+1, g+1) of the old pair read; tail+1 alone; (h, s+1, g+1).
+pub fn put_store(kind: Kind, width: u32, read: Anchor) -> Store
     requires { ⌜ (width ≤ 16) × (read .count ≤ 65535) ⌝ }
-    ensures { λ r. ⌜ r ≡ afterPut kind width anchor read ⌝ }
+    ensures { λ r. ⌜ r ≡ putStore kind width read ⌝ }
 {
     let up = read.count + 1;
     let raised = next_tag(width, read.tag);
     match kind {
-        Kind::Lifo => anchor_of(read.head, up, raised),
-        Kind::Fifo => anchor_of(anchor.head, up, anchor.tag),
-        Kind::Deque => anchor_of(read.head, up, raised),
+        Kind::Lifo => put_of(read.head, up, raised),
+        Kind::Fifo => Store::StoreTail { value: up },
+        Kind::Deque => put_of(read.head, up, raised),
     }
 }
 
-// Take 4 (FIFO 5): (t−1, g) of the old pair read; the head read plus 1, the tail as it is now; (h, s−1, g). `someOk`: past a
-// test for EMPTY t or s is at least 1; FIFO subtracts nothing from them.
-pub fn after_take(kind: Kind, anchor: Anchor, read: Anchor) -> Anchor
+// Take 4 (FIFO 5): (t−1, g) of the old pair read; the head read plus 1 alone; (h, s−1, g). `someOk`: past a test for EMPTY t
+// or s is at least 1; FIFO subtracts nothing from them.
+pub fn take_store(kind: Kind, read: Anchor) -> Store
     requires { ⌜ read .head ≤ 65535 ⌝ }
     requires { ⌜ someOk kind read ≡ true ⌝ }
-    ensures { λ r. ⌜ r ≡ afterTake kind anchor read ⌝ }
+    ensures { λ r. ⌜ r ≡ takeStore kind read ⌝ }
 {
     match kind {
-        Kind::Lifo => anchor_of(read.head, read.count - 1, read.tag),
-        Kind::Fifo => anchor_of(read.head + 1, anchor.count, anchor.tag),
-        Kind::Deque => anchor_of(read.head, read.count - 1, read.tag),
+        Kind::Lifo => out_of(read.head, read.count - 1, read.tag),
+        Kind::Fifo => {
+            let up = read.head + 1;
+            Store::StoreHead { value: up }
+        }
+        Kind::Deque => out_of(read.head, read.count - 1, read.tag),
     }
 }
 
-// Steal 5 (FIFO and figure 3: 6), where the compare found the anchor as read: what a take leaves; in figure 3 (h2, s−1, g).
-pub fn after_steal(kind: Kind, anchor: Anchor, read: Anchor, next: u32) -> Anchor
+// Steal 5 (FIFO and figure 3: 6), where the compare found the anchor as read: what a take stores; in figure 3 (h2, s−1, g).
+pub fn steal_store(kind: Kind, read: Anchor, next: u32) -> Store
     requires { ⌜ read .head ≤ 65535 ⌝ }
     requires { ⌜ someOk kind read ≡ true ⌝ }
-    ensures { λ r. ⌜ r ≡ afterSteal kind anchor read next ⌝ }
+    ensures { λ r. ⌜ r ≡ stealStore kind read next ⌝ }
 {
     match kind {
-        Kind::Lifo => after_take(kind, anchor, read),
-        Kind::Fifo => after_take(kind, anchor, read),
-        Kind::Deque => anchor_of(next, read.count - 1, read.tag),
+        Kind::Lifo => take_store(kind, read),
+        Kind::Fifo => take_store(kind, read),
+        Kind::Deque => out_of(next, read.count - 1, read.tag),
+    }
+}
+
+// The anchor once a store has landed: the stored one; FIFO's head with the tail as it is now, or its tail with the head. A task's
+// word and the note leave it.
+pub fn after_store(anchor: Anchor, store: Store) -> Anchor
+    ensures { λ r. ⌜ r ≡ afterStore anchor store ⌝ }
+{
+    match store {
+        Store::StoreWord {
+            place: _,
+            slot: _,
+            word: _,
+            value: _,
+        } => anchor,
+        Store::StoreNote { place: _ } => anchor,
+        Store::StorePut { value } => value,
+        Store::StoreOut { value } => value,
+        Store::StoreHead { value } => anchor_of(value, anchor.count, anchor.tag),
+        Store::StoreTail { value } => anchor_of(anchor.head, value, anchor.tag),
     }
 }
 

@@ -1,7 +1,8 @@
 // The state limits of refusal 12, as code of early returns: `valid` is true of exactly the states that
 // the definitions take for no foreign ones. A foreign state holds any 32-bit values, so each limit is
 // tested before a later test counts on it, and a sum of two free values is worked out in 64 bits.
-// Uses `model`, `anchors`, `stages`, `admission` and `ranges`. It is used by `opening` and `queues`, and by proofs of `machine` and `listing`.
+// Uses `model`, `anchors`, `stages`, `admission` and `ranges`. It is used by `opening`, `events` and `queues`, and
+// by proofs of `machine` and `listing`.
 ghost use mathlib.Core.Path.{_≡_};
 ghost use mathlib.Core.Bool.{false};
 ghost use Prim.Native.Nat.{_+_, _*_, _≤_, _<_};
@@ -12,7 +13,8 @@ ghost use Rattle.model.specs.Tests.{if_then_else_, _and_};
 ghost use Rattle.model.specs.Memory.{nowhere, sizeAt};
 ghost use Rattle.model.specs.Lines.{size};
 ghost use Rattle.model.specs.World.{isIdle, isExpanding};
-ghost use Rattle.model.specs.Limits.{tidy, taken, directoryOk, kindOk, linkOk, linksOk, validOf};
+ghost use Rattle.model.specs.Stores.{taken};
+ghost use Rattle.model.specs.Limits.{tidy, directoryOk, kindOk, linkOk, linksOk, validOf};
 ghost use Rattle.model.specs.Calls.{lent};
 ghost use Rattle.ranges.specs.Doubles.{Doubles};
 ghost use Rattle.limits.specs.Parts.{tasksIn, startsOk, followsOk, memberOk, workersOk, contentsOk, Scoped};
@@ -209,8 +211,8 @@ fn link_ok(kind: Kind, linked: bool, anchor: Anchor, own: Worker) -> bool
     anchors::is_same(kind, anchor, read)
 }
 
-// The eight workers and their links, in one loop. Each worker by a number of its own, or the links in a loop of theirs, has the
-// records copied once more.
+// The eight workers and their links, in one loop. Naming the workers one by one, or a second loop for the links, would copy the
+// records once more.
 fn workers_ok(bench: Bench, bits: u32, first: u32, tasks: u32) -> bool
     requires { ⌜ (bits ≤ 16) × (bench .words ≤ 4) ⌝ }
     requires { ⌜ bench .queue .published ≤ 11 ⌝ }

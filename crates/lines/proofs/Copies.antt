@@ -1,68 +1,53 @@
--- X3: the words of a task that is read whole and written whole are those that are copied one by one.
-use mathlib.Core.Path.{_≡_, refl, sym, ap, _∙_}
-use mathlib.Core.List.{List, [], _∷_}
-use Prim.Native.Nat.{ℕ, zero, suc, _+_, _-_, _*_, _≤_}
-use native.Mathlib.Nat.{add-zero}
+-- X3: the words of a task that is read whole are those that are copied one by one.
+use mathlib.Core.Path.{_≡_, refl, ap, _∙_}
+use mathlib.Core.List.{List, [], _∷_, _++_}
+use Prim.Native.Nat.{ℕ, zero, suc, _+_, _-_, _≤_, _<_}
 use native.Mathlib.Omega.{arith}
-use lib.ListN.{set, take}
+use lib.ListN.{getD, take}
 use Rattle.model.specs.declared.Kind.{Kind}
 use Rattle.model.specs.declared.Task.{Task}
 use Rattle.model.specs.declared.Queue.{Queue}
-use Rattle.model.specs.Tasks.{wordsIn, gathered}
-use Rattle.model.specs.Memory.{setAll, setWord, offsetAt, sizeAt}
+use Rattle.model.specs.declared.Store.{Store}
+use Rattle.model.specs.declared.Store.the-variants.{StoreWord}
+use Rattle.model.specs.Tasks.{wordIn, gathered}
+use Rattle.model.specs.Memory.{sizeAt}
 use Rattle.model.specs.Figures.{slot}
-use Rattle.model.specs.Lines.{wordOf, copyWords, copied}
+use Rattle.model.specs.Lines.{wordOf, copyWords}
+use Rattle.lines.specs.Actions.{wordStores}
 
--- the words f 0, f 1 .., n of them
-abbrev firsts : ℕ → (ℕ → ℕ) → List ℕ
-firsts zero f = []
-firsts (suc n) f = f 0 ∷ firsts n (λ j. f (suc j))
+-- a task's word is the one that was read
+front : (n j : ℕ) (l : List ℕ) → j < n → getD (take n l) j 0 ≡ getD l j 0
+front zero j l h = absurd (omega arith)
+front (suc n) j [] h = refl
+front (suc n) zero (x ∷ l) h = refl
+front (suc n) (suc j) (x ∷ l) h = front n j l (omega arith)
 
--- written one by one, from word b on
-abbrev writes : List ℕ → ℕ → (ℕ → ℕ) → ℕ → List ℕ
-writes m b f zero = m
-writes m b f (suc n) = set (writes m b f n) (b + n) (f n)
+word-gathered : (v j : ℕ) (f : ℕ → ℕ) → v ≤ 4 → j ≤ v → wordIn (gathered (v + 1) f) j ≡ f j
+unfolding gathered wordIn
+word-gathered v zero f l h = front (v + 1) 0 (f 0 ∷ f 1 ∷ f 2 ∷ f 3 ∷ f 4 ∷ []) (omega arith)
+word-gathered v (suc zero) f l h = front (v + 1) 1 (f 0 ∷ f 1 ∷ f 2 ∷ f 3 ∷ f 4 ∷ []) (omega arith)
+word-gathered v (suc (suc zero)) f l h = front (v + 1) 2 (f 0 ∷ f 1 ∷ f 2 ∷ f 3 ∷ f 4 ∷ []) (omega arith)
+word-gathered v (suc (suc (suc zero))) f l h = front (v + 1) 3 (f 0 ∷ f 1 ∷ f 2 ∷ f 3 ∷ f 4 ∷ []) (omega arith)
+word-gathered v (suc (suc (suc (suc zero)))) f l h = front (v + 1) 4 (f 0 ∷ f 1 ∷ f 2 ∷ f 3 ∷ f 4 ∷ []) (omega arith)
+word-gathered v (suc (suc (suc (suc (suc j))))) f l h = absurd (omega arith)
 
-set-at : {m n : List ℕ} {a b : ℕ} (x : ℕ) → m ≡ n → a ≡ b → set m a x ≡ set n b x
-set-at x e f = rw (e, f)
+more : {xs ys : List Store} {x y : Store} → xs ≡ ys → x ≡ y → (xs ++ x ∷ []) ≡ (ys ++ y ∷ [])
+more e f = rw (e, f)
 
-writes-on : (m : List ℕ) (b : ℕ) (f : ℕ → ℕ) (n : ℕ)
-    → writes (set m b (f 0)) (b + 1) (λ j. f (suc j)) n ≡ writes m b f (suc n)
-writes-on m b f zero = set-at {m = m} (f 0) refl (sym (add-zero b))
-writes-on m b f (suc n) = set-at (f (suc n)) (writes-on m b f n) (let e : b + 1 + n ≡ b + suc n = omega arith in e)
+copies-first : (κ : Kind) (v : ℕ) (q : Queue) (m : List ℕ) (i n : ℕ) → v ≤ 4 → n ≤ v + 1
+    → wordStores (q .published) (slot κ (sizeAt v (q .arrays) (q .published)) i) (gathered (v + 1) (wordOf κ v q m (q .published - 1) i)) n
+    ≡ copyWords κ v q m i n
+unfolding wordStores
+copies-first κ v q m i zero l h = refl
+copies-first κ v q m i (suc n) l h =
+    more (copies-first κ v q m i n l (omega arith))
+    (ap (StoreWord (q .published) (slot κ (sizeAt v (q .arrays) (q .published)) i) n) (word-gathered v n (wordOf κ v q m (q .published - 1) i) l (omega arith)))
 
-all-writes : (n : ℕ) (m : List ℕ) (b : ℕ) (f : ℕ → ℕ) → setAll m b (firsts n f) ≡ writes m b f n
-all-writes zero m b f = refl
-all-writes (suc n) m b f = all-writes n (set m b (f 0)) (b + 1) (λ j. f (suc j)) ∙ writes-on m b f n
-
--- X3's words are written so
-copy-writes : (κ : Kind) (v : ℕ) (q : Queue) (m : List ℕ) (i n : ℕ)
-    → copyWords κ v q m i n
-    ≡ writes m (offsetAt (q .arrays) (q .published) + (v + 1) * slot κ (sizeAt v (q .arrays) (q .published)) i)
-    (wordOf κ v q m (q .published - 1) i) n
-unfolding setWord
-copy-writes κ v q m i zero = refl
-copy-writes κ v q m i (suc n) = set-at (wordOf κ v q m (q .published - 1) i n) (copy-writes κ v q m i n) refl
-
--- a task has no other words
-task-firsts : (v : ℕ) (f : ℕ → ℕ) → v ≤ 4 → take (v + 1) (wordsIn (gathered (v + 1) f)) ≡ firsts (v + 1) f
-unfolding gathered
-task-firsts zero f l = refl
-task-firsts (suc zero) f l = refl
-task-firsts (suc (suc zero)) f l = refl
-task-firsts (suc (suc (suc zero))) f l = refl
-task-firsts (suc (suc (suc (suc zero)))) f l = refl
-task-firsts (suc (suc (suc (suc (suc v))))) f l = absurd (omega arith)
-
-pub copies-are : {t : Task} (κ : Kind) (v : ℕ) (q : Queue) (m : List ℕ) (i a : ℕ) → v ≤ 4
-    → a ≡ offsetAt (q .arrays) (q .published) + (v + 1) * slot κ (sizeAt v (q .arrays) (q .published)) i + 0
+pub copies-are : {t : Task} {s : ℕ} (κ : Kind) (v : ℕ) (q : Queue) (m : List ℕ) (i : ℕ) → v ≤ 4
+    → s ≡ slot κ (sizeAt v (q .arrays) (q .published)) i
     → t ≡ gathered (v + 1) (wordOf κ v q m (q .published - 1) i)
-    → setAll m a (take (v + 1) (wordsIn t)) ≡ copied κ v q m i
-copies-are κ v q m i a l e g =
-    let b = offsetAt (q .arrays) (q .published) + (v + 1) * slot κ (sizeAt v (q .arrays) (q .published)) i in
-    let f = wordOf κ v q m (q .published - 1) i in
-    ap (λ (u : Task). setAll m a (take (v + 1) (wordsIn u))) g
-    ∙ ap (λ (x : List ℕ). setAll m a x) (task-firsts v f l)
-    ∙ ap (λ (x : ℕ). setAll m x (firsts (v + 1) f)) (e ∙ add-zero b)
-    ∙ all-writes (v + 1) m b f
-    ∙ sym (copy-writes κ v q m i (v + 1))
+    → wordStores (q .published) s t (v + 1) ≡ copyWords κ v q m i (v + 1)
+copies-are {t} {s} κ v q m i l e g =
+    ap (λ (x : ℕ). wordStores (q .published) x t (v + 1)) e
+    ∙ ap (λ (u : Task). wordStores (q .published) (slot κ (sizeAt v (q .arrays) (q .published)) i) u (v + 1)) g
+    ∙ copies-first κ v q m i (v + 1) l (omega arith)

@@ -14,7 +14,8 @@ use Rattle.model.specs.declared.Queue.{Queue}
 use Rattle.model.specs.Tests.{if_then_else_}
 use Rattle.model.specs.Memory.{offsetAt, lengthAt, sizeAt}
 use Rattle.model.specs.World.{isExpanding}
-use Rattle.model.specs.Limits.{tidy, taken, directoryOk}
+use Rattle.model.specs.Stores.{taken}
+use Rattle.model.specs.Limits.{tidy, directoryOk}
 use Rattle.model.proofs.Tests.{and-left, and-right}
 use Rattle.model.proofs.Directory.{Size, size-pos, size-le, size-twice, Next, tidy-last, tidy-start, tidy-long, tidy-twice, tidy-front, tidy-kept}
 

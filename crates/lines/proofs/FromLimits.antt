@@ -1,16 +1,15 @@
 -- The limits give what a line needs: in a valid state each worker of the crew can do its line, and what it reads and writes
 -- lies in the store.
-use mathlib.Core.Bool.{true, not}
-use mathlib.Core.Path.{_≡_, refl, sym, subst, _∙_}
+use mathlib.Core.Bool.{true, false, not, true≢false}
+use mathlib.Core.Path.{_≡_, refl, sym, ap, subst, _∙_}
 use mathlib.Core.Logic.{_⊎_, inl, inr}
 use mathlib.Core.List.{List}
-use Prim.Native.Nat.{ℕ, zero, suc, _+_, _-_, _^_, _≤_, _<_}
+use Prim.Native.Nat.{ℕ, zero, suc, _+_, _-_, _*_, _^_, _≤_, _<_}
 use native.Mathlib.Omega.{arith}
 use native.Mathlib.Nat.{mod-lt, eq-or-lt-of-le}
 use lib.ListN.{length}
 use lib.Pow.{pow-pos}
 use borrow.Author.Tests.{ltb-true, leb-true, eqb-true, lt-ltb}
-use lib.Dec.{eqb, ltb}
 use Rattle.model.specs.declared.Kind.{Kind}
 use Rattle.model.specs.declared.Kind.the-variants.{Lifo, Fifo, Deque}
 use Rattle.model.specs.declared.Anchor.{Anchor}
@@ -45,8 +44,8 @@ use Rattle.model.specs.declared.Bench.{Bench}
 use Rattle.model.specs.Tests.{_and_, _or_}
 use Rattle.model.specs.Memory.{sizeAt}
 use Rattle.model.specs.Figures.{slot, putIndex, takeIndex, stealIndex}
-use Rattle.model.specs.Lines.{len, size, holdsLink}
-use Rattle.model.specs.World.{World, tagBits, lineAt, stage, isPast1, isExpanding, isThiefs}
+use Rattle.model.specs.Lines.{size, holdsLink}
+use Rattle.model.specs.World.{World, tagBits, lineAt, isPast1, isExpanding, isThiefs}
 use Rattle.model.specs.Limits.{
   widthOk,
   wordsOk,
@@ -70,8 +69,8 @@ use Rattle.model.specs.Limits.{
 use Rattle.figures.specs.Bounds.{Ordered}
 use Rattle.slots.specs.Bounds.{Wide, Inside}
 use Rattle.slots.proofs.Places.{most-words}
-use Rattle.lines.specs.Actions.{Ground, Ready, Range, Lies, Free}
-use Rattle.model.proofs.Tests.{and-left, and-right, if-true}
+use Rattle.lines.specs.Actions.{len, Ground, Ready, Range, Lies}
+use Rattle.model.proofs.Tests.{and-left, and-right, if-true, if-false}
 use Rattle.lines.proofs.Directory.{Laid, Arrays, arrays-of}
 
 -- the limits' parts that bound a line
@@ -198,7 +197,7 @@ module _ (κ : Kind) (w v : ℕ) (q : Queue) (n : ℕ) (o : Line) (A : Arrays v 
       let h : k < q .claimed = behind k (ltb-true _ _ (and-left _ _ p)) in
       (range r e, f, lies k _ h (steal-slot κ (sizeAt v (q .arrays) k) r (there k h .1) (and-right _ _ p) f))
 
-  free : Free v q
+  free : 2 * size v q ≤ 1024 → q .published < 11
   free d = go (eq-or-lt-of-le {n = q .published} {m = 11} (omega (arith, A .behind, A .listed)))
     where
       go : (q .published ≡ 11) ⊎ (q .published < 11) → q .published < 11
@@ -222,9 +221,9 @@ module _ (κ : Kind) (w v : ℕ) (q : Queue) (n : ℕ) (o : Line) (A : Arrays v 
         lies _ _ last (copy-slot κ (sizeAt v (q .arrays) (q .published)) (size v q) h j k (there _ last .1) up e f g),
       )
 
-  ready : (l : Line) → Ordered κ (q .anchor) → (isExpanding l ≡ true → isExpanding o ≡ true) → lineOk κ w v q l ≡ true
+  ready : (l : Line) → Ordered κ (q .anchor) → (isThiefs l ≡ false → o ≡ l) → lineOk κ w v q l ≡ true
       → Ready κ v q n l
-  unfolding Ready
+  unfolding Ready _or_
   ready Idle a x e = tt
   ready (PutRead t) a x e = tt
   ready (PutTail t h) a x e = tt
@@ -234,12 +233,12 @@ module _ (κ : Kind) (w v : ℕ) (q : Queue) (n : ℕ) (o : Line) (A : Arrays v 
       let e2 = and-right _ _ e1 in
       let p = put-ready r (and-left _ _ e1) (and-left _ _ e2) in (p .0, p .1, leb-true _ _ (and-right _ _ e2))
   ready (PutFinish t r) a x e = range r (and-left _ _ (and-right _ _ e))
-  ready (Claim t) a x e = free
+  ready (Claim t) a x e = (A .told ∙ if-false _ (ap isExpanding (x refl)), free)
   ready (Note t) a x e = a
   ready (Copy t h j k) a x e =
       let e1 = and-right _ _ e in
       let e2 = and-right _ _ e1 in
-      copy-ready h j k (x refl) (and-left _ _ e1) (leb-true _ _ (and-left _ _ e2)) (ltb-true _ _ (and-right _ _ e2))
+      copy-ready h j k (ap isExpanding (x refl)) (and-left _ _ e1) (leb-true _ _ (and-left _ _ e2)) (ltb-true _ _ (and-right _ _ e2))
   ready (Publish t) a x e = tt
   ready TakeRead a x e = tt
   ready (TakeTail h) a x e = tt
@@ -260,14 +259,6 @@ module _ (κ : Kind) (w v : ℕ) (q : Queue) (n : ℕ) (o : Line) (A : Arrays v 
       (p .0, p .1, p .2, leb-true _ _ (and-right _ _ (and-right _ _ e2)))
   ready (StealNext r t) a x e = range r (and-left _ _ e)
   ready (StealCompare r i t) a x e = (range r (and-left _ _ e), and-left _ _ (and-right _ _ e))
-
--- a thief is at no line of an expansion
-thief-not : (l : Line) → isThiefs l ≡ true → isExpanding l ≡ true → ⊥
-unfolding _or_
-thief-not l t x =
-    let two : stage l ≡ 2 = eqb-true _ _ x in
-    let z : (eqb 2 0 or ltb 3 2) ≡ true = subst (λ (s : ℕ). (eqb s 0 or ltb 3 s) ≡ true) two t in
-    let y : _≡_ {A = ℕ} 0 1 = cc in omega arith
 
 -- thief i of the crew
 thief-of : (κ : Kind) (w v : ℕ) (q : Queue) (n : ℕ) (l : List Worker) (k i : ℕ)
@@ -340,17 +331,17 @@ module _ (W : World) (v : validOf W ≡ true) where
         inside = omega (arith, h .ends, arrayed .fits);
       }
 
-  -- the line of a worker of the crew is in the limits, and of the expansion's lines only the owner's
+  -- the line of a worker of the crew is in the limits, and if it is none of a thief's it is the owner's
   line-ok : (i : ℕ) → i < W .bench .crew
       → (lineOk (W .bench .kind) (tagBits (W .bench)) (W .bench .words) (W .bench .queue) (lineAt (W .bench .workers) i) ≡ true)
-      × (isExpanding (lineAt (W .bench .workers) i) ≡ true → isExpanding (lineAt (W .bench .workers) 0) ≡ true)
-  line-ok zero c = (and-right _ _ (limits-of W v .owner), λ x. x)
+      × (isThiefs (lineAt (W .bench .workers) i) ≡ false → lineAt (W .bench .workers) 0 ≡ lineAt (W .bench .workers) i)
+  line-ok zero c = (and-right _ _ (limits-of W v .owner), λ x. refl)
   line-ok (suc i) c =
       let b = W .bench in
       let n : W .bench .crew ≤ 8 = leb-true _ _ (and-right _ _ (limits-of W v .crew)) in
       let s = limits-of W v .thieves in
       let t = thief-of (b .kind) (tagBits b) (b .words) (b .queue) (b .crew) (b .workers) 7 i s (omega (arith, n, c)) c in
-      (and-right _ _ t, λ x. absurd (thief-not (lineAt (b .workers) (suc i)) (and-left _ _ t) x))
+      (and-right _ _ t, λ x. absurd (true≢false (sym (and-left _ _ t) ∙ x)))
 
   -- what the line of worker i needs
   pub ready-of-valid : (i : ℕ) → i < W .bench .crew

@@ -1,4 +1,5 @@
 pub mod Room
 pub mod Copies
+pub mod LastLines
 pub mod Directory
 pub mod FromLimits

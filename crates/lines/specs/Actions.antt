@@ -1,11 +1,13 @@
--- What an action does to queue and store, and what a line needs to be done.
+-- What an action is: a line's claim, its stores and its answer; and what a line needs to be done.
 use mathlib.Core.Path.{_≡_}
 use mathlib.Core.Bool.{Bool, true, false}
-use mathlib.Core.List.{List}
-use Prim.Native.Nat.{ℕ, _+_, _-_, _*_, _^_, _≤_, _<_}
-use lib.ListN.{length, set, take}
+use mathlib.Core.List.{List, [], _∷_, _++_}
+use Prim.Native.Nat.{ℕ, zero, suc, _+_, _-_, _*_, _^_, _≤_, _<_}
 use Rattle.model.specs.declared.Kind.{Kind}
+use Rattle.model.specs.declared.Task.{Task}
 use Rattle.model.specs.declared.Anchor.{Anchor}
+use Rattle.model.specs.declared.Store.{Store}
+use Rattle.model.specs.declared.Store.the-variants.{StoreWord, StoreNote, StorePut, StoreOut, StoreHead, StoreTail}
 use Rattle.model.specs.declared.Line.{Line}
 use Rattle.model.specs.declared.Line.the-variants.{
   Idle,
@@ -34,89 +36,105 @@ use Rattle.model.specs.declared.Line.the-variants.{
 use Rattle.model.specs.declared.Queue.{Queue}
 use Rattle.model.specs.declared.Answer.{Answer}
 use Rattle.model.specs.declared.Answer.the-variants.{GoesOn}
-use Rattle.model.specs.Tasks.{wordsIn}
-use Rattle.model.specs.Memory.{zeros, setAll}
+use Rattle.model.specs.Tasks.{wordIn}
+use Rattle.model.specs.Memory.{offsetAt, lengthAt}
 use Rattle.model.specs.Answers.{ends}
 use Rattle.model.specs.Figures.{putIndex, takeIndex, stealIndex}
-use Rattle.model.specs.Lines.{Effect, eff, off, len, size, anchored, publishing}
+use Rattle.model.specs.Stores.{taken, nextLength}
+use Rattle.model.specs.Lines.{Effect, size}
 use Rattle.model.specs.Limits.{someOk}
+use Rattle.anchors.specs.After.{ofAnchor}
 use Rattle.figures.specs.Bounds.{Ordered}
 use Rattle.slots.specs.Bounds.{Wide, Slotted, Inside}
 use Rattle.lines.specs.declared.Action.{Action}
-use Rattle.lines.specs.declared.Action.the-variants.{Nothing, Fails, Word, Copies, Claims, Publishes, Stops, Ends}
+use Rattle.lines.specs.declared.Action.the-variants.{Nothing, Fails, Stores, Copies, Claims, Stops, Ends}
 
--- the queue with a pair claimed behind the published ones
-abbrev pub withArray : Queue → ℕ → ℕ → Queue
-withArray q a z =
-    record {
-      linked = q .linked;
-      anchor = q .anchor;
-      arrays = set (q .arrays) (q .published) (record { offset = a; length = z });
-      published = q .published;
-      claimed = q .published + 1;
-      initial = q .initial;
-      links = q .links;
-    }
+-- word j of the task u, for the first n words, stored in slot t of the array at place k of the directory
+unfoldable pub wordStores : ℕ → ℕ → Task → ℕ → List Store
+wordStores k t u zero = []
+wordStores k t u (suc j) = wordStores k t u j ++ StoreWord k t j (wordIn u j) ∷ []
 
--- what an action leaves of the queue
-unfoldable pub queueBy : Queue → Action → Queue
-queueBy q Nothing = q
-queueBy q Fails = q
-queueBy q (Word a x) = q
-queueBy q (Copies a t) = q
-queueBy q (Claims a z) = withArray q a z
-queueBy q Publishes = publishing q
-queueBy q (Stops x) = q
-queueBy q (Ends a x) = anchored q a
+-- an action's stores, where tasks have v payload words
+unfoldable pub storesBy : ℕ → Action → List Store
+storesBy v Nothing = []
+storesBy v Fails = []
+storesBy v (Stores s) = s ∷ []
+storesBy v (Copies k t u) = wordStores k t u (v + 1)
+storesBy v (Claims a z) = []
+storesBy v (Stops x) = []
+storesBy v (Ends s x) = s ∷ []
 
--- and of the store, where tasks have v payload words
-unfoldable pub storeBy : ℕ → List ℕ → Action → List ℕ
-storeBy v m Nothing = m
-storeBy v m Fails = m
-storeBy v m (Word a x) = set m a x
-storeBy v m (Copies a t) = setAll m a (take (v + 1) (wordsIn t))
-storeBy v m (Claims a z) = zeros m a z
-storeBy v m Publishes = m
-storeBy v m (Stops x) = m
-storeBy v m (Ends a x) = m
+-- whether it claims an array
+unfoldable pub claimsBy : Action → Bool
+claimsBy Nothing = false
+claimsBy Fails = false
+claimsBy (Stores s) = false
+claimsBy (Copies k t u) = false
+claimsBy (Claims a z) = true
+claimsBy (Stops x) = false
+claimsBy (Ends s x) = false
 
 -- and what its step answers
 unfoldable pub answerBy : Action → Answer
 answerBy Nothing = GoesOn
 answerBy Fails = GoesOn
-answerBy (Word a x) = GoesOn
-answerBy (Copies a t) = GoesOn
+answerBy (Stores s) = GoesOn
+answerBy (Copies k t u) = GoesOn
 answerBy (Claims a z) = GoesOn
-answerBy Publishes = GoesOn
 answerBy (Stops x) = x
-answerBy (Ends a x) = x
+answerBy (Ends s x) = x
 
--- the action on the queue q and the store m, by a worker that comes to the line l
-abbrev pub effectBy : ℕ → Queue → List ℕ → Line → Action → Effect
-effectBy v q m l d = eff (queueBy q d) (storeBy v m d) l (answerBy d)
+-- the action is what the line does
+pub record Does (v : ℕ) (E : Effect) (d : Action) : Type 0 where
+  pub claims : claimsBy d ≡ E .claims
+  pub stores : storesBy v d ≡ E .stores
+  pub answer : answerBy d ≡ E .answer
 
 -- it is a compare that fails
 unfoldable pub failsBy : Action → Bool
 failsBy Nothing = false
 failsBy Fails = true
-failsBy (Word a x) = false
-failsBy (Copies a t) = false
+failsBy (Stores s) = false
+failsBy (Copies k t u) = false
 failsBy (Claims a z) = false
-failsBy Publishes = false
 failsBy (Stops x) = false
-failsBy (Ends a x) = false
+failsBy (Ends s x) = false
 
--- it can be done on the queue q and a store of n words: what it writes lies in the store, a claimed pair in the directory; what
--- ends an operation has an answer with an entry
+-- a store that ends nothing has a place in the queue q and a store of n words: it writes a word, or notes the array behind the
+-- published ones
+unfoldable pub Lands : ℕ → Queue → ℕ → Store → Type 0
+Lands v q n (StoreWord k t j x) = (k < 11) × (t ≤ 1024) × (j ≤ v) × (offsetAt (q .arrays) k + (v + 1) * t + j < n)
+Lands v q n (StoreNote k) = k ≡ q .published
+Lands v q n (StorePut a) = ⊥
+Lands v q n (StoreOut a) = ⊥
+Lands v q n (StoreHead h) = ⊥
+Lands v q n (StoreTail t) = ⊥
+
+-- a claimed range is the one that X1 claims, it lies in a store of n words, and its pair in the directory
+pub record Claimable (q : Queue) (n a z : ℕ) : Type 0 where
+  pub all : q .claimed ≡ q .published
+  pub from : a ≡ taken q
+  pub long : z ≡ nextLength q
+  pub inside : a + z ≤ n
+  pub listed : q .published < 11
+
+-- the action can be done on the queue q and a store of n words; what ends an operation has an answer with an entry, and stores the
+-- anchor
 unfoldable pub Doable : ℕ → Queue → ℕ → Action → Type 0
 Doable v q n Nothing = Unit {0}
 Doable v q n Fails = Unit {0}
-Doable v q n (Word a x) = a < n
-Doable v q n (Copies a t) = a + (v + 1) ≤ n
-Doable v q n (Claims a z) = (a + z ≤ n) × (q .published < 11)
-Doable v q n Publishes = Unit {0}
+Doable v q n (Stores s) = Lands v q n s
+Doable v q n (Copies k t u) = (k < 11) × (t ≤ 1024) × (offsetAt (q .arrays) k + (v + 1) * t + (v + 1) ≤ n)
+Doable v q n (Claims a z) = Claimable q n a z
 Doable v q n (Stops x) = ends x ≡ true
-Doable v q n (Ends a x) = ends x ≡ true
+Doable v q n (Ends s x) = (ofAnchor s ≡ true) × (ends x ≡ true)
+
+-- the current array's offset and length, in words
+abbrev pub off : Queue → ℕ
+off q = offsetAt (q .arrays) (q .published - 1)
+
+abbrev pub len : Queue → ℕ
+len q = lengthAt (q .arrays) (q .published - 1)
 
 -- what every line needs: a current array inside a store of n words
 pub record Ground (v : ℕ) (q : Queue) (n : ℕ) : Type 0 where
@@ -139,9 +157,9 @@ Range r = (r .head ≤ 65535) × (r .count ≤ 65535)
 abbrev pub Lies : Kind → ℕ → Queue → ℕ → ℕ → ℕ → Type 0
 Lies κ v q n k i = (k < 11) × Slotted κ v q k i × Inside v q n k
 
--- X1: an array that may be doubled leaves a pair of the directory free
+-- X1: all that is claimed is published, and an array that may be doubled leaves a pair of the directory free
 abbrev pub Free : ℕ → Queue → Type 0
-Free v q = 2 * size v q ≤ 1024 → q .published < 11
+Free v q = (q .claimed ≡ q .published) × (2 * size v q ≤ 1024 → q .published < 11)
 
 -- what the line needs
 unfoldable pub Ready : Kind → ℕ → Queue → ℕ → Line → Type 0

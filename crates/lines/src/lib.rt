@@ -1,39 +1,38 @@
 // What one line of figures 1, 2 and 3 does, as two pure functions: the line that its worker comes to (next_line), and what it does
-// beside, an action (decide). Carrying the action out is another crate's.
+// beside, an action (decide): its claim, its stores and its answer. Landing the stores is another crate's.
 // Uses `model`, `tasks`, `anchors`, `figures` and `slots`. It is used by `machine`.
 ghost use mathlib.Core.Path.{_≡_};
 ghost use mathlib.Core.Bool.{true, false, not};
-ghost use mathlib.Core.List.{List};
 ghost use Prim.Native.Nat.{ℕ, _-_, _*_, _^_, _≤_, _<_};
 ghost use lib.ListN.{length};
 ghost use Rattle.model.specs.declared.Line.{Line};
 ghost use Rattle.model.specs.declared.Line.the-variants.{TakeWord, StealWord};
 ghost use Rattle.model.specs.declared.Queue.{Queue};
 ghost use Rattle.model.specs.Tasks.{noTask};
-ghost use Rattle.model.specs.Lines.{unlessEmpty, succeeds, compares, claims, lineStep, failsCompare};
+ghost use Rattle.model.specs.Lines.{unlessEmpty, succeeds, compares, grows, lineStep, failsCompare};
 ghost use Rattle.model.specs.Limits.{someOk};
 ghost use Rattle.slots.specs.Bounds.{Sized, Small};
-ghost use Rattle.lines.specs.Actions.{effectBy, failsBy, Doable, Ground, Ready, Range, Free};
+ghost use Rattle.lines.specs.Actions.{Does, failsBy, Doable, Ground, Ready, Range, Free};
 use model::Anchor;
 use model::Answer;
 use model::Kind;
 use model::Line;
 use model::Queue;
+use model::Store;
 use model::Task;
 
-// What a line does beside moving its worker on: nothing; it is a compare that fails; it writes a word of the store, or a task's
-// words from word `place` on; it claims a range and zeroes it, or publishes the claimed array; or it ends its operation, with the
-// anchor as it is or another one. No line is in it: the prover writes out a type wherever a value of it is in reach, and `Line` has
-// 22 cases.
+// What a line does beside moving its worker on, by the stores that it makes: nothing; it is a compare that fails; one store, of a
+// put's word or X4's note; X3's, one for each word of `task`, in slot `slot` of the array at `place` of the directory; it claims a
+// range; or it ends its operation, with no store or with one of the anchor. No line is in it: the prover writes out a type wherever
+// a value of it is in reach, and `Line` has 22 cases.
 pub enum Action {
     Nothing,
     Fails,
-    Word { place: usize, value: u32 },
-    Copies { place: usize, task: Task },
+    Stores { store: Store },
+    Copies { place: u32, slot: u32, task: Task },
     Claims { offset: u32, length: u32 },
-    Publishes,
     Stops { answer: Answer },
-    Ends { anchor: Anchor, answer: Answer },
+    Ends { store: Store, answer: Answer },
 }
 
 // Take 3a; 4a: no word of the task is read yet.
@@ -61,7 +60,7 @@ fn steal_first(read: Anchor, place: u32) -> Line
 
 // The test for EMPTY: idle, or the line `next`.
 fn past_empty(kind: Kind, read: Anchor, next: Line) -> Line
-    ensures { λ r. ⌜ ((q : Queue) (m : List ℕ) (i : ℕ) → r ≡ unlessEmpty kind q m i read next .line) ⌝ }
+    ensures { λ r. ⌜ ((i : ℕ) → r ≡ unlessEmpty kind i read next .line) ⌝ }
 {
     let empty = anchors::is_empty(kind, read);
     if empty { Line::Idle } else { next }
@@ -69,7 +68,7 @@ fn past_empty(kind: Kind, read: Anchor, next: Line) -> Line
 
 // The test for EMPTY: the operation ends, or nothing.
 fn stop_empty(kind: Kind, worker: u32, read: Anchor) -> Action
-    ensures { λ r. ⌜ ((v : ℕ) (q : Queue) (m : List ℕ) (l : Line) → effectBy v q m (unlessEmpty kind q m worker read l .line) r ≡ unlessEmpty kind q m worker read l) ⌝ }
+    ensures { λ r. ⌜ ((v : ℕ) (l : Line) → Does v (unlessEmpty kind worker read l) r) ⌝ }
     ensures { λ r. ⌜ ((v : ℕ) (q : Queue) (n : ℕ) → Doable v q n r) ⌝ }
     ensures { λ r. ⌜ failsBy r ≡ false ⌝ }
 {
@@ -100,7 +99,7 @@ fn succeeds(kind: Kind, queue: Queue, worker: u32, read: Anchor) -> bool
 
 // The compare: idle, or back to line 1.
 fn past_compare(kind: Kind, queue: Queue, worker: u32, read: Anchor) -> Line
-    ensures { λ r. ⌜ ((m : List ℕ) (e : ℕ) (t : Task) → r ≡ compares kind queue m worker read e t .line) ⌝ }
+    ensures { λ r. ⌜ ((e : ℕ) (t : Task) → r ≡ compares kind queue worker read e t .line) ⌝ }
 {
     if succeeds(kind, queue, worker, read) {
         Line::Idle
@@ -113,15 +112,14 @@ fn past_compare(kind: Kind, queue: Queue, worker: u32, read: Anchor) -> Line
 fn compare(kind: Kind, queue: Queue, worker: u32, read: Anchor, next: u32, task: Task) -> Action
     requires { ⌜ Range read ⌝ }
     requires { ⌜ someOk kind read ≡ true ⌝ }
-    ensures { λ r. ⌜ ((v : ℕ) (m : List ℕ) → effectBy v queue m (compares kind queue m worker read next task .line) r ≡ compares kind queue m worker read next task) ⌝ }
+    ensures { λ r. ⌜ ((v : ℕ) → Does v (compares kind queue worker read next task) r) ⌝ }
     ensures { λ r. ⌜ ((v n : ℕ) → Doable v queue n r) ⌝ }
     ensures { λ r. ⌜ failsBy r ≡ not (succeeds kind queue worker read) ⌝ }
 {
     if succeeds(kind, queue, worker, read) {
-        let anchor = queue.anchor;
-        let left = anchors::after_steal(kind, anchor, read, next);
+        let left = anchors::steal_store(kind, read, next);
         Action::Ends {
-            anchor: left,
+            store: left,
             answer: Answer::HandedOut { worker, task },
         }
     } else {
@@ -134,7 +132,8 @@ fn past_claim(queue: Queue, store: &[u32], task: Task) -> Line
     requires { ⌜ (0 < queue .published) × (queue .published ≤ 11) ⌝ }
     requires { ⌜ queue .initial * 2 ^ (queue .published - 1) ≤ 1024 ⌝ }
     requires { ⌜ Small queue (queue .published - 1) ⌝ }
-    ensures { λ r. ⌜ ((v i : ℕ) → Sized v queue (queue .published - 1) → r ≡ claims v queue (now (store .entry)) i task .line) ⌝ }
+    requires { ⌜ queue .claimed ≡ queue .published ⌝ }
+    ensures { λ r. ⌜ ((v i : ℕ) → Sized v queue (queue .published - 1) → r ≡ grows v queue (now (store .entry)) i task .line) ⌝ }
 {
     let room = slots::has_room(queue, store);
     if room {
@@ -149,7 +148,8 @@ fn claim(queue: Queue, store: &[u32], worker: u32, task: Task) -> Action
     requires { ⌜ (0 < queue .published) × (queue .published ≤ 11) ⌝ }
     requires { ⌜ queue .initial * 2 ^ (queue .published - 1) ≤ 1024 ⌝ }
     requires { ⌜ Small queue (queue .published - 1) ⌝ }
-    ensures { λ r. ⌜ ((v : ℕ) → Sized v queue (queue .published - 1) → effectBy v queue (now (store .entry)) (claims v queue (now (store .entry)) worker task .line) r ≡ claims v queue (now (store .entry)) worker task) ⌝ }
+    requires { ⌜ queue .claimed ≡ queue .published ⌝ }
+    ensures { λ r. ⌜ ((v : ℕ) → Sized v queue (queue .published - 1) → Does v (grows v queue (now (store .entry)) worker task) r) ⌝ }
     ensures { λ r. ⌜ ((v : ℕ) → Sized v queue (queue .published - 1) → Free v queue → Doable v queue (length (now (store .entry))) r) ⌝ }
     ensures { λ r. ⌜ failsBy r ≡ false ⌝ }
 {
@@ -291,11 +291,10 @@ pub fn decide(
     requires { ⌜ width ≤ 16 ⌝ }
     requires { ⌜ Ground words queue (length (now store)) ⌝ }
     requires { ⌜ Ready kind words queue (length (now store)) line ⌝ }
-    ensures { λ r. ⌜ effectBy words queue (now (store .entry)) (lineStep kind width words queue (now (store .entry)) worker line .line) r ≡ lineStep kind width words queue (now (store .entry)) worker line ⌝ }
+    ensures { λ r. ⌜ Does words (lineStep kind width words queue (now (store .entry)) worker line) r ⌝ }
     ensures { λ r. ⌜ Doable words queue (length (now (store .entry))) r ⌝ }
     ensures { λ r. ⌜ failsBy r ≡ failsCompare kind queue worker line ⌝ }
 {
-    let anchor = queue.anchor;
     let here = queue.published - 1;
     let at = here as usize;
     match line {
@@ -305,15 +304,22 @@ pub fn decide(
         Line::PutTest { task: _, read: _ } => Action::Nothing,
         // put 3a, 3b ..; 4a, 4b ..
         Line::PutWord { task, read, word } => {
-            let place = slots::put_place(kind, words, queue, at, read, word);
+            let slot = slots::put_slot(kind, queue, at, read);
             let value = tasks::word_in(task, word);
-            Action::Word { place, value }
+            Action::Stores {
+                store: Store::StoreWord {
+                    place: here,
+                    slot,
+                    word,
+                    value,
+                },
+            }
         }
         // put 4; 5
         Line::PutFinish { task, read } => {
-            let left = anchors::after_put(kind, width, anchor, read);
+            let left = anchors::put_store(kind, width, read);
             Action::Ends {
-                anchor: left,
+                store: left,
                 answer: Answer::Finished { worker, task },
             }
         }
@@ -329,12 +335,18 @@ pub fn decide(
         } => {
             let index = head + copied;
             let task = slots::read_task(kind, words, queue, at, index, store);
-            let claimed = queue.published as usize;
-            let place = slots::place(kind, words, queue, claimed, index, 0);
-            Action::Copies { place, task }
+            let place = queue.published;
+            let claimed = place as usize;
+            let slot = slots::slot_at(kind, queue, claimed, index);
+            Action::Copies { place, slot, task }
         }
         // X4
-        Line::Publish { task: _ } => Action::Publishes,
+        Line::Publish { task: _ } => {
+            let place = queue.published;
+            Action::Stores {
+                store: Store::StoreNote { place },
+            }
+        }
         Line::TakeRead => Action::Nothing,
         Line::TakeTail { head: _ } => Action::Nothing,
         // take 2; 3
@@ -346,9 +358,9 @@ pub fn decide(
         } => Action::Nothing,
         // take 4; 5
         Line::TakeFinish { read, task } => {
-            let left = anchors::after_take(kind, anchor, read);
+            let left = anchors::take_store(kind, read);
             Action::Ends {
-                anchor: left,
+                store: left,
                 answer: Answer::HandedOut { worker, task },
             }
         }

@@ -1,3 +1,4 @@
+pub mod Landing
 pub mod Logged
 pub mod Moves
 pub mod Stepping

@@ -4,10 +4,13 @@ use mathlib.Core.List.{List}
 use mathlib.Core.Path.{_≡_, refl, sym, ap, _∙_}
 use Prim.Native.Nat.{ℕ}
 use Rattle.model.specs.declared.Anchor.{Anchor}
+use Rattle.model.specs.declared.Store.{Store}
+use Rattle.model.specs.declared.Queue.{Queue}
 use Rattle.model.specs.declared.Refusal.the-variants.{LogFull}
 use Rattle.model.specs.declared.Answer.{Answer}
 use Rattle.model.specs.Calls.{logFull}
 use Rattle.model.proofs.Tests.{if-true, if-false}
+use Rattle.anchors.specs.After.{afterStore}
 use Rattle.lines.specs.declared.Action.{Action}
 use Rattle.lines.specs.declared.Action.the-variants.{Stops, Ends}
 use Rattle.machine.specs.declared.Made.the-variants as made
@@ -21,20 +24,20 @@ is-full : {full r : Bool} → r ≡ not full → r ≡ false → full ≡ true
 is-full {full = true} e f = refl
 is-full {full = false} e f = sym f ∙ e
 
-module _ (v k : ℕ) (l : List ℕ) {d : Action} {y : Answer} {r : Bool} (answers : r ≡ not (logFull v l k)) where
-  pub stops : d ≡ Stops y → r ≡ true → made.Stops y ≡ actedBy v k l d
+module _ (v k : ℕ) (l : List ℕ) (q : Queue) {d : Action} {y : Answer} {r : Bool} (answers : r ≡ not (logFull v l k)) where
+  pub stops : d ≡ Stops y → r ≡ true → made.Stops y ≡ actedBy v k l q d
   unfolding actedBy
-  stops e f = sym (ap (actedBy v k l) e ∙ if-false _ (has-room answers f))
+  stops e f = sym (ap (actedBy v k l q) e ∙ if-false _ (has-room answers f))
 
-  pub stops-full : d ≡ Stops y → r ≡ false → made.Refused LogFull ≡ actedBy v k l d
+  pub stops-full : d ≡ Stops y → r ≡ false → made.Refused LogFull ≡ actedBy v k l q d
   unfolding actedBy
-  stops-full e f = sym (ap (actedBy v k l) e ∙ if-true _ (is-full answers f))
+  stops-full e f = sym (ap (actedBy v k l q) e ∙ if-true _ (is-full answers f))
 
-  module _ {a : Anchor} where
-    pub ends : d ≡ Ends a y → r ≡ true → made.Ends a y ≡ actedBy v k l d
+  module _ {s : Store} where
+    pub ends : {a : Anchor} → d ≡ Ends s y → a ≡ afterStore (q .anchor) s → r ≡ true → made.Ends a y ≡ actedBy v k l q d
     unfolding actedBy
-    ends e f = sym (ap (actedBy v k l) e ∙ if-false _ (has-room answers f))
+    ends e g f = ap (λ (x : Anchor). made.Ends x y) g ∙ sym (ap (actedBy v k l q) e ∙ if-false _ (has-room answers f))
 
-    pub ends-full : d ≡ Ends a y → r ≡ false → made.Refused LogFull ≡ actedBy v k l d
+    pub ends-full : d ≡ Ends s y → r ≡ false → made.Refused LogFull ≡ actedBy v k l q d
     unfolding actedBy
-    ends-full e f = sym (ap (actedBy v k l) e ∙ if-true _ (is-full answers f))
+    ends-full e f = sym (ap (actedBy v k l q) e ∙ if-true _ (is-full answers f))

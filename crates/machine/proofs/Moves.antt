@@ -7,23 +7,29 @@ use native.Mathlib.Omega.{arith}
 use lib.Dec.{leb, ltb}
 use lib.ListN.{length, getD, set, replicate}
 use borrow.Author.Tests.{leb-true, leb-false, ltb-false, lt-ltb, le-ltb}
+use Rattle.model.specs.declared.Anchor.{Anchor}
+use Rattle.model.specs.declared.Store.the-variants.{StoreWord, StoreNote, StorePut, StoreOut, StoreHead, StoreTail}
 use Rattle.model.specs.declared.Line.{Line}
 use Rattle.model.specs.declared.Queue.{Queue}
 use Rattle.model.specs.declared.Bench.{Bench}
+use Rattle.model.specs.declared.Answer.{Answer}
 use Rattle.model.specs.declared.Refusal.the-variants.{LogFull}
 use Rattle.model.specs.Tests.{if_then_else_, _and_, _or_}
 use Rattle.model.specs.Memory.{setAll}
-use Rattle.model.specs.Answers.{ends, entryOf, entryLength, entryWords}
-use Rattle.model.specs.Lines.{Effect, anchored, publishing, holdsLink, failsCompare}
+use Rattle.model.specs.Answers.{ends, entryOf, entryLength, entryWords, logged}
+use Rattle.model.specs.Stores.{Shared, shared, anchored, publishing, landed, landedAll, claimedBy}
+use Rattle.model.specs.Lines.{Effect, goes, leftOf, holdsLink, failsCompare}
 use Rattle.model.specs.World.{World, Outcome, refuse, lineAt, isSteal1, isPast1}
-use Rattle.model.specs.Calls.{lent, raised, logFull, noRoom, linkSet, relinked, stepped, commit}
+use Rattle.model.specs.Calls.{lent, raised, logFull, linkSet, relinked, restarted, commit}
 use Rattle.model.proofs.Tests.{fails, and-false}
+use Rattle.anchors.specs.After.{afterStore}
 use Rattle.lines.specs.declared.Action.{Action}
 use Rattle.lines.specs.declared.Action.the-variants as action
-use Rattle.lines.specs.Actions.{withArray, queueBy, storeBy, answerBy, failsBy, effectBy, Doable}
+use Rattle.lines.specs.Actions.{claimsBy, storesBy, answerBy, failsBy, Does, Lands, Doable}
 use Rattle.machine.specs.declared.Made.{Made}
 use Rattle.machine.specs.declared.Made.the-variants as made
-use Rattle.machine.specs.Steps.{benchOf, benchAfter, answerAfter, movedBy, actedBy, logAfter, Writable, Fits}
+use Rattle.machine.specs.Steps.{benchOf, withArray, benchAfter, answerAfter, movedBy, leftBy, madeBy, actedBy, logAfter, Fits}
+use Rattle.machine.proofs.Landing.{copies-leave, claims-land, anchor-lands}
 
 -- no bits or as many as the width
 pub few-bits : (x : Bool) (w : ℕ) {r : ℕ} → r ≡ (if x then 0 else w) → w ≤ 16 → r ≤ 16
@@ -102,67 +108,113 @@ pub record Leads (q : Queue) (i : ℕ) (from to : Line) (d : Action) : Type 0 wh
   pub rests : ends (answerBy d) ≡ true → isPast1 to ≡ false
   pub fails : failsBy d ≡ true → holdsLink q i ≡ true → isPast1 to ≡ true
 
--- an effect committed, with the counts n of restarts and the queue q
-abbrev counted : World → ℕ → Effect → List ℕ → Queue → Outcome
-counted W i E n q =
-    let D = stepped W i E in
-    let b = D .world .bench in
-    if noRoom W E then refuse W LogFull
+-- a step of worker i that comes to the line x and answers a, committed with the counts n of restarts, the queue q and the store m
+abbrev counted : World → ℕ → Line → Answer → List ℕ → Queue → List ℕ → Outcome
+counted W i x a n q m =
+    let b = W .bench in
+    if ends a and logFull (b .words) (W .log) (b .written) then refuse W LogFull
     else record {
       world =
-          lent (benchOf (b .kind) (b .width) (b .words) (b .crew) q (b .written) (b .used) n (b .workers)) (D .world .store)
-          (D .world .log);
-      answer = D .answer;
+          lent
+          (benchOf (b .kind) (b .width) (b .words) (b .crew) q (if ends a then b .written + entryLength (b .words) else b .written) (b .used) n
+          (set (b .workers) i (record { line = x }))) m
+          (logged (b .words) (W .log) (b .written) a);
+      answer = a;
     }
 
 module _ (b : Bench) (i : ℕ) (from to : Line) (m l : List ℕ) (at : lineAt (b .workers) i ≡ from) where
-  -- the action counts a restart exactly if the compare fails
-  commits : (d : Action) {q : Queue} → failsBy d ≡ failsCompare (b .kind) (b .queue) i from → relinked (queueBy (b .queue) d) i from to ≡ q
-      → commit (lent b m l) i (effectBy (b .words) (b .queue) m to d)
-      ≡ counted (lent b m l) i (effectBy (b .words) (b .queue) m to d) (if failsBy d then raised (b .restarts) i else b .restarts) q
-  commits d {q} f g =
-      ap (λ (x : Bool). counted (lent b m l) i (effectBy (b .words) (b .queue) m to d) (if x then raised (b .restarts) i else b .restarts) (relinked (queueBy (b .queue) d) i (lineAt (b .workers) i) to))
-      (ap (failsCompare (b .kind) (b .queue) i) at ∙ sym f)
-      ∙ ap (counted (lent b m l) i (effectBy (b .words) (b .queue) m to d) (if failsBy d then raised (b .restarts) i else b .restarts))
-      (ap (λ (y : Line). relinked (queueBy (b .queue) d) i y to) at ∙ g)
+  -- what the action leaves
+  abbrev left : Action → Shared
+  left d = leftBy (b .words) (shared (b .queue) m) d
 
-  -- an action carried out is its effect committed
-  pub acted : (d : Action) (n : ℕ) → Doable (b .words) (b .queue) n d → failsBy d ≡ failsCompare (b .kind) (b .queue) i from
-      → Leads (b .queue) i from to d
-      → movedBy b i to (actedBy (b .words) (b .written) l d) (storeBy (b .words) m d) (logAfter (b .words) (b .written) l d) ≡ commit (lent b m l) i (effectBy (b .words) (b .queue) m to d)
-  unfolding actedBy logAfter benchAfter answerAfter queueBy storeBy answerBy failsBy Doable if_then_else_ _and_
-  acted action.Nothing n h f L = sym (commits action.Nothing f (relink (b .queue) i from to (L .plain) (λ e. L .stays (L .held e) refl refl)))
-  acted action.Fails n h f L = sym (commits action.Fails f (relink (b .queue) i from to (L .plain) (L .fails refl)))
-  acted (action.Word a x) n h f L = sym (commits (action.Word a x) f (relink (b .queue) i from to (L .plain) (λ e. L .stays (L .held e) refl refl)))
-  acted (action.Copies a t) n h f L = sym (commits (action.Copies a t) f (relink (b .queue) i from to (L .plain) (λ e. L .stays (L .held e) refl refl)))
-  acted (action.Claims a z) n h f L =
-      sym (commits (action.Claims a z) f (relink (withArray (b .queue) a z) i from to (L .plain) (λ e. L .stays (L .held e) refl refl)))
-  acted action.Publishes n h f L =
-      sym (commits action.Publishes f (relink (publishing (b .queue)) i from to (L .plain) (λ e. L .stays (L .held e) refl refl)))
-  acted (action.Stops y) n h f L = sym (commits (action.Stops y) f (unlink (b .queue) i from to (L .rests h)) ∙ full (logFull (b .words) l (b .written)) refl)
-    where
-      full : (z : Bool) → logFull (b .words) l (b .written) ≡ z
-          → counted (lent b m l) i (effectBy (b .words) (b .queue) m to (action.Stops y)) (b .restarts) (linkSet (b .queue) i false)
-          ≡ movedBy b i to (if z then made.Refused LogFull else made.Stops y) m (if z then l else setAll l (b .written) (entryWords (b .words) (entryOf y)))
-      full true q = rw (h, q)
-      full false q = rw (h, q)
-  acted (action.Ends a y) n h f L =
+  left-is : (E : Effect) (d : Action) → Does (b .words) E d → leftOf (b .words) (shared (b .queue) m) E ≡ left d
+  left-is E d D =
       sym
-      (commits (action.Ends a y) f
-      (unlink (anchored (b .queue) a) i from to (L .rests h) ∙ link-kept (anchored (b .queue) a) i false (none-held 8 i))
-      ∙ full (logFull (b .words) l (b .written)) refl)
-    where
-      full : (z : Bool) → logFull (b .words) l (b .written) ≡ z
-          → counted (lent b m l) i (effectBy (b .words) (b .queue) m to (action.Ends a y)) (b .restarts) (anchored (b .queue) a)
-          ≡ movedBy b i to (if z then made.Refused LogFull else made.Ends a y) m (if z then l else setAll l (b .written) (entryWords (b .words) (entryOf y)))
-      full true q = rw (h, q)
-      full false q = rw (h, q)
+      (ap (λ (x : Bool). landedAll (b .words) (claimedBy x (shared (b .queue) m)) (storesBy (b .words) d)) (D .claims)
+      ∙ ap (landedAll (b .words) (claimedBy (E .claims) (shared (b .queue) m))) (D .stores))
+
+  -- the line, by what it leaves of the shared words and answers
+  by-stores : (E : Effect) (d : Action) → Does (b .words) E d → E .line ≡ to
+      → commit (lent b m l) i E
+      ≡ counted (lent b m l) i to (answerBy d) (restarted (b .kind) (b .queue) i (lineAt (b .workers) i) (b .restarts)) (relinked (left d .queue) i (lineAt (b .workers) i) to) (left d .store)
+  by-stores E d D e =
+      let n = restarted (b .kind) (b .queue) i (lineAt (b .workers) i) (b .restarts) in
+      ap (λ (S : Shared). counted (lent b m l) i (E .line) (E .answer) n (relinked (S .queue) i (lineAt (b .workers) i) (E .line)) (S .store)) (left-is E d D)
+      ∙ ap (λ (a : Answer). counted (lent b m l) i (E .line) a n (relinked (left d .queue) i (lineAt (b .workers) i) (E .line)) (left d .store)) (sym (D .answer))
+      ∙ ap (λ (x : Line). counted (lent b m l) i x (answerBy d) n (relinked (left d .queue) i (lineAt (b .workers) i) x) (left d .store)) e
+
+  -- the action counts a restart exactly if the compare fails
+  commits : (E : Effect) (d : Action) {p q : Queue} → Does (b .words) E d → E .line ≡ to → failsBy d ≡ failsCompare (b .kind) (b .queue) i from
+      → left d .queue ≡ p → relinked p i from to ≡ q
+      → commit (lent b m l) i E ≡ counted (lent b m l) i to (answerBy d) (if failsBy d then raised (b .restarts) i else b .restarts) q (left d .store)
+  commits E d {q = q} D e f p g =
+      by-stores E d D e
+      ∙ ap (λ (x : Bool). counted (lent b m l) i to (answerBy d) (if x then raised (b .restarts) i else b .restarts) (relinked (left d .queue) i (lineAt (b .workers) i) to) (left d .store))
+      (ap (failsCompare (b .kind) (b .queue) i) at ∙ sym f)
+      ∙ ap (λ (q : Queue). counted (lent b m l) i to (answerBy d) (if failsBy d then raised (b .restarts) i else b .restarts) q (left d .store))
+      (ap (λ (y : Line). relinked (left d .queue) i y to) at ∙ ap (λ (x : Queue). relinked x i from to) p ∙ g)
+
+  -- an action carried out is the line committed that it does
+  module _ (E : Effect) (e : E .line ≡ to) where
+    pub acted : (d : Action) (n : ℕ) → Does (b .words) E d → Doable (b .words) (b .queue) n d
+        → failsBy d ≡ failsCompare (b .kind) (b .queue) i from → Leads (b .queue) i from to d
+        → movedBy b i to (actedBy (b .words) (b .written) l (b .queue) d) (left d .store) (logAfter (b .words) (b .written) l d) ≡ commit (lent b m l) i E
+    unfolding actedBy madeBy logAfter benchAfter answerAfter claimsBy storesBy landedAll answerBy failsBy Doable Lands if_then_else_ _and_
+    acted action.Nothing n D h f L = sym (commits E action.Nothing D e f refl (relink (b .queue) i from to (L .plain) (λ e. L .stays (L .held e) refl refl)))
+    acted action.Fails n D h f L = sym (commits E action.Fails D e f refl (relink (b .queue) i from to (L .plain) (L .fails refl)))
+    acted (action.Stores (StoreWord k t j x)) n D h f L =
+        sym (commits E (action.Stores (StoreWord k t j x)) D e f refl (relink (b .queue) i from to (L .plain) (λ e. L .stays (L .held e) refl refl)))
+    acted (action.Stores (StoreNote k)) n D h f L =
+        sym
+        (commits E (action.Stores (StoreNote k)) D e f (ap (publishing (b .queue)) h)
+        (relink (publishing (b .queue) (b .queue .published)) i from to (L .plain) (λ e. L .stays (L .held e) refl refl)))
+    acted (action.Stores (StorePut a)) n D h f L = absurd h
+    acted (action.Stores (StoreOut a)) n D h f L = absurd h
+    acted (action.Stores (StoreHead a)) n D h f L = absurd h
+    acted (action.Stores (StoreTail a)) n D h f L = absurd h
+    acted (action.Copies k t u) n D h f L =
+        sym
+        (commits E (action.Copies k t u) D e f (copies-leave (b .words) (b .queue) m k t u (b .words + 1))
+        (relink (b .queue) i from to (L .plain) (λ e. L .stays (L .held e) refl refl)))
+    acted (action.Claims a z) n D h f L =
+        sym
+        (commits E (action.Claims a z) D e f (ap (λ (S : Shared). S .queue) (claims-land (b .queue) m n a z h))
+        (relink (withArray (b .queue) a z) i from to (L .plain) (λ e. L .stays (L .held e) refl refl)))
+    acted (action.Stops y) n D h f L = sym (commits E (action.Stops y) D e f refl (unlink (b .queue) i from to (L .rests h)) ∙ full (logFull (b .words) l (b .written)) refl)
+      where
+        full : (z : Bool) → logFull (b .words) l (b .written) ≡ z
+            → counted (lent b m l) i to y (b .restarts) (linkSet (b .queue) i false) m
+            ≡ movedBy b i to (if z then made.Refused LogFull else made.Stops y) m (if z then l else setAll l (b .written) (entryWords (b .words) (entryOf y)))
+        full true q = rw (h, q)
+        full false q = rw (h, q)
+    acted (action.Ends s y) n D h f L =
+        ap (λ (x : List ℕ). movedBy b i to (actedBy (b .words) (b .written) l (b .queue) (action.Ends s y)) x (logAfter (b .words) (b .written) l (action.Ends s y))) kept
+        ∙ sym
+        (commits E (action.Ends s y) D e f (ap (λ (S : Shared). S .queue) lands)
+        (unlink (anchored (b .queue) a) i from to (L .rests (h .1)) ∙ link-kept (anchored (b .queue) a) i false (none-held 8 i))
+        ∙ ap (counted (lent b m l) i to y (b .restarts) (anchored (b .queue) a)) kept
+        ∙ full (logFull (b .words) l (b .written)) refl)
+      where
+        a : Anchor
+        a = afterStore (b .queue .anchor) s
+
+        lands : landed (b .words) (shared (b .queue) m) s ≡ shared (anchored (b .queue) a) m
+        lands = anchor-lands (b .words) (b .queue) m s (h .0)
+
+        kept : landed (b .words) (shared (b .queue) m) s .store ≡ m
+        kept = ap (λ (S : Shared). S .store) lands
+
+        full : (z : Bool) → logFull (b .words) l (b .written) ≡ z
+            → counted (lent b m l) i to y (b .restarts) (anchored (b .queue) a) m
+            ≡ movedBy b i to (if z then made.Refused LogFull else made.Ends a y) m (if z then l else setAll l (b .written) (entryWords (b .words) (entryOf y)))
+        full true q = rw (h .1, q)
+        full false q = rw (h .1, q)
 
   -- and the line that links
   pub linked-line : (b .queue .linked and isSteal1 from) ≡ true → failsCompare (b .kind) (b .queue) i from ≡ false → isPast1 to ≡ true
-      → movedBy b i to made.Links m l ≡ commit (lent b m l) i (effectBy (b .words) (b .queue) m to action.Nothing)
-  unfolding benchAfter answerAfter queueBy storeBy answerBy failsBy if_then_else_ _and_
-  linked-line e f p = sym (commits action.Nothing (sym f) (link (b .queue) i from to e p))
+      → movedBy b i to made.Links m l ≡ commit (lent b m l) i (goes to)
+  unfolding benchAfter answerAfter claimsBy storesBy answerBy failsBy landedAll if_then_else_ _and_
+  linked-line e f p = sym (commits (goes to) action.Nothing (record { claims = refl; stores = refl; answer = refl }) refl (sym f) refl (link (b .queue) i from to e p))
 
 -- what ends an operation fits where its entry is logged
 logged-fits : (v : ℕ) (q : Queue) (k : ℕ) (l : List ℕ) (d : Made) → (k + entryLength v ≤ 4294967295 → Fits v q k d) → Fits v q k (if logFull v l k then made.Refused LogFull else d)
@@ -173,24 +225,17 @@ logged-fits v q k l d f = go (logFull v l k) refl
     go true e = tt
     go false e = f (room-counts v k l e)
 
-pub fits : (v : ℕ) (q : Queue) (k n : ℕ) (l : List ℕ) (d : Action) → q .published ≤ 11 → Doable v q n d → Fits v q k (actedBy v k l d)
-unfolding actedBy Fits Doable
+pub fits : (v : ℕ) (q : Queue) (k n : ℕ) (l : List ℕ) (d : Action) → q .published ≤ 11 → Doable v q n d → Fits v q k (actedBy v k l q d)
+unfolding actedBy madeBy Fits Doable Lands
 fits v q k n l action.Nothing p h = tt
 fits v q k n l action.Fails p h = tt
-fits v q k n l (action.Word a x) p h = tt
-fits v q k n l (action.Copies a t) p h = tt
-fits v q k n l (action.Claims a z) p h = h .1
-fits v q k n l action.Publishes p h = p
+fits v q k n l (action.Stores (StoreWord a t j x)) p h = tt
+fits v q k n l (action.Stores (StoreNote a)) p h = p
+fits v q k n l (action.Stores (StorePut a)) p h = tt
+fits v q k n l (action.Stores (StoreOut a)) p h = tt
+fits v q k n l (action.Stores (StoreHead a)) p h = tt
+fits v q k n l (action.Stores (StoreTail a)) p h = tt
+fits v q k n l (action.Copies a t u) p h = tt
+fits v q k n l (action.Claims a z) p h = h .listed
 fits v q k n l (action.Stops y) p h = logged-fits v q k l (made.Stops y) (λ r. (r, h))
-fits v q k n l (action.Ends a y) p h = logged-fits v q k l (made.Ends a y) (λ r. (r, h))
-
-pub writable : (v : ℕ) (q : Queue) (n : ℕ) (d : Action) → Doable v q n d → Writable v n d
-unfolding Doable Writable
-writable v q n action.Nothing h = tt
-writable v q n action.Fails h = tt
-writable v q n (action.Word a x) h = h
-writable v q n (action.Copies a t) h = h
-writable v q n (action.Claims a z) h = h .0
-writable v q n action.Publishes h = tt
-writable v q n (action.Stops y) h = tt
-writable v q n (action.Ends a y) h = tt
+fits v q k n l (action.Ends s y) p h = logged-fits v q k l (made.Ends (afterStore (q .anchor) s) y) (λ r. (r, h .1))

@@ -19,21 +19,22 @@ use Rattle.model.specs.declared.Answer.the-variants.{Accepted, Numbered, GoesOn
 use Rattle.model.specs.Answers.{ends}
 use Rattle.model.specs.Listing.{isRefused}
 use Rattle.model.specs.Tests.{_and_}
-use Rattle.model.specs.Lines.{Effect, eff, holdsLink, lineStep, failsCompare}
+use Rattle.model.specs.Lines.{Effect, goes, holdsLink, lineStep, failsCompare}
+use Rattle.model.specs.Stores.{shared}
 use Rattle.model.specs.Limits.{validOf}
 use Rattle.model.specs.World.{World, Outcome, refuse, tagBits, lineAt, isIdle, isSteal1, isPast1}
 use Rattle.model.specs.Calls.{lent, raised, commit, stepIn}
 use Rattle.model.proofs.Tests.{if-true, if-false, and-right}
 use Rattle.model.proofs.Attempts.{rests, stays, starts, only-first, idle-not, wins}
 use Rattle.lines.specs.declared.Action.{Action}
-use Rattle.lines.specs.Actions.{queueBy, storeBy, answerBy, failsBy, effectBy, Doable, Ready}
+use Rattle.lines.specs.Actions.{answerBy, failsBy, Does, Doable, Ready}
 use Rattle.lines.proofs.FromLimits.{narrow-of-valid, ground-of-valid, ready-of-valid, link-of-valid}
 use Rattle.limits.proofs.Bounds.{bounds-of}
 use Rattle.state.specs.declared.Returned.{Returned}
 use Rattle.state.specs.Outcomes.{returned}
 use Rattle.machine.specs.declared.Made.{Made}
 use Rattle.machine.specs.declared.Made.the-variants as made
-use Rattle.machine.specs.Steps.{moves, benchAfter, answerAfter, movedBy, actedBy, logAfter, Fits, Steppable}
+use Rattle.machine.specs.Steps.{moves, benchAfter, answerAfter, movedBy, leftBy, actedBy, logAfter, Fits, Steppable}
 use Rattle.machine.proofs.Made.{the-type}
 use Rattle.machine.proofs.Moves.{Leads, acted, linked-line}
 
@@ -66,9 +67,9 @@ module _ (b : Bench) (i : ℕ) (y : Line) (m l : List ℕ) (own : lineAt (b .wor
   module _ (held : holdsLink (b .queue) i ≡ true → (b .queue .linked ≡ true) × (isPast1 y ≡ true)) (x : Line)
       (next : (w : ℕ) → x ≡ lineStep (b .kind) w (b .words) (b .queue) m i y .line) where
     leads : (d : Action) → (b .queue .linked and isSteal1 y) ≡ false
-        → effectBy (b .words) (b .queue) m (lineStep (b .kind) (tagBits b) (b .words) (b .queue) m i y .line) d ≡ lineStep (b .kind) (tagBits b) (b .words) (b .queue) m i y
+        → Does (b .words) (lineStep (b .kind) (tagBits b) (b .words) (b .queue) m i y) d
         → failsBy d ≡ failsCompare (b .kind) (b .queue) i y → Leads (b .queue) i y x d
-    leads d plain effect fails = record {
+    leads d plain does fails = record {
       held = λ e. held e .1;
       plain = plain;
       stays = λ p a f.
@@ -78,28 +79,26 @@ module _ (b : Bench) (i : ℕ) (y : Line) (m l : List ℕ) (own : lineAt (b .wor
     }
       where
         answered : answerBy d ≡ lineStep (b .kind) (tagBits b) (b .words) (b .queue) m i y .answer
-        answered = ap (λ (E : Effect). E .answer) effect
+        answered = does .answer
 
     pub line-done : (d : Action) → isIdle y ≡ false → (b .queue .linked and isSteal1 y) ≡ false → Doable (b .words) (b .queue) (length m) d
-        → effectBy (b .words) (b .queue) m (lineStep (b .kind) (tagBits b) (b .words) (b .queue) m i y .line) d ≡ lineStep (b .kind) (tagBits b) (b .words) (b .queue) m i y
+        → Does (b .words) (lineStep (b .kind) (tagBits b) (b .words) (b .queue) m i y) d
         → failsBy d ≡ failsCompare (b .kind) (b .queue) i y
-        → movedBy b i x (actedBy (b .words) (b .written) l d) (storeBy (b .words) m d) (logAfter (b .words) (b .written) l d) ≡ stepIn (lent b m l) i
-    line-done d f plain safe effect fails =
-        acted b i y x m l own d (length m) safe fails (leads d plain effect fails)
-        ∙ ap (commit (lent b m l) i)
-        (ap (λ (z : Line). effectBy (b .words) (b .queue) m z d) (next (tagBits b))
-        ∙ effect ∙ ap (lineStep (b .kind) (tagBits b) (b .words) (b .queue) m i) (sym own))
+        → movedBy b i x (actedBy (b .words) (b .written) l (b .queue) d) (leftBy (b .words) (shared (b .queue) m) d .store) (logAfter (b .words) (b .written) l d) ≡ stepIn (lent b m l) i
+    line-done d f plain safe does fails =
+        acted b i y x m l own (lineStep (b .kind) (tagBits b) (b .words) (b .queue) m i y) (sym (next (tagBits b))) d (length m) does safe fails (leads d plain does fails)
+        ∙ ap (λ (z : Line). commit (lent b m l) i (lineStep (b .kind) (tagBits b) (b .words) (b .queue) m i z)) (sym own)
         ∙ sym (if-true _ (lt-ltb _ _ h) ∙ if-false _ (ap isIdle own ∙ f))
 
     pub line-links : (b .queue .linked and isSteal1 y) ≡ true → movedBy b i x made.Links m l ≡ stepIn (lent b m l) i
-    unfolding lineStep queueBy storeBy answerBy
+    unfolding lineStep
     line-links e =
         let first : y ≡ StealRead = only-first y (and-right (b .queue .linked) _ e) in
         let effect : Line → Effect = lineStep (b .kind) (tagBits b) (b .words) (b .queue) m i in
         linked-line b i y x m l own e (ap (failsCompare (b .kind) (b .queue) i) first)
         (ap isPast1 (next (tagBits b) ∙ ap (λ (z : Line). effect z .line) first) ∙ starts (b .kind) (tagBits b) (b .words) (b .queue) m i)
         ∙ ap (commit (lent b m l) i)
-        (ap (λ (z : Line). eff (b .queue) m z GoesOn) (next (tagBits b) ∙ ap (λ (z : Line). effect z .line) first)
+        (ap goes (next (tagBits b) ∙ ap (λ (z : Line). effect z .line) first)
         ∙ sym (ap effect (own ∙ first)))
         ∙ sym (if-true _ (lt-ltb _ _ h) ∙ if-false _ (ap isIdle (own ∙ first)))
 

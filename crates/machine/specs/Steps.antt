@@ -5,6 +5,8 @@ use mathlib.Core.List.{List}
 use Prim.Native.Nat.{ℕ, _+_, _≤_, _<_}
 use lib.ListN.{set}
 use Rattle.model.specs.declared.Kind.{Kind}
+use Rattle.model.specs.declared.Store.{Store}
+use Rattle.model.specs.declared.Store.the-variants.{StoreWord, StoreNote, StorePut, StoreOut, StoreHead, StoreTail}
 use Rattle.model.specs.declared.Line.{Line}
 use Rattle.model.specs.declared.Queue.{Queue}
 use Rattle.model.specs.declared.Worker.{Worker}
@@ -15,12 +17,14 @@ use Rattle.model.specs.declared.Answer.the-variants.{GoesOn, Refused}
 use Rattle.model.specs.Tests.{if_then_else_}
 use Rattle.model.specs.Memory.{setAll}
 use Rattle.model.specs.Answers.{ends, entryOf, entryLength, entryWords}
-use Rattle.model.specs.Lines.{anchored, publishing, holdsLink}
+use Rattle.model.specs.Stores.{Shared, anchored, publishing, landedAll, claimedBy}
+use Rattle.model.specs.Lines.{holdsLink}
 use Rattle.model.specs.World.{Outcome, isPast1}
 use Rattle.model.specs.Calls.{lent, raised, logFull, linkSet}
 use Rattle.lines.specs.declared.Action.{Action}
 use Rattle.lines.specs.declared.Action.the-variants as action
-use Rattle.lines.specs.Actions.{withArray, Ground, Ready}
+use Rattle.anchors.specs.After.{afterStore}
+use Rattle.lines.specs.Actions.{storesBy, claimsBy, Ground, Ready}
 use Rattle.machine.specs.declared.Made.{Made}
 use Rattle.machine.specs.declared.Made.the-variants as made
 
@@ -34,6 +38,19 @@ abbrev pub moves : Bench → ℕ → Line → Queue → List ℕ → ℕ → Ben
 moves b i x q n k =
     benchOf (b .kind) (b .width) (b .words) (b .crew) q k (b .used) n (set (b .workers) i (record { line = x }))
 
+-- the queue with a pair claimed behind the published ones
+abbrev pub withArray : Queue → ℕ → ℕ → Queue
+withArray q a z =
+    record {
+      linked = q .linked;
+      anchor = q .anchor;
+      arrays = set (q .arrays) (q .published) (record { offset = a; length = z });
+      published = q .published;
+      claimed = q .published + 1;
+      initial = q .initial;
+      links = q .links;
+    }
+
 -- the state after a step, and the answer
 unfoldable pub benchAfter : Bench → ℕ → Line → Made → Bench
 benchAfter b i x made.Nothing = moves b i x (b .queue) (b .restarts) (b .written)
@@ -41,7 +58,7 @@ benchAfter b i x (made.Refused r) = b
 benchAfter b i x made.Fails = moves b i x (b .queue) (raised (b .restarts) i) (b .written)
 benchAfter b i x made.Links = moves b i x (linkSet (b .queue) i true) (b .restarts) (b .written)
 benchAfter b i x (made.Claims a z) = moves b i x (withArray (b .queue) a z) (b .restarts) (b .written)
-benchAfter b i x made.Publishes = moves b i x (publishing (b .queue)) (b .restarts) (b .written)
+benchAfter b i x made.Publishes = moves b i x (publishing (b .queue) (b .queue .published)) (b .restarts) (b .written)
 benchAfter b i x (made.Stops y) = moves b i x (linkSet (b .queue) i false) (b .restarts) (b .written + entryLength (b .words))
 benchAfter b i x (made.Ends a y) = moves b i x (anchored (b .queue) a) (b .restarts) (b .written + entryLength (b .words))
 
@@ -63,37 +80,38 @@ movedBy b i x d m l = record { world = lent (benchAfter b i x d) m l; answer = a
 abbrev pub logBy : ℕ → ℕ → List ℕ → Answer → List ℕ
 logBy v k l a = if logFull v l k then l else setAll l k (entryWords v (entryOf a))
 
--- an action carried out: what it makes of the step, and of the log
-unfoldable pub actedBy : ℕ → ℕ → List ℕ → Action → Made
-actedBy v k l action.Nothing = made.Nothing
-actedBy v k l action.Fails = made.Fails
-actedBy v k l (action.Word a x) = made.Nothing
-actedBy v k l (action.Copies a t) = made.Nothing
-actedBy v k l (action.Claims a z) = made.Claims a z
-actedBy v k l action.Publishes = made.Publishes
-actedBy v k l (action.Stops y) = if logFull v l k then made.Refused LogFull else made.Stops y
-actedBy v k l (action.Ends a y) = if logFull v l k then made.Refused LogFull else made.Ends a y
+-- what an action leaves of the shared words, once it has claimed and its stores have landed
+abbrev pub leftBy : ℕ → Shared → Action → Shared
+leftBy v S d = landedAll v (claimedBy (claimsBy d) S) (storesBy v d)
+
+-- a store that ends no operation, landed: what it makes of the step. None of these stores the anchor
+unfoldable pub madeBy : Store → Made
+madeBy (StoreWord k t j x) = made.Nothing
+madeBy (StoreNote k) = made.Publishes
+madeBy (StorePut a) = made.Nothing
+madeBy (StoreOut a) = made.Nothing
+madeBy (StoreHead h) = made.Nothing
+madeBy (StoreTail t) = made.Nothing
+
+-- an action carried out on the queue q: what it makes of the step, and of the log
+unfoldable pub actedBy : ℕ → ℕ → List ℕ → Queue → Action → Made
+actedBy v k l q action.Nothing = made.Nothing
+actedBy v k l q action.Fails = made.Fails
+actedBy v k l q (action.Stores s) = madeBy s
+actedBy v k l q (action.Copies p t u) = made.Nothing
+actedBy v k l q (action.Claims a z) = made.Claims a z
+actedBy v k l q (action.Stops y) = if logFull v l k then made.Refused LogFull else made.Stops y
+actedBy v k l q (action.Ends s y) =
+    if logFull v l k then made.Refused LogFull else made.Ends (afterStore (q .anchor) s) y
 
 unfoldable pub logAfter : ℕ → ℕ → List ℕ → Action → List ℕ
 logAfter v k l action.Nothing = l
 logAfter v k l action.Fails = l
-logAfter v k l (action.Word a x) = l
-logAfter v k l (action.Copies a t) = l
+logAfter v k l (action.Stores s) = l
+logAfter v k l (action.Copies p t u) = l
 logAfter v k l (action.Claims a z) = l
-logAfter v k l action.Publishes = l
 logAfter v k l (action.Stops y) = logBy v k l y
-logAfter v k l (action.Ends a y) = logBy v k l y
-
--- an action can be carried out on a store of n words
-unfoldable pub Writable : ℕ → ℕ → Action → Type 0
-Writable v n action.Nothing = Unit {0}
-Writable v n action.Fails = Unit {0}
-Writable v n (action.Word a x) = a < n
-Writable v n (action.Copies a t) = a + (v + 1) ≤ n
-Writable v n (action.Claims a z) = a + z ≤ n
-Writable v n action.Publishes = Unit {0}
-Writable v n (action.Stops y) = Unit {0}
-Writable v n (action.Ends a y) = Unit {0}
+logAfter v k l (action.Ends s y) = logBy v k l y
 
 -- what a step did fits the state: the directory has a place for a claimed pair, a log's length can count the entry, and what
 -- ends an operation answers an entry

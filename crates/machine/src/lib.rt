@@ -1,7 +1,8 @@
 // A step past the test of the limits. `step_in` is handed what a step reads of the state, writes the store and the log, and answers
 // what the step leaves of the state: the line that its worker is at, and what it did beside. A caller that keeps its bench in a
 // local can so replace the one record that most steps change; `settled` has the other steps.
-// Uses `model`, `answers`, `stages`, `slots`, `lines`, `limits`, `memory` and `state`. It is used by `queues` and `listing`.
+// Uses `model`, `answers`, `stages`, `anchors`, `slots`, `lines`, `limits`, `memory` and `state`. It is used by `queues` and
+// `listing`.
 ghost use mathlib.Core.Path.{_≡_};
 ghost use mathlib.Core.Bool.{not};
 ghost use mathlib.Core.List.{List};
@@ -9,20 +10,23 @@ ghost use Prim.Native.Nat.{ℕ, _≤_, _<_};
 ghost use lib.ListN.{length};
 ghost use Rattle.model.specs.declared.Worker.{Worker};
 ghost use Rattle.model.specs.Tests.{_and_};
+ghost use Rattle.model.specs.Stores.{shared, landed};
 ghost use Rattle.model.specs.World.{lineAt, isSteal1};
 ghost use Rattle.model.specs.Calls.{lent, raised, logFull, stepIn};
 ghost use Rattle.slots.specs.Bounds.{Wide};
-ghost use Rattle.lines.specs.Actions.{withArray, storeBy};
+ghost use Rattle.lines.specs.Actions.{Lands, Doable};
 ghost use Rattle.machine.specs.Steps.{
   benchOf,
   moves,
+  withArray,
   benchAfter,
   answerAfter,
   movedBy,
   logBy,
+  leftBy,
+  madeBy,
   actedBy,
   logAfter,
-  Writable,
   Fits,
   Steppable,
 };
@@ -35,6 +39,7 @@ use model::Line;
 use model::Queue;
 use model::Refusal;
 use model::Region;
+use model::Store;
 use model::Worker;
 use state::Returned;
 
@@ -72,30 +77,60 @@ fn log_answer(words: u32, written: u32, answer: Answer, log: &mut [u32]) -> bool
     true
 }
 
-// Carries an action out.
-fn act(words: u32, written: u32, action: Action, store: &mut [u32], log: &mut [u32]) -> Made
+// Lands a store that ends no operation: a task's word is written, and the note of the current array is the state's.
+fn land(words: u32, queue: Queue, landing: Store, store: &mut [u32]) -> Made
     requires { ⌜ Wide words ⌝ }
-    requires { ⌜ Writable words (length (now store)) action ⌝ }
-    ensures { λ r. ⌜ r ≡ actedBy words written (now (log .entry)) action ⌝ }
-    ensures { λ r. ⌜ now (store .exit) ≡ storeBy words (now (store .entry)) action ⌝ }
+    requires { ⌜ Lands words queue (length (now store)) landing ⌝ }
+    ensures { λ r. ⌜ r ≡ madeBy landing ⌝ }
+    ensures { λ r. ⌜ now (store .exit) ≡ landed words (shared queue (now (store .entry))) landing .store ⌝ }
+{
+    match landing {
+        Store::StoreWord {
+            place,
+            slot,
+            word,
+            value,
+        } => {
+            let at = slots::address(words, queue, place as usize, slot, word);
+            store[at] = value;
+            Made::Nothing
+        }
+        Store::StoreNote { place: _ } => Made::Publishes,
+        Store::StorePut { value: _ } => Made::Nothing,
+        Store::StoreOut { value: _ } => Made::Nothing,
+        Store::StoreHead { value: _ } => Made::Nothing,
+        Store::StoreTail { value: _ } => Made::Nothing,
+    }
+}
+
+// Carries an action out: its stores land at once.
+fn act(
+    words: u32,
+    written: u32,
+    queue: Queue,
+    action: Action,
+    store: &mut [u32],
+    log: &mut [u32],
+) -> Made
+    requires { ⌜ Wide words ⌝ }
+    requires { ⌜ Doable words queue (length (now store)) action ⌝ }
+    ensures { λ r. ⌜ r ≡ actedBy words written (now (log .entry)) queue action ⌝ }
+    ensures { λ r. ⌜ now (store .exit) ≡ leftBy words (shared queue (now (store .entry))) action .store ⌝ }
     ensures { λ r. ⌜ now (log .exit) ≡ logAfter words written (now (log .entry)) action ⌝ }
 {
     match action {
         Action::Nothing => Made::Nothing,
         Action::Fails => Made::Fails,
-        Action::Word { place, value } => {
-            store[place] = value;
-            Made::Nothing
-        }
-        Action::Copies { place, task } => {
-            memory::write_task(store, place, words, task);
+        Action::Stores { store: landing } => land(words, queue, landing, store),
+        Action::Copies { place, slot, task } => {
+            let at = slots::address(words, queue, place as usize, slot, 0);
+            memory::write_task(store, at, words, task);
             Made::Nothing
         }
         Action::Claims { offset, length } => {
             memory::zero(store, offset as usize, length as usize);
             Made::Claims { offset, length }
         }
-        Action::Publishes => Made::Publishes,
         Action::Stops { answer } => {
             if log_answer(words, written, answer, log) {
                 Made::Stops { answer }
@@ -105,7 +140,11 @@ fn act(words: u32, written: u32, action: Action, store: &mut [u32], log: &mut [u
                 }
             }
         }
-        Action::Ends { anchor, answer } => {
+        Action::Ends {
+            store: landing,
+            answer,
+        } => {
+            let anchor = anchors::after_store(queue.anchor, landing);
             if log_answer(words, written, answer, log) {
                 Made::Ends { anchor, answer }
             } else {
@@ -172,7 +211,7 @@ pub fn step_in(
     }
     let bits = stages::tag_bits(queue.linked, width);
     let action = lines::decide(kind, bits, words, queue, store, worker, line);
-    let made = act(words, written, action, store, log);
+    let made = act(words, written, queue, action, store, log);
     Moved { line: to, made }
 }
 
@@ -213,7 +252,8 @@ fn beaten(bench: Bench, place: usize, line: Line) -> Bench
     next
 }
 
-// The state after a step that left the worker at `place` at `line`, and the answer.
+// The state after a step that left the worker at `place` at `line`, and the answer. Callers make a step that did nothing beside, or
+// whose compare failed, in place; these cases are here too, so that this is all of a step.
 pub fn settled(bench: Bench, place: usize, line: Line, made: Made) -> Returned
     requires { ⌜ place < 8 ⌝ }
     requires { ⌜ Fits (bench .words) (bench .queue) (bench .written) made ⌝ }

@@ -10,3 +10,4 @@ pub mod Directory
 pub mod Below
 pub mod Masks
 pub mod Attempts
+pub mod Landing

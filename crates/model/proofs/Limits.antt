@@ -113,9 +113,9 @@ growing κ a o = state κ 2 2 a two 1 2 9 0 (at o Idle Idle) 12 8
 abbrev last : ℕ → Line → World
 last n l = state Lifo 2 n (anchor 0 0 0) two 2 2 9 0 (replicate 7 resting ++ record { line = l } ∷ []) 12 8
 
--- links: of a linked queue or not, worker 0's and worker 1's
-abbrev holding : Kind → Bool → Anchor → Bool → Bool → Line → Line → World
-holding κ x a y z o t =
+-- links: of a linked queue or not, worker 0's, worker 1's and worker 7's
+abbrev marked : Kind → Bool → Anchor → Bool → Bool → Bool → Line → Line → World
+marked κ x a y z e o t =
     stateOf 1 κ 2 2
     (record {
       linked = x;
@@ -124,9 +124,12 @@ holding κ x a y z o t =
       published = 2;
       claimed = 2;
       initial = 2;
-      links = y ∷ z ∷ replicate 6 false;
+      links = y ∷ z ∷ replicate 5 false ++ e ∷ [];
     })
     9 0 (at o t Idle) 12 8
+
+abbrev holding : Kind → Bool → Anchor → Bool → Bool → Line → Line → World
+holding κ x a y z o t = marked κ x a y z false o t
 
 -- fresh's ranges, the directory, the log's length, the anchor, put numbers, workers outside the crew
 abbrev still : Kind → ℕ → ℕ → Anchor → ℕ → ℕ → World
@@ -349,6 +352,7 @@ foreign =
     ∷ holding Lifo true (anchor 0 0 0) true false (TakeTest (anchor 0 0 0)) Idle
     ∷ holding Lifo true (anchor 0 0 0) false true Idle Idle
     ∷ holding Lifo true (anchor 0 0 0) false true Idle StealRead
+    ∷ marked Lifo true (anchor 0 0 0) false false true Idle Idle
     ∷ holding Lifo false (anchor 0 2 0) false true Idle (StealTest (anchor 0 2 0))
     ∷ holding Lifo true (anchor 0 1 0) false true Idle (StealTest (anchor 0 2 0))
     ∷ holding Deque true (anchor 4 2 0) false true Idle (StealTest (anchor 5 2 0))

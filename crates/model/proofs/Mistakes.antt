@@ -19,7 +19,8 @@ use Rattle.model.specs.Tests.{if_then_else_, _and_, _or_}
 use Rattle.model.specs.Memory.{zeros, wordAt, setWord, offsetAt, lengthAt, sizeAt}
 use Rattle.model.specs.Tasks.{task, wordIn, withWord, gathered}
 use Rattle.model.specs.Figures.{anchor}
-use Rattle.model.specs.Lines.{anchored, lineStep}
+use Rattle.model.specs.Stores.{anchored, landedAll}
+use Rattle.model.specs.Lines.{lineStep}
 use Rattle.model.specs.World.{World}
 use Rattle.model.specs.Limits.{validOf}
 use Rattle.model.specs.Calls.{blank, noBench, lent, freshOf, beginOf, restarted, linkSet, stepOf, whoOf, begin, step}
@@ -90,7 +91,7 @@ mistakes =
     ∷ []
 
 pub mistakes-shut-out : map (λ r. show (r .run)) mistakes ≡ map (λ r. r .shown) mistakes
-unfolding show played listingFrom respond stepsOf countsOf someBelow countBelow sumBelow freshOf beginOf stepOf validOf lineStep zeros wordAt setWord offsetAt lengthAt sizeAt if_then_else_ _and_ _or_ gathered wordIn withWord
+unfolding show played listingFrom respond stepsOf countsOf someBelow countBelow sumBelow freshOf beginOf stepOf validOf lineStep landedAll zeros wordAt setWord offsetAt lengthAt sizeAt if_then_else_ _and_ _or_ gathered wordIn withWord
 mistakes-shut-out = refl
 
 -- a queue, linked or not, with this anchor

@@ -1,4 +1,4 @@
--- Document 01's runs P1 to P9: one table, one theorem.
+-- Document 01's runs P1 to P9, with runs of requests 5 to 7 behind them: one table, one theorem.
 use mathlib.Core.Path.{_≡_, refl}
 use mathlib.Core.List.{List, [], _∷_, _++_, map}
 use Prim.Native.Nat.{ℕ}
@@ -11,6 +11,7 @@ use Rattle.model.specs.declared.Command.the-variants.{Open, BeginPut, Be
 use Rattle.model.specs.Tests.{if_then_else_, _and_, _or_}
 use Rattle.model.specs.Memory.{zeros, wordAt, setWord, offsetAt, lengthAt, sizeAt}
 use Rattle.model.specs.Tasks.{task, payload, wordIn, withWord, gathered}
+use Rattle.model.specs.Stores.{landedAll}
 use Rattle.model.specs.Lines.{lineStep}
 use Rattle.model.specs.Limits.{validOf}
 use Rattle.model.specs.Calls.{freshOf, beginOf, stepOf, dropLinkOf, whoOf, begin, step, dropLink}
@@ -93,6 +94,19 @@ table =
     ∷ Refused NoLink ∷ Refused NoSuchWorker ∷ replicate 6 GoesOn ++ Refused NoLink ∷ replicate 6 GoesOn ++ HandedOut 1 (task 1 (one 7)) ∷ Refused NoLink ∷ []))
     -- EMPTY ends its attempt, and with it the link
     ∷ (calls 4 1 1 2 1 2 4 (begin 1 Steal ∷ step 1 ∷ step 1 ∷ dropLink 1 ∷ []) shows answers (Accepted ∷ Accepted ∷ GoesOn ∷ Empty 1 ∷ Refused NoLink ∷ []))
+    -- growth writes no anchor: the link holds, and the thief hands out what it read in the old array; nor does FULL
+    ∷ (lines (queue 4 1 1 2 6 ∷ put 7 ∷ Steps 0 5 ∷ BeginSteal 1 ∷ Steps 1 5 ∷ put 8 ∷ Steps 0 6 ∷ Steps 1 1 ∷ End ∷ [])
+    shows prints (D 1 ∷ handed 1 1 7 ∷ T 1 1 1 0 0 0 ∷ []))
+    ∷ (lines (queue 4 1 1 2 2 ∷ put 7 ∷ Steps 0 5 ∷ BeginSteal 1 ∷ Steps 1 5 ∷ put 8 ∷ Steps 0 3 ∷ Steps 1 1 ∷ End ∷ [])
+    shows prints (D 1 ∷ F 2 ∷ handed 1 1 7 ∷ T 1 1 1 0 0 0 ∷ []))
+    -- a thief's link that fails, and its store that then fails, leave the other thief's link held
+    ∷ (calls 4 1 1 3 1 2 8
+    (begin 0 (Put (one 7)) ∷ replicate 5 (step 0) ++ begin 1 Steal ∷ begin 2 Steal ∷ replicate 5 (step 1) ++ replicate 5 (step 2) ++ dropLink 1 ∷ step 1 ∷ step 2 ∷ [])
+    shows answers
+    (Accepted ∷ Numbered 1 ∷ replicate 4 GoesOn ++ Finished 0 (task 1 (one 7)) ∷ Accepted ∷ Accepted ∷ replicate 10 GoesOn ++ Accepted ∷ GoesOn ∷ HandedOut 2 (task 1 (one 7)) ∷ []))
+    -- an EMPTY that is refused 11 keeps its link
+    ∷ (calls 4 1 1 2 1 2 3 (begin 1 Steal ∷ step 1 ∷ step 1 ∷ dropLink 1 ∷ dropLink 1 ∷ []) shows answers
+    (Accepted ∷ Accepted ∷ GoesOn ∷ Refused LogFull ∷ Accepted ∷ Refused NoLink ∷ []))
     -- kinds are 1 to 5; a linked kind's tag width is checked
     ∷ (lines (queue 0 1 1 1 2 ∷ queue 6 1 1 1 2 ∷ queue 4 0 1 1 2 ∷ queue 5 16 1 1 2 ∷ End ∷ []) shows prints (R 1 ∷ R 1 ∷ R 2 ∷ T 0 0 0 0 0 0 ∷ []))
     -- who: of two thieves that go for one task the second is beaten; 13 before a queue, 6 outside the crew
@@ -108,5 +122,5 @@ table =
     ∷ []
 
 pub p1-to-p9 : map (λ r. show (r .run)) table ≡ map (λ r. r .shown) table
-unfolding show played listingFrom respond stepsOf countsOf someBelow countBelow sumBelow freshOf beginOf stepOf dropLinkOf whoOf validOf lineStep zeros wordAt setWord offsetAt lengthAt sizeAt if_then_else_ _and_ _or_ gathered wordIn withWord
+unfolding show played listingFrom respond stepsOf countsOf someBelow countBelow sumBelow freshOf beginOf stepOf dropLinkOf whoOf validOf lineStep landedAll zeros wordAt setWord offsetAt lengthAt sizeAt if_then_else_ _and_ _or_ gathered wordIn withWord
 p1-to-p9 = refl

@@ -38,8 +38,9 @@ use Rattle.model.specs.Tasks.{task, firstWords}
 use Rattle.model.specs.Memory.{zeros, nowhere}
 use Rattle.model.specs.Answers.{ends, logged, entryLength}
 use Rattle.model.specs.Figures.{anchor}
-use Rattle.model.specs.Lines.{Effect, lineStep, holdsLink, failsCompare}
-use Rattle.model.specs.World.{World, Outcome, refuse, requeued, tagBits, resting, lineAt, isIdle, isSteal1, isPast1}
+use Rattle.model.specs.Stores.{Shared}
+use Rattle.model.specs.Lines.{Effect, leftOf, lineStep, holdsLink, failsCompare}
+use Rattle.model.specs.World.{World, Outcome, refuse, requeued, memory, tagBits, resting, lineAt, isIdle, isSteal1, isPast1}
 use Rattle.model.specs.Limits.{isSize, widthOk, crewOk, wordsOk, validOf}
 
 -- FRESH. A bench with no operation open, an array of c tasks of v payload words, and all counters 0
@@ -195,7 +196,11 @@ linkSet q i x =
 abbrev pub relinked : Queue → ℕ → Line → Line → Queue
 relinked q i l l' = linkSet q i (isPast1 l' and ((q .linked and isSteal1 l) or holdsLink q i))
 
--- worker i's line left E
+-- what a line that does E leaves of the shared words
+abbrev pub stored : World → Effect → Shared
+stored W E = leftOf (W .bench .words) (memory W) E
+
+-- worker i's line does E
 abbrev pub stepped : World → ℕ → Effect → Outcome
 stepped W i E =
     record {
@@ -207,7 +212,7 @@ stepped W i E =
                   width = W .bench .width;
                   words = W .bench .words;
                   crew = W .bench .crew;
-                  queue = relinked (E .queue) i (lineAt (W .bench .workers) i) (E .line);
+                  queue = relinked (stored W E .queue) i (lineAt (W .bench .workers) i) (E .line);
                   used = W .bench .used;
                   restarts =
                       restarted (W .bench .kind) (W .bench .queue) i (lineAt (W .bench .workers) i)
@@ -215,7 +220,7 @@ stepped W i E =
                   written = if ends (E .answer) then W .bench .written + entryLength (W .bench .words) else W .bench .written;
                   workers = set (W .bench .workers) i (record { line = E .line });
                 };
-            store = E .store;
+            store = stored W E .store;
             log = logged (W .bench .words) (W .log) (W .bench .written) (E .answer);
           };
       answer = E .answer;

@@ -1,4 +1,4 @@
--- What differs from figure to figure: slots, indices, tests, and the anchor that a last line leaves. In each,
+-- What differs from figure to figure: slots, indices, tests, and the store of a last line. In each,
 -- `a` is the anchor now and `r` the anchor as a worker read it.
 use mathlib.Core.Bool.{Bool}
 use Prim.Native.Nat.{ℕ, _+_, _-_, _^_, _%_}
@@ -7,6 +7,8 @@ use Rattle.model.specs.declared.Kind.{Kind}
 use Rattle.model.specs.declared.Kind.the-variants.{Lifo, Fifo, Deque}
 use Rattle.model.specs.declared.Task.{Task}
 use Rattle.model.specs.declared.Anchor.{Anchor}
+use Rattle.model.specs.declared.Store.{Store}
+use Rattle.model.specs.declared.Store.the-variants.{StorePut, StoreOut, StoreHead, StoreTail}
 use Rattle.model.specs.declared.Line.{Line}
 use Rattle.model.specs.declared.Line.the-variants.{
   PutTail,
@@ -62,21 +64,21 @@ isEmpty Lifo r = eqb (r .count) 0
 isEmpty Fifo r = eqb (r .head) (r .count)
 isEmpty Deque r = eqb (r .count) 0
 
--- the anchor after a put's last line, a take's, and a compare that finds it as read (e is figure 3's h2)
-abbrev pub afterPut : Kind → ℕ → Anchor → Anchor → Anchor
-afterPut Lifo w a r = anchor (r .head) (r .count + 1) (nextTag w (r .tag))
-afterPut Fifo w a r = anchor (a .head) (r .count + 1) (a .tag)
-afterPut Deque w a r = anchor (r .head) (r .count + 1) (nextTag w (r .tag))
+-- the store of a put's last line, a take's, and a compare that succeeds (e is figure 3's h2); FIFO writes the tail alone, or the head
+abbrev pub putStore : Kind → ℕ → Anchor → Store
+putStore Lifo w r = StorePut (anchor (r .head) (r .count + 1) (nextTag w (r .tag)))
+putStore Fifo w r = StoreTail (r .count + 1)
+putStore Deque w r = StorePut (anchor (r .head) (r .count + 1) (nextTag w (r .tag)))
 
-abbrev pub afterTake : Kind → Anchor → Anchor → Anchor
-afterTake Lifo a r = anchor (r .head) (r .count - 1) (r .tag)
-afterTake Fifo a r = anchor (r .head + 1) (a .count) (a .tag)
-afterTake Deque a r = anchor (r .head) (r .count - 1) (r .tag)
+abbrev pub takeStore : Kind → Anchor → Store
+takeStore Lifo r = StoreOut (anchor (r .head) (r .count - 1) (r .tag))
+takeStore Fifo r = StoreHead (r .head + 1)
+takeStore Deque r = StoreOut (anchor (r .head) (r .count - 1) (r .tag))
 
-abbrev pub afterSteal : Kind → Anchor → Anchor → ℕ → Anchor
-afterSteal Lifo a r e = anchor (r .head) (r .count - 1) (r .tag)
-afterSteal Fifo a r e = anchor (r .head + 1) (a .count) (a .tag)
-afterSteal Deque a r e = anchor e (r .count - 1) (r .tag)
+abbrev pub stealStore : Kind → Anchor → ℕ → Store
+stealStore Lifo r e = StoreOut (anchor (r .head) (r .count - 1) (r .tag))
+stealStore Fifo r e = StoreHead (r .head + 1)
+stealStore Deque r e = StoreOut (anchor e (r .count - 1) (r .tag))
 
 -- the compare finds the anchor as it was read
 abbrev pub isSame : Kind → Anchor → Anchor → Bool

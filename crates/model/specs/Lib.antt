@@ -3,6 +3,7 @@ pub mod Tasks
 pub mod Memory
 pub mod Answers
 pub mod Figures
+pub mod Stores
 pub mod Lines
 pub mod World
 pub mod Limits

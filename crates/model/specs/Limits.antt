@@ -41,6 +41,7 @@ use Rattle.model.specs.Tests.{if_then_else_, _and_, _or_}
 use Rattle.model.specs.Tasks.{noneFrom}
 use Rattle.model.specs.Memory.{offsetAt, lengthAt, sizeAt}
 use Rattle.model.specs.Figures.{anchor, isSame}
+use Rattle.model.specs.Stores.{taken}
 use Rattle.model.specs.Lines.{size}
 use Rattle.model.specs.World.{World, tagBits, lineAt, isIdle, isPast1, isExpanding, isOwners, isThiefs}
 
@@ -72,10 +73,6 @@ tidy v l (suc (suc k)) =
     tidy v l (suc k)
     and eqb (offsetAt l (suc k)) (offsetAt l k + lengthAt l k)
     and eqb (lengthAt l (suc k)) (2 * lengthAt l k) and leb (2 * sizeAt v l k) 1024
-
--- the words that the directory takes, claimed ones included
-abbrev pub taken : Queue → ℕ
-taken q = offsetAt (q .arrays) (q .claimed - 1) + lengthAt (q .arrays) (q .claimed - 1)
 
 -- it fits the store, an array is claimed and unpublished exactly while the owner, at line o, is at X2 to X4, and the size that is
 -- kept is the first array's

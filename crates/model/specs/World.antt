@@ -36,6 +36,7 @@ use Rattle.model.specs.declared.Refusal.{Refusal}
 use Rattle.model.specs.declared.Answer.{Answer}
 use Rattle.model.specs.declared.Answer.the-variants.{Refused}
 use Rattle.model.specs.Tests.{if_then_else_, _or_}
+use Rattle.model.specs.Stores.{Shared, shared}
 
 pub record World : Type 0 where
   pub bench : Bench
@@ -69,6 +70,10 @@ requeued W q =
       store = W .store;
       log = W .log;
     }
+
+-- its shared words
+abbrev pub memory : World → Shared
+memory W = shared (W .bench .queue) (W .store)
 
 -- the tag's bits: kinds 4 and 5 have no tag, and theirs stays 0
 abbrev pub tagBits : Bench → ℕ

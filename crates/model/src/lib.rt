@@ -25,12 +25,38 @@ pub struct Task {
 }
 
 // What line 1 reads whole and a compare (the field's compare-and-swap) compares. Double-ended: (h, s, g). LIFO: (t, g) is `count`
-// and `tag`, `head` is 0. FIFO: head, and the tail in `count`; `tag` is 0. The tag is there against ABA: each put raises it, so
+// and `tag`, `head` is 0. FIFO: head, and the tail in `count`; `tag` is 0, as in a linked queue. The tag is there against ABA: each put raises it, so
 // that a compare sees that puts have finished since line 1, unless the tag has come round.
 pub struct Anchor {
     pub head: u32,
     pub count: u32,
     pub tag: u32,
+}
+
+// One store to a shared place: a task's word (in the array at `place` of the directory), the note of the current array (its place in
+// the directory), the anchor by a put, the anchor by a hand-out, and of FIFO the head (by a hand-out) or the tail (by a put).
+pub enum Store {
+    StoreWord {
+        place: u32,
+        slot: u32,
+        word: u32,
+        value: u32,
+    },
+    StoreNote {
+        place: u32,
+    },
+    StorePut {
+        value: Anchor,
+    },
+    StoreOut {
+        value: Anchor,
+    },
+    StoreHead {
+        value: u32,
+    },
+    StoreTail {
+        value: u32,
+    },
 }
 
 // The line a worker is at, with the values read so far, a thread's own variables; `read` is the anchor as it read it. Put, take
@@ -177,8 +203,8 @@ pub struct Bench {
     pub workers: [Worker; 8],
 }
 
-// What fresh is told: the kind's number (1 LIFO, 2 FIFO, 3 double-ended), the tag's width in bits, the size of the first array in
-// tasks, how many workers there are, and how many payload words a task has. It may be told any numbers.
+// What fresh is told: the kind's number (1 LIFO, 2 FIFO, 3 double-ended; 4 and 5 are 1 and 3, linked), the tag's width in bits, the
+// size of the first array in tasks, how many workers there are, and how many payload words a task has. It may be told any numbers.
 pub struct Setup {
     pub kind: u32,
     pub width: u32,

@@ -17,9 +17,10 @@ use Rattle.model.specs.Tests.{if_then_else_, _and_}
 use Rattle.model.specs.Memory.{setAll}
 use Rattle.model.specs.Answers.{entryOf, ends, entryLength, entryWords}
 use Rattle.model.specs.World.{World, Outcome}
-use Rattle.model.specs.Calls.{beginAnswer, logFull, frontOf, kindOf, linkedOf, Call, callOf, nextEffect}
+use Rattle.model.specs.Calls.{beginAnswer, logFull, frontOf, kindOf, linkedOf, Call, callOf}
 use Rattle.model.specs.Run.{played, after}
 use Rattle.model.proofs.Tests.{or-false}
+use Rattle.theorems.proofs.Effects.{nextLeft}
 use Rattle.theorems.specs.Demand3.{FromFresh}
 use Rattle.order.specs.Order.{entries, logFront, LogIsAnswers}
 use Rattle.theorems.proofs.Cases.{call-cases}
@@ -82,7 +83,7 @@ call-adds : (W : World) → W .bench .words ≤ 4 → W .bench .written ≤ leng
 call-adds W g h c =
     call-cases (Adds W) W (λ r l. (h, adds-none (W .bench .words) front (Refused r) refl))
     (λ i op B. (h, adds-none (W .bench .words) front (beginAnswer op (W .bench .used)) (begin-ends-none op (W .bench .used))))
-    (λ i M. step-adds (W .bench .words) (W .log) (W .bench .written) (nextEffect W i .answer) (ends (nextEffect W i .answer)) g h (M .room)) (λ i. (h, adds-none (W .bench .words) front Accepted refl)) c
+    (λ i M. step-adds (W .bench .words) (W .log) (W .bench .written) (nextLeft W i .answer) (ends (nextLeft W i .answer)) g h (M .room)) (λ i. (h, adds-none (W .bench .words) front Accepted refl)) c
   where
     front : List ℕ
     front = take (W .bench .written) (W .log)

@@ -11,6 +11,7 @@ use Rattle.model.specs.declared.Kind.the-variants.{Lifo, Deque}
 use Rattle.model.specs.declared.Anchor.{Anchor}
 use Rattle.model.specs.declared.Payload.{Payload}
 use Rattle.model.specs.declared.Task.{Task}
+use Rattle.model.specs.declared.Store.the-variants.{StoreOut}
 use Rattle.model.specs.declared.Line.{Line}
 use Rattle.model.specs.declared.Line.the-variants.{Idle, PutFinish, TakeFinish, StealRead, StealCompare}
 use Rattle.model.specs.declared.Operation.the-variants.{Put, Take, Steal}
@@ -18,7 +19,8 @@ use Rattle.model.specs.declared.Answer.{Answer}
 use Rattle.model.specs.declared.Answer.the-variants.{Accepted, Numbered, GoesOn, Finished, HandedOut}
 use Rattle.model.specs.declared.Refusal.the-variants.{NumbersSpent, LogFull, ForeignState}
 use Rattle.model.specs.Tests.{if_then_else_, _and_, _or_}
-use Rattle.model.specs.Lines.{Effect, eff, anchored, lineStep}
+use Rattle.model.specs.Stores.{landedAll}
+use Rattle.model.specs.Lines.{Effect, eff, goes, lineStep}
 use Rattle.model.specs.World.{World, Outcome, refuse, tagBits, resting, lineAt}
 use Rattle.model.specs.Calls.{logFull, begun, beginIn, beginOf, raised, stepped, noRoom, stepIn, stepOf, Call, begin, step, dropLink, callOf}
 use Rattle.model.specs.Tasks.{payload, task, wordsIn, wordIn, withWord, gathered}
@@ -212,7 +214,7 @@ module _ (w n g wr : ℕ) (θ : Line) (x : ℕ) (rest lg : List ℕ) where
   putLeads κ v y b = rawAfter (putBegun κ v y b .world) (ownSteps v)
 
   put-runs′ : (κ : Tagged) (v : Wide) (y : ℕ) → ltb n 65535 ≡ true → Room v → PutRuns κ v y (n + 1)
-  unfolding lineStep wordAt setWord offsetAt lengthAt sizeAt gathered wordIn withWord if_then_else_ _and_ _or_
+  unfolding lineStep landedAll wordAt setWord offsetAt lengthAt sizeAt gathered wordIn withWord if_then_else_ _and_ _or_
   put-runs′ lifo one y u r = (ap (putLeads lifo one y) u ∙ ap (λ (b : Bool). putEnd lifo one b .world) r, ap (putSays lifo one y) u ∙ ap (putEnds lifo one) r)
   put-runs′ lifo two y u r = (ap (putLeads lifo two y) u ∙ ap (λ (b : Bool). putEnd lifo two b .world) r, ap (putSays lifo two y) u ∙ ap (putEnds lifo two) r)
   put-runs′ lifo three y u r = (ap (putLeads lifo three y) u ∙ ap (λ (b : Bool). putEnd lifo three b .world) r, ap (putSays lifo three y) u ∙ ap (putEnds lifo three) r)
@@ -239,7 +241,7 @@ module _ (w n g wr : ℕ) (θ : Line) (x : ℕ) (rest lg : List ℕ) where
       → Runs (full κ v Idle θ) (taking v)
       (here κ v w (anchor 0 0 g) n (wr + entryLength (many v)) Idle θ (holding v x 7 rest) (writeEntry v lg wr (entry 2 0 (short x 7))))
       (takeAnswers v x)
-  unfolding lineStep wordAt setWord offsetAt lengthAt sizeAt gathered wordIn withWord if_then_else_ _and_ _or_
+  unfolding lineStep landedAll wordAt setWord offsetAt lengthAt sizeAt gathered wordIn withWord if_then_else_ _and_ _or_
   take-runs lifo one r = (ap (λ (b : Bool). takeEnd lifo one b .world) r, ap (takeEnds lifo one) r)
   take-runs lifo two r = (ap (λ (b : Bool). takeEnd lifo two b .world) r, ap (takeEnds lifo two) r)
   take-runs lifo three r = (ap (λ (b : Bool). takeEnd lifo three b .world) r, ap (takeEnds lifo three) r)
@@ -251,7 +253,7 @@ module _ (w n g wr : ℕ) (θ : Line) (x : ℕ) (rest lg : List ℕ) where
 
   -- the thief's lines before its compare; none of them but the first is a line 1
   pub steal-runs : (κ : Tagged) (v : Wide) → Runs (full κ v Idle Idle) (stealing κ v) (full κ v Idle (StealCompare (anchor 0 1 g) (h2 κ) (short x 7))) (stealAnswers κ v)
-  unfolding lineStep wordAt setWord offsetAt lengthAt sizeAt gathered wordIn withWord if_then_else_ _and_ _or_
+  unfolding lineStep landedAll wordAt setWord offsetAt lengthAt sizeAt gathered wordIn withWord if_then_else_ _and_ _or_
   steal-runs lifo one = (refl, refl)
   steal-runs lifo two = (refl, refl)
   steal-runs lifo three = (refl, refl)
@@ -262,7 +264,7 @@ module _ (w n g wr : ℕ) (θ : Line) (x : ℕ) (rest lg : List ℕ) where
   steal-runs deque four = (refl, refl)
 
   pub steal-past : (κ : Tagged) (v : Wide) → past (waits κ v) (rawAfter (full κ v Idle Idle) (begin 1 Steal ∷ step 1 ∷ [])) ≡ true
-  unfolding lineStep wordAt setWord offsetAt lengthAt sizeAt gathered wordIn withWord if_then_else_ _and_ _or_
+  unfolding lineStep landedAll wordAt setWord offsetAt lengthAt sizeAt gathered wordIn withWord if_then_else_ _and_ _or_
   steal-past lifo one = refl
   steal-past lifo two = refl
   steal-past lifo three = refl
@@ -277,10 +279,10 @@ module _ (w n g wr : ℕ) (θ : Line) (x : ℕ) (rest lg : List ℕ) where
   comparing κ v g′ t = full κ v Idle (StealCompare (anchor 0 1 g′) (h2 κ) t)
 
   abbrev found : Tagged → Wide → ℕ → Task → Effect
-  found κ v g′ t = eff (anchored (full κ v Idle Idle .bench .queue) (anchor (h2 κ) 0 g′)) (holding v x 7 rest) Idle (HandedOut 1 t)
+  found κ v g′ t = eff (StoreOut (anchor (h2 κ) 0 g′) ∷ []) Idle (HandedOut 1 t)
 
   abbrev compared : Tagged → Wide → ℕ → Task → Bool → Effect
-  compared κ v g′ t b = if b then found κ v g′ t else eff (full κ v Idle Idle .bench .queue) (holding v x 7 rest) StealRead GoesOn
+  compared κ v g′ t b = if b then found κ v g′ t else goes StealRead
 
   -- what the step leaves, b if it finds the anchor as read
   abbrev won : Tagged → Wide → ℕ → Task → Bool → Outcome
@@ -318,6 +320,6 @@ module _ (w n g wr : ℕ) (θ : Line) (x : ℕ) (rest lg : List ℕ) where
   pub win-run : (κ : Tagged) (v : Wide) (g′ : ℕ) (t : Task) → eqb g g′ ≡ true → Room v
       → rawOf (full κ v Idle (StealCompare (anchor 0 1 g′) (h2 κ) t)) (step 1)
       ≡ record { world = here κ v w (anchor (h2 κ) 0 g′) n (wr + entryLength (many v)) Idle Idle (holding v x 7 rest) (writeEntry v lg wr (entry 2 1 t)); answer = HandedOut 1 t }
-  unfolding lineStep if_then_else_ _and_ _or_
+  unfolding lineStep landedAll if_then_else_ _and_ _or_
   win-run lifo v g′ t e r = ap (won lifo v g′ t) e ∙ ap (wonEnd lifo v g′ t) r
   win-run deque v g′ t e r = ap (won deque v g′ t) e ∙ ap (wonEnd deque v g′ t) r

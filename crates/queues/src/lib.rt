@@ -111,7 +111,7 @@ impl Bench {
         );
         let to = moved.line;
         let made = moved.made;
-        // Most steps change their worker's record alone, a compare that fails its count beside it: they are replaced in place.
+        // Most steps change only their worker's record, and a compare that fails also its count: these are made in place.
         let Made::Nothing = made else {
             if let Made::Fails = made {
                 let count = stages::one_more(next.restarts[i]);

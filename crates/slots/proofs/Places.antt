@@ -7,7 +7,7 @@ use Rattle.model.specs.declared.Kind.{Kind}
 use Rattle.model.specs.declared.Queue.{Queue}
 use Rattle.model.specs.Memory.{offsetAt, sizeAt}
 use Rattle.model.specs.Figures.{slot}
-use Rattle.slots.specs.Bounds.{Wide, Slotted, Inside}
+use Rattle.slots.specs.Bounds.{Slotted, Inside}
 
 -- z tasks have no more words than 1,024 of four payload words
 pub most-words : (v z : ℕ) → v ≤ 4 → z ≤ 1024 → (v + 1) * z ≤ 5120
@@ -16,13 +16,13 @@ most-words v z h l = omega (arith, up (v + 1))
     up : (n : ℕ) → n * z ≤ n * 1024
     up n = mul-le-mul-left n l
 
--- the tasks before an index's slot s, by the size y that the code works out
-pub place-few : {s y : ℕ} (κ : Kind) (v : ℕ) (q : Queue) (k i : ℕ) → Wide v → Slotted κ v q k i
-    → y ≡ q .initial * 2 ^ k → s ≡ slot κ y i → (v + 1) * s ≤ 5120
-place-few {s} κ v q k i w S e f =
-    let z = sizeAt v (q .arrays) k in
-    let same : s ≡ slot κ z i = f ∙ ap (λ (x : ℕ). slot κ x i) (e ∙ sym (S .0 .0)) in
-    most-words v s (w .1) (omega (arith, same, S .2, S .0 .1))
+-- the slot s of an index that has one
+pub slot-is : {s : ℕ} (κ : Kind) (v : ℕ) (q : Queue) (k i : ℕ) → Slotted κ v q k i → s ≡ slot κ (q .initial * 2 ^ k) i
+    → s ≡ slot κ (sizeAt v (q .arrays) k) i
+slot-is κ v q k i S f = f ∙ sym (ap (λ (x : ℕ). slot κ x i) (S .0 .0))
+
+pub slot-few : {s : ℕ} (κ : Kind) (v : ℕ) (q : Queue) (k i : ℕ) → Slotted κ v q k i → s ≡ slot κ (q .initial * 2 ^ k) i → s ≤ 1024
+slot-few κ v q k i S f = omega (arith, slot-is κ v q k i S f, S .2, S .0 .1)
 
 -- a word of slot s lies before the end of an array of z tasks
 in-array : (v s z b n j : ℕ) → s < z → j ≤ v → b + (v + 1) * z ≤ n → b + (v + 1) * s + j < n
@@ -36,11 +36,7 @@ pub read-in : (κ : Kind) (v : ℕ) (q : Queue) (n k i j : ℕ) → Slotted κ v
 read-in κ v q n k i j S I h =
     in-array v (slot κ (sizeAt v (q .arrays) k) i) (sizeAt v (q .arrays) k) (offsetAt (q .arrays) k) n j (S .2) h I
 
--- word j at place a; all words from place a on
+-- word j at place a
 pub word-in : {a : ℕ} (κ : Kind) (v : ℕ) (q : Queue) (n k i j : ℕ) → Slotted κ v q k i → Inside v q n k → j ≤ v
     → a ≡ offsetAt (q .arrays) k + (v + 1) * slot κ (sizeAt v (q .arrays) k) i + j → a < n
 word-in κ v q n k i j S I h e = omega (arith, read-in κ v q n k i j S I h, e)
-
-pub all-in : {a : ℕ} (κ : Kind) (v : ℕ) (q : Queue) (n k i : ℕ) → Slotted κ v q k i → Inside v q n k
-    → a ≡ offsetAt (q .arrays) k + (v + 1) * slot κ (sizeAt v (q .arrays) k) i + 0 → a + (v + 1) ≤ n
-all-in κ v q n k i S I e = omega (arith, read-in κ v q n k i v S I (omega arith), e)

@@ -1,6 +1,6 @@
 // Where an index lies in the store: which index a put, a take and a steal name, which slot of an array it has, which words of
 // the store that slot is, and whether they leave room for a larger array. `read` is the anchor as a worker read it at line 1.
-// Uses `model` and `tasks`. It is used by `lines`, and by contracts of `machine`.
+// Uses `model` and `tasks`. It is used by `lines` and `machine`.
 ghost use mathlib.Core.Path.{_≡_};
 ghost use mathlib.Core.Bool.{true};
 ghost use Prim.Native.Nat.{ℕ, _+_, _-_, _*_, _^_, _≤_, _<_};
@@ -96,21 +96,42 @@ pub fn twice_as_long(queue: Queue, at: usize) -> u32
     2 * region.length
 }
 
-// Where word `word` of index `index` lies in that array: word 0 is the put number, those behind it the payload.
-pub fn place(kind: Kind, words: u32, queue: Queue, at: usize, index: u32, word: u32) -> usize
+// The slot of index `index` in that array.
+pub fn slot_at(kind: Kind, queue: Queue, at: usize, index: u32) -> u32
+    requires { ⌜ at < 11 ⌝ }
+    requires { ⌜ queue .initial * 2 ^ at ≤ 1024 ⌝ }
+    requires { ⌜ Power (queue .initial * 2 ^ at) ⌝ }
+    ensures { λ r. ⌜ r ≡ slot kind (queue .initial * 2 ^ at) index ⌝ }
+{
+    slot_of(kind, size_at(queue, at), index)
+}
+
+// Where word `word` of a slot lies in the store: word 0 is the put number, those behind it the payload.
+pub fn address(words: u32, queue: Queue, at: usize, slot: u32, word: u32) -> usize
+    requires { ⌜ Wide words ⌝ }
+    requires { ⌜ at < 11 ⌝ }
+    requires { ⌜ slot ≤ 1024 ⌝ }
+    requires { ⌜ word ≤ words ⌝ }
+    ensures { λ r. ⌜ r ≡ offsetAt (queue .arrays) at + (words + 1) * slot + word ⌝ }
+{
+    let region = queue.arrays[at];
+    let first = region.offset as usize;
+    let each = words as usize + 1;
+    let task = slot as usize;
+    let before = each * task;
+    first + before + word as usize
+}
+
+// Where word `word` of index `index` lies.
+fn place(kind: Kind, words: u32, queue: Queue, at: usize, index: u32, word: u32) -> usize
     requires { ⌜ Wide words ⌝ }
     requires { ⌜ at < 11 ⌝ }
     requires { ⌜ Slotted kind words queue at index ⌝ }
     requires { ⌜ word ≤ words ⌝ }
     ensures { λ r. ⌜ r ≡ offsetAt (queue .arrays) at + (words + 1) * slot kind (sizeAt words (queue .arrays) at) index + word ⌝ }
 {
-    let region = queue.arrays[at];
-    let s = slot_of(kind, size_at(queue, at), index);
-    let first = region.offset as usize;
-    let each = words as usize + 1;
-    let task = s as usize;
-    let before = each * task;
-    first + before + word as usize
+    let s = slot_at(kind, queue, at, index);
+    address(words, queue, at, s, word)
 }
 
 // That word, read.
@@ -159,17 +180,16 @@ pub fn read_task(kind: Kind, words: u32, queue: Queue, at: usize, index: u32, st
     tasks::task_of(number, first, second, third, fourth)
 }
 
-// Put 3a, 3b .. (FIFO 4a, 4b ..): where the task's word is written.
-pub fn put_place(kind: Kind, words: u32, queue: Queue, at: usize, read: Anchor, word: u32) -> usize
-    requires { ⌜ Wide words ⌝ }
+// Put 3a, 3b .. (FIFO 4a, 4b ..): the slot whose words are written, in the array at place `at`.
+pub fn put_slot(kind: Kind, queue: Queue, at: usize, read: Anchor) -> u32
     requires { ⌜ at < 11 ⌝ }
     requires { ⌜ (read .head ≤ 65535) × (read .count ≤ 65535) ⌝ }
-    requires { ⌜ Slotted kind words queue at (putIndex kind read) ⌝ }
-    requires { ⌜ word ≤ words ⌝ }
-    ensures { λ r. ⌜ r ≡ offsetAt (queue .arrays) at + (words + 1) * slot kind (sizeAt words (queue .arrays) at) (putIndex kind read) + word ⌝ }
+    requires { ⌜ queue .initial * 2 ^ at ≤ 1024 ⌝ }
+    requires { ⌜ Power (queue .initial * 2 ^ at) ⌝ }
+    ensures { λ r. ⌜ r ≡ slot kind (queue .initial * 2 ^ at) (putIndex kind read) ⌝ }
 {
     let index = put_index(kind, read);
-    place(kind, words, queue, at, index, word)
+    slot_at(kind, queue, at, index)
 }
 
 // Take 3a, 3b .. (FIFO 4a, 4b ..): the task's word, in the array at place `at`.
@@ -222,6 +242,7 @@ pub fn has_room(queue: Queue, store: &[u32]) -> bool
     requires { ⌜ (0 < queue .published) × (queue .published ≤ 11) ⌝ }
     requires { ⌜ queue .initial * 2 ^ (queue .published - 1) ≤ 1024 ⌝ }
     requires { ⌜ Small queue (queue .published - 1) ⌝ }
+    requires { ⌜ queue .claimed ≡ queue .published ⌝ }
     ensures { λ r. ⌜ ((v : ℕ) → Sized v queue (queue .published - 1) → r ≡ fits v queue (now (store .entry))) ⌝ }
 {
     let here = queue.published - 1;

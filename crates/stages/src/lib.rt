@@ -1,4 +1,4 @@
-// Where a worker stands in its operation, what a thief has read, the tag's bits, and the counter of restarts.
+// Where a worker stands in its operation, what a thief has read, the tag's bits, and one restart more.
 // Uses `model`. It is used by `limits`, `opening`, `machine`, `queues` and `listing`.
 ghost use mathlib.Core.Path.{_≡_};
 ghost use Rattle.model.specs.Tests.{if_then_else_};
@@ -100,7 +100,7 @@ pub fn tag_bits(linked: bool, width: u32) -> u32
     if linked { 0 } else { width }
 }
 
-// One more restart; the counter stays at its ceiling.
+// One restart more; a count stays at its ceiling.
 pub fn one_more(restarts: u32) -> u32
     ensures { λ r. ⌜ r ≡ oneMore restarts ⌝ }
 {

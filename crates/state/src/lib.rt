@@ -1,10 +1,11 @@
 // What a call hands back, and the pieces of a bench that the calls put together: a state made anew or with one worker's record
-// replaced, and the queue with another anchor or one array more. Each is a definition's short name, as code.
-// Uses `model`. It is used by `opening`, `machine`, `queues`, `replies` and `listing`.
+// replaced, and the queue with another anchor, with its claimed array published, or with a link set or cleared. Each is a
+// definition's short name, as code.
+// Uses `model`. It is used by `opening`, `events`, `machine`, `queues`, `replies` and `listing`.
 ghost use mathlib.Core.Path.{_≡_};
 ghost use Prim.Native.Nat.{_≤_, _<_};
 ghost use Rattle.model.specs.declared.Answer.the-variants.{Refused};
-ghost use Rattle.model.specs.Lines.{anchored, publishing};
+ghost use Rattle.model.specs.Stores.{anchored, publishing};
 ghost use Rattle.model.specs.Calls.{blank, noBench, linkSet};
 ghost use Rattle.state.specs.Pieces.{opened};
 use model::Anchor;
@@ -101,7 +102,7 @@ pub fn opens(bench: Bench, worker: usize, used: u32, line: Line) -> Bench
 // X4: the claimed array becomes current.
 pub fn publish(queue: Queue) -> Queue
     requires { ⌜ queue .published ≤ 11 ⌝ }
-    ensures { λ r. ⌜ r ≡ publishing queue ⌝ }
+    ensures { λ r. ⌜ r ≡ publishing queue (queue .published) ⌝ }
 {
     let mut next = queue;
     next.published = queue.published + 1;

@@ -16,9 +16,11 @@ use Rattle.model.specs.declared.Anchor.{Anchor}
 use Rattle.model.specs.Tests.{_and_, _or_}
 use Rattle.model.proofs.Tests.{and-both}
 use Rattle.model.specs.Memory.{wordAt, setWord, zeros, nowhere, offsetAt, lengthAt, sizeAt}
-use Rattle.model.specs.Lines.{off, len, size, anchored, claiming, publishing}
-use Rattle.model.specs.Limits.{isSize, tidy, taken}
+use Rattle.model.specs.Lines.{size}
+use Rattle.model.specs.Limits.{isSize, tidy}
 use Rattle.model.proofs.Directory.{Size, tidy-last, tidy-front, tidy-start, tidy-long, tidy-twice, tidy-size}
+use Rattle.model.specs.Stores.{anchored, taken}
+use Rattle.theorems.proofs.Effects.{off, len, claiming, publishing}
 use Rattle.theorems.proofs.Remainders.{le-or-lt}
 use Rattle.theorems.proofs.Words.{earlier-slot, first-apart, zeros-low, zeros-length, set-place, set-here}
 

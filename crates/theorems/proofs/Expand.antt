@@ -18,9 +18,10 @@ use Rattle.model.specs.declared.Answer.the-variants.{GoesOn, Full}
 use Rattle.model.specs.declared.Task.{Task}
 use Rattle.model.specs.Tests.{if_then_else_}
 use Rattle.model.specs.Memory.{zeros, offsetAt, lengthAt, sizeAt}
-use Rattle.model.specs.Lines.{eff, off, len, size, claiming, publishing, fits, copyWords, copied, lineStep}
+use Rattle.model.specs.Lines.{size}
 use Rattle.model.specs.Figures.{slot, noteAll, anchor}
 use Rattle.model.proofs.Directory.{size-pos, size-twice}
+use Rattle.theorems.proofs.Effects.{eff, off, len, claiming, publishing, fits, copyLeft, copied, lineLeft}
 use Rattle.theorems.proofs.Events.{quiet, found-full, History}
 use Rattle.theorems.proofs.Words.{cell, put-word, put-same, put-twin, put-other, put-above, put-low, put-length, zeros-low, W-zeros, zeros-length, word-W, set-W, set-place, set-here}
 use Rattle.theorems.proofs.Remainders.{slot-ne, le-or-lt}
@@ -126,8 +127,8 @@ noted-x2 κ v g h t a q lo true e B C S l u f = (B, C, λ i j b c d. absurd (ome
 noted-x2 κ v g h t a q lo false e B C S l u f =
     (B, C, record { from = lo; start = S; low = l; high = u; few = f; more = omega (arith, eqb-false q 0 e); copied = λ i j b c d. absurd (omega arith) })
 
-pub note-x2 : (κ : Kind) (w ω : ℕ) (Q : Queue) (μ : List ℕ) (φ : ℕ → Line) (h : History) (t : Task) → Inv κ w ω Q μ (Note t) φ h → Kept κ w ω φ h (Note t) (lineStep κ w ω Q μ 0 (Note t))
-unfolding lineStep
+pub note-x2 : (κ : Kind) (w ω : ℕ) (Q : Queue) (μ : List ℕ) (φ : ℕ → Line) (h : History) (t : Task) → Inv κ w ω Q μ (Note t) φ h → Kept κ w ω φ h (Note t) (lineLeft κ w ω Q μ 0 (Note t))
+unfolding lineLeft
 note-x2 Lifo w ω Q μ φ h t I = (
   own-same Lifo w ω Q μ φ h (Note t) (noteAll t 0 (size ω Q)) quiet tt (λ k. tt) I
       (noted-x2 Lifo _ (Q .anchor .tag) (quiet ∷ h) t 0 (size ω Q) 0 (eqb (size ω Q) 0) refl (begun-later quiet tt (I .own .0)) (I .own .1) (refl, refl) (omega arith)
@@ -191,7 +192,7 @@ copy-other ω Q μ k (suc n) i j ne hn hj = put-other ω _ _ (2 * size ω Q) i j
 -- the slots stand for the index
 copy-is : (κ : Kind) (ω : ℕ) (Q : Queue) (μ : List ℕ) (i k n : ℕ) → offsetAt (Q .arrays) (Q .published) ≡ off Q + (ω + 1) * size ω Q
     → sizeAt ω (Q .arrays) (Q .published) ≡ 2 * size ω Q → slot κ (size ω Q) i ≡ k % size ω Q → slot κ (2 * size ω Q) i ≡ k % (2 * size ω Q)
-    → copyWords κ ω Q μ i n ≡ copyTo ω Q μ k n
+    → copyLeft κ ω Q μ i n ≡ copyTo ω Q μ k n
 unfolding copyTo
 copy-is κ ω Q μ i k zero eb ez e e′ = refl
 copy-is κ ω Q μ i k (suc n) eb ez e e′ =

@@ -16,10 +16,11 @@ use Rattle.model.specs.declared.Task.{Task}
 use Rattle.model.specs.declared.Anchor.{Anchor}
 use Rattle.model.specs.Tasks.{wordIn, gathered}
 use Rattle.model.specs.Memory.{offsetAt, sizeAt}
-use Rattle.model.specs.Lines.{off, size}
+use Rattle.model.specs.Lines.{size}
 use Rattle.model.specs.Calls.{linkSet}
 use Rattle.model.specs.Figures.{anchor}
 use Rattle.model.proofs.Directory.{Size}
+use Rattle.theorems.proofs.Effects.{off}
 use Rattle.theorems.proofs.Events.{Event, quiet, line-1, finished-put, handed-out, failed-compare, found-empty, began-put, found-full, History, Out, puts-since, history-at}
 use Rattle.theorems.proofs.Words.{cell}
 use Rattle.theorems.proofs.Remainders.{tag-next}

@@ -1,3 +1,5 @@
+pub mod Effects
+pub mod LandedLines
 pub mod Events
 pub mod Remainders
 pub mod Words
@@ -27,3 +29,4 @@ pub mod NeverForeign
 pub mod Reached
 pub mod NothingLost
 pub mod Restarts
+pub mod WhoCounts

@@ -19,10 +19,12 @@ use Rattle.model.specs.declared.Answer.{Answer}
 use Rattle.model.specs.Tests.{if_then_else_, _and_, _or_}
 use Rattle.model.proofs.Tests.{and-left, and-right, and-both, or-cases}
 use Rattle.model.specs.Figures.{isFull, isEmpty, isSame, putRead, takeRead, stealRead, noteAll, note, stealLast}
-use Rattle.model.specs.Lines.{Effect, eff, size, anchored, fits, succeeds, lineStep, holdsLink}
+use Rattle.model.specs.Lines.{size, succeeds, holdsLink}
 use Rattle.model.specs.World.{stage, isSteal1, isPast1}
 use Rattle.model.specs.Limits.{kindOk, readBy, linkOk}
 use Rattle.model.specs.Calls.{relinked}
+use Rattle.model.specs.Stores.{anchored}
+use Rattle.theorems.proofs.Effects.{Left, eff, fits, lineLeft}
 use Rattle.theorems.specs.Demand3.{finishes}
 use Rattle.theorems.proofs.Shape.{OwnShape, ThiefShape}
 
@@ -44,7 +46,7 @@ none-held (suc n) zero e = true≢false (sym e)
 none-held (suc n) (suc k) e = none-held n k e
 
 -- a link that is held after a line was held before it, and the line neither wrote the anchor nor finished a put
-pub record LinksKept (q : Queue) (E : Effect) : Type 0 where
+pub record LinksKept (q : Queue) (E : Left) : Type 0 where
   pub linked : E .queue .linked ≡ q .linked
   pub held : (k : ℕ) → holdsLink (E .queue) k ≡ true → (holdsLink q k ≡ true) × (E .queue .anchor ≡ q .anchor) × (finishes (E .answer) ≡ 0)
 
@@ -55,13 +57,13 @@ module _ (q : Queue) where
   cleared : (r : Anchor) (m : List ℕ) (l : Line) (a : Answer) → LinksKept q (eff (anchored q r) m l a)
   cleared r m l a = record { linked = refl; held = λ k h. absurd (none-held 8 k h) }
 
-  either : (x : Bool) (E E′ : Effect) → LinksKept q E → LinksKept q E′ → LinksKept q (if x then E else E′)
+  either : (x : Bool) (E E′ : Left) → LinksKept q E → LinksKept q E′ → LinksKept q (if x then E else E′)
   unfolding if_then_else_
   either true E E′ a b = a
   either false E E′ a b = b
 
-pub line-links : (κ : Kind) (w ω : ℕ) (q : Queue) (m : List ℕ) (i : ℕ) (l : Line) → LinksKept q (lineStep κ w ω q m i l)
-unfolding lineStep
+pub line-links : (κ : Kind) (w ω : ℕ) (q : Queue) (m : List ℕ) (i : ℕ) (l : Line) → LinksKept q (lineLeft κ w ω q m i l)
+unfolding lineLeft
 line-links κ w ω q m i Idle = same q _ _ _ refl
 line-links κ w ω q m i (PutRead t) = same q _ _ _ refl
 line-links κ w ω q m i (PutTail t h) = same q _ _ _ refl
@@ -102,7 +104,7 @@ module _ (q : Queue) (l : Line) where
   either-line true a b f g = f
   either-line false a b f g = g
 
-  either-end : (x : Bool) (E E′ : Effect) → Leads q l (E .line) → Leads q l (E′ .line) → Leads q l ((if x then E else E′) .line)
+  either-end : (x : Bool) (E E′ : Left) → Leads q l (E .line) → Leads q l (E′ .line) → Leads q l ((if x then E else E′) .line)
   unfolding if_then_else_
   either-end true E E′ f g = f
   either-end false E E′ f g = g
@@ -140,8 +142,8 @@ read-last Lifo q r k t u j p = inr (refl, refl)
 read-last Fifo q r k t u j p = inr (refl, refl)
 read-last Deque q r k t u j p = inr (refl, refl)
 
-pub line-leads : (κ : Kind) (w ω : ℕ) (q : Queue) (m : List ℕ) (i low τ : ℕ) (l : Line) → Held κ w ω q low τ l → kindOk κ true ≡ true → Leads q l (lineStep κ w ω q m i l .line)
-unfolding lineStep
+pub line-leads : (κ : Kind) (w ω : ℕ) (q : Queue) (m : List ℕ) (i low τ : ℕ) (l : Line) → Held κ w ω q low τ l → kindOk κ true ≡ true → Leads q l (lineLeft κ w ω q m i l .line)
+unfolding lineLeft
 line-leads κ w ω q m i low τ Idle s n = never
 line-leads κ w ω q m i low τ (PutRead t) s n = put-read q (PutRead t) κ t
 line-leads κ w ω q m i low τ (PutTail t h) s n = never
@@ -187,18 +189,18 @@ same-anchor Deque a = and-both _ _ (same-number (a .head)) (and-both _ _ (same-n
 -- worker i, at the line l, steps, and holds a link then: it was line 1, or the link was held before
 module _ (κ : Kind) (w ω : ℕ) (q : Queue) (m : List ℕ) (i low τ : ℕ) (l : Line) (kinds : kindOk κ (q .linked) ≡ true) (s : Held κ w ω q low τ l)
     (ok : holdsLink q i ≡ true → linkOk κ q l ≡ true) where
-  abbrev E : Effect
-  E = lineStep κ w ω q m i l
+  abbrev E : Left
+  E = lineLeft κ w ω q m i l
 
-  K : LinksKept q (lineStep κ w ω q m i l)
+  K : LinksKept q (lineLeft κ w ω q m i l)
   K = line-links κ w ω q m i l
 
-  leads : q .linked ≡ true → Leads q l (lineStep κ w ω q m i l .line)
+  leads : q .linked ≡ true → Leads q l (lineLeft κ w ω q m i l .line)
   leads e = line-leads κ w ω q m i low τ l s (subst (λ (x : Bool). kindOk κ x ≡ true) e kinds)
 
-  read-same : l ≡ StealRead → lineStep κ w ω q m i l .queue .anchor ≡ q .anchor
-  unfolding lineStep
-  read-same e = ap (λ (x : Line). lineStep κ w ω q m i x .queue .anchor) e
+  read-same : l ≡ StealRead → lineLeft κ w ω q m i l .queue .anchor ≡ q .anchor
+  unfolding lineLeft
+  read-same e = ap (λ (x : Line). lineLeft κ w ω q m i x .queue .anchor) e
 
   pub linked-now : (isPast1 (E .line) and ((E .queue .linked and isSteal1 l) or holdsLink (E .queue) i)) ≡ true
       → ((l ≡ StealRead) ⊎ (holdsLink (E .queue) i ≡ true)) × (linkOk κ (relinked (E .queue) i l (E .line)) (E .line) ≡ true)

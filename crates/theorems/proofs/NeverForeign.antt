@@ -16,12 +16,13 @@ use Rattle.model.specs.declared.Answer.{Answer}
 use Rattle.model.specs.declared.Answer.the-variants.{Refused}
 use Rattle.model.specs.Tests.{if_then_else_}
 use Rattle.model.specs.Figures.{isEmpty}
-use Rattle.model.specs.Lines.{Effect, fits, succeeds, lineStep}
+use Rattle.model.specs.Lines.{succeeds}
 use Rattle.model.specs.World.{World, Outcome, refuse, lineAt}
 use Rattle.model.specs.Limits.{validOf}
 use Rattle.model.specs.Calls.{beginAnswer, Call, callOf}
 use Rattle.model.specs.Listing.{isRefused}
 use Rattle.model.specs.Run.{played}
+use Rattle.theorems.proofs.Effects.{Left, fits, lineLeft}
 use Rattle.theorems.specs.Demand3.{At}
 use Rattle.theorems.specs.Corollaries.{NoneForeign}
 use Rattle.theorems.proofs.Cases.{Lawful, call-cases}
@@ -30,13 +31,13 @@ use Rattle.theorems.proofs.WholeRun.{call-whole, whole-run}
 use Rattle.theorems.proofs.Fresh.{fresh-started}
 
 -- what a line or an accepted begin answers is no refusal
-either : (x : Bool) (E E′ : Effect) → isRefused (E .answer) ≡ false → isRefused (E′ .answer) ≡ false → isRefused ((if x then E else E′) .answer) ≡ false
+either : (x : Bool) (E E′ : Left) → isRefused (E .answer) ≡ false → isRefused (E′ .answer) ≡ false → isRefused ((if x then E else E′) .answer) ≡ false
 unfolding if_then_else_
 either true E E′ p q = p
 either false E E′ p q = q
 
-line-answers : (κ : Kind) (w ω : ℕ) (q : Queue) (m : List ℕ) (i : ℕ) (l : Line) → isRefused (lineStep κ w ω q m i l .answer) ≡ false
-unfolding lineStep
+pub line-answers : (κ : Kind) (w ω : ℕ) (q : Queue) (m : List ℕ) (i : ℕ) (l : Line) → isRefused (lineLeft κ w ω q m i l .answer) ≡ false
+unfolding lineLeft
 line-answers κ w ω q m i Idle = refl
 line-answers κ w ω q m i (PutRead t) = refl
 line-answers κ w ω q m i (PutTail t h) = refl

@@ -15,11 +15,12 @@ use Rattle.model.specs.declared.Queue.{Queue}
 use Rattle.model.specs.Tasks.{gathered}
 use Rattle.model.proofs.Tasks.{same-words}
 use Rattle.model.specs.Figures.{slot}
-use Rattle.model.specs.Lines.{off, size}
+use Rattle.model.specs.Lines.{size}
 use Rattle.model.specs.World.{World, tagBits}
 use Rattle.model.specs.Calls.{freshOf}
 use Rattle.model.specs.Run.{Played, played, after}
 use Rattle.model.specs.Window.{tasks, windowIndex}
+use Rattle.theorems.proofs.Effects.{off}
 use Rattle.theorems.specs.Demand3.{At, Begins, Finishes, HandsOut, Empties, Attempt, Done, FinishedBefore, AllOut, Stands, NothingLost}
 use Rattle.theorems.proofs.Words.{cell, word-W}
 use Rattle.theorems.proofs.Events.{Event, line-1, finished-put, handed-out, found-empty, began-put, History, Out, history-at, GoodHistory, GoodEvent}

@@ -20,11 +20,13 @@ use Rattle.model.specs.declared.Task.{Task}
 use Rattle.model.specs.declared.Anchor.{Anchor}
 use Rattle.model.specs.Tests.{if_then_else_}
 use Rattle.model.specs.Memory.{setWord}
-use Rattle.model.specs.Lines.{eff, off, len, size, anchored, fits, lineStep}
-use Rattle.model.specs.Figures.{isFull, isEmpty, afterPut, afterTake, anchor}
+use Rattle.model.specs.Lines.{size}
+use Rattle.model.specs.Figures.{isFull, isEmpty, anchor}
 use Rattle.model.specs.Tasks.{noTask, wordIn, withWord, gathered}
 use Rattle.model.proofs.Tasks.{same-words, no-words, next-is, number-gathered}
 use Rattle.model.proofs.Directory.{size-pos}
+use Rattle.model.specs.Stores.{anchored}
+use Rattle.theorems.proofs.Effects.{eff, off, len, fits, lineLeft, afterPut, afterTake}
 use Rattle.theorems.proofs.Events.{quiet, line-1, finished-put, handed-out, found-empty, History, Out}
 use Rattle.theorems.proofs.Words.{put-word, put-same, put-twin, put-other, put-low, put-length, word-W, set-W}
 use Rattle.theorems.proofs.Remainders.{slot-ne, le-or-lt}
@@ -37,8 +39,8 @@ use Rattle.theorems.proofs.OwnerSteps.{Kept, own-same, own-read, own-st
 use Rattle.theorems.proofs.Expand.{claim, note-x2, copy-x3, publish}
 
 -- put: line 1 (lines 1 and 2 in FIFO)
-put-read : (κ : Kind) (w ω : ℕ) (Q : Queue) (μ : List ℕ) (φ : ℕ → Line) (h : History) (t : Task) → Inv κ w ω Q μ (PutRead t) φ h → Kept κ w ω φ h (PutRead t) (lineStep κ w ω Q μ 0 (PutRead t))
-unfolding lineStep
+put-read : (κ : Kind) (w ω : ℕ) (Q : Queue) (μ : List ℕ) (φ : ℕ → Line) (h : History) (t : Task) → Inv κ w ω Q μ (PutRead t) φ h → Kept κ w ω φ h (PutRead t) (lineLeft κ w ω Q μ 0 (PutRead t))
+unfolding lineLeft
 put-read Lifo w ω Q μ φ h t I = (own-read Lifo w ω Q μ φ h (PutRead t) (PutTest t (Q .anchor)) quiet tt (λ k. tt) I (begun-later quiet tt (I .own), (I .rep, refl)), tt)
 put-read Fifo w ω Q μ φ h t I = (own-read Fifo w ω Q μ φ h (PutRead t) (PutTail t (Q .anchor .head)) quiet tt (λ k. tt) I (begun-later quiet tt (I .own), (tt, I .rep .0)), tt)
 put-read Deque w ω Q μ φ h t I = (own-read Deque w ω Q μ φ h (PutRead t) (PutTest t (Q .anchor)) quiet tt (λ k. tt) I (begun-later quiet tt (I .own), (I .rep, refl)), tt)
@@ -141,8 +143,8 @@ put-finish Deque w ω Q μ φ h t r I =
     (rw (I .own .1 .1)) (mod-lt (r .tag + 1) (pow-pos w)) tt
 
 -- take: lines 1 (and 2 in FIFO)
-take-read : (κ : Kind) (w ω : ℕ) (Q : Queue) (μ : List ℕ) (φ : ℕ → Line) (h : History) → Inv κ w ω Q μ TakeRead φ h → Kept κ w ω φ h TakeRead (lineStep κ w ω Q μ 0 TakeRead)
-unfolding lineStep
+take-read : (κ : Kind) (w ω : ℕ) (Q : Queue) (μ : List ℕ) (φ : ℕ → Line) (h : History) → Inv κ w ω Q μ TakeRead φ h → Kept κ w ω φ h TakeRead (lineLeft κ w ω Q μ 0 TakeRead)
+unfolding lineLeft
 take-read Lifo w ω Q μ φ h I = (own-read Lifo w ω Q μ φ h TakeRead (TakeTest (Q .anchor)) (line-1 0) tt (λ k. omega arith) I (I .rep, refl, emp-now 0 (I .core), List·Memᴰ·head refl), tt)
 take-read Fifo w ω Q μ φ h I = (own-read Fifo w ω Q μ φ h TakeRead (TakeTail (Q .anchor .head)) (line-1 0) tt (λ k. omega arith) I (tt, I .rep .0, emp-now 0 (I .core), List·Memᴰ·head refl), tt)
 take-read Deque w ω Q μ φ h I = (own-read Deque w ω Q μ φ h TakeRead (TakeTest (Q .anchor)) (line-1 0) tt (λ k. omega arith) I (I .rep, refl, emp-now 0 (I .core), List·Memᴰ·head refl), tt)
@@ -231,8 +233,8 @@ taken-in Fifo lo hi l = omega arith
 taken-in Deque lo hi l = omega arith
 
 pub own-kept : (κ : Kind) (w ω : ℕ) (Q : Queue) (μ : List ℕ) (φ : ℕ → Line) (h : History) (o : Line) → 0 < Q .published → ω ≤ 4 → len Q ≡ (ω + 1) * size ω Q
-    → (2 * size ω Q ≤ 1024 → Q .published < length (Q .arrays)) → Inv κ w ω Q μ o φ h → Kept κ w ω φ h o (lineStep κ w ω Q μ 0 o)
-unfolding lineStep
+    → (2 * size ω Q ≤ 1024 → Q .published < length (Q .arrays)) → Inv κ w ω Q μ o φ h → Kept κ w ω φ h o (lineLeft κ w ω Q μ 0 o)
+unfolding lineLeft
 own-kept κ w ω Q μ φ h Idle pos wide long roomy I = (own-same κ w ω Q μ φ h Idle Idle quiet tt (λ k. tt) I tt, tt)
 own-kept κ w ω Q μ φ h (PutRead t) pos wide long roomy I = put-read κ w ω Q μ φ h t I
 own-kept κ w ω Q μ φ h (PutTail t a) pos wide long roomy I = (put-tail κ w ω Q μ φ h t a I, tt)

@@ -8,8 +8,9 @@ use Rattle.model.specs.declared.Kind.{Kind}
 use Rattle.model.specs.declared.Line.{Line}
 use Rattle.model.specs.declared.Queue.{Queue}
 use Rattle.model.specs.Calls.{step}
-use Rattle.model.specs.Lines.{Effect, off, size}
+use Rattle.model.specs.Lines.{size}
 use Rattle.model.specs.Figures.{anchor}
+use Rattle.theorems.proofs.Effects.{Left, off}
 use Rattle.theorems.proofs.Events.{Event, quiet, History, GoodEvent, event-of}
 use Rattle.theorems.proofs.Words.{cell}
 use Rattle.theorems.proofs.Window.{View, Plain, plain-done, core-words, core-ev, core-read}
@@ -18,7 +19,7 @@ use Rattle.theorems.proofs.Seen.{frame-same, frame-store}
 use Rattle.theorems.proofs.Invariant.{view, OwnerOk, Inv, Calm, move-calm, thief-holds, tops-refl, grow-same, grow-read}
 
 -- the owner's line o leaves E
-abbrev pub Kept : Kind → ℕ → ℕ → (ℕ → Line) → History → Line → Effect → Type 0
+abbrev pub Kept : Kind → ℕ → ℕ → (ℕ → Line) → History → Line → Left → Type 0
 Kept κ w ω φ h o E =
     Inv κ w ω (E .queue) (E .store) (E .line) φ (event-of ω (step 0) o (E .answer) ∷ h) × GoodEvent (event-of ω (step 0) o (E .answer)) h
 

@@ -115,7 +115,7 @@ back-to-line-1 κ w ω q m i (StealNext r t) = refl
 back-to-line-1 κ w ω q m i (StealCompare r e t) = back (succeeds κ q i r) _ _ refl refl
 
 -- one worker's count raised, or none
-counted : (ns : List ℕ) (i k : ℕ) (x : Bool) → i < length ns
+pub counted : (ns : List ℕ) (i k : ℕ) (x : Bool) → i < length ns
     → restartsOf (if x then raised ns i else ns) k ≡ (if eqb k i and x then oneMore (restartsOf ns k) else restartsOf ns k)
 unfolding if_then_else_ _and_
 counted ns i k x h = go x (eqb k i) refl

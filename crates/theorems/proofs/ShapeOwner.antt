@@ -19,14 +19,15 @@ use Rattle.model.specs.declared.Task.{Task}
 use Rattle.model.specs.declared.Anchor.{Anchor}
 use Rattle.model.specs.Tests.{if_then_else_}
 use Rattle.model.specs.Memory.{wordAt, setWord, zeros, offsetAt, sizeAt}
-use Rattle.model.specs.Lines.{Effect, eff, off, len, size, claiming, publishing, anchored, wordOf, writeWord, fits, copyWords, copied, lineStep}
-use Rattle.model.specs.Figures.{slot, putIndex, takeIndex, isFull, isEmpty, afterPut, afterTake, noteAll, anchor}
+use Rattle.model.specs.Lines.{size, wordOf}
+use Rattle.model.specs.Figures.{slot, putIndex, takeIndex, isFull, isEmpty, noteAll, anchor}
 use Rattle.model.specs.World.{isExpanding}
 use Rattle.model.specs.Calls.{linkSet}
-use Rattle.model.specs.Limits.{taken}
 use Rattle.model.specs.Tasks.{noTask, wordIn, withWord}
 use Rattle.model.proofs.Tasks.{number-word}
 use Rattle.model.proofs.Directory.{size-pos}
+use Rattle.model.specs.Stores.{anchored, taken}
+use Rattle.theorems.proofs.Effects.{Left, eff, off, len, claiming, publishing, wordWritten, fits, copyLeft, copied, lineLeft, afterPut, afterTake}
 use Rattle.theorems.proofs.Words.{set-place}
 use Rattle.theorems.proofs.Directory.{both, Arrays, now, number-now, Numbers, numbers-word, arrays-anchor, arrays-store, arrays-claim, arrays-publish, tidy-proper}
 use Rattle.theorems.proofs.Shape.{tail, Bounded, OwnRead, Room, Some, Span, pending, Spent, OwnShape, InArray, Known, known-more, none-known, Shape, Larger, thief-keep}
@@ -38,7 +39,7 @@ pub larger-anchor : (κ : Kind) (ω : ℕ) (q : Queue) (r : Anchor) → tail κ 
 larger-anchor κ ω q r l = record { sized = omega arith; later = l; more = omega arith; same = λ k u. refl }
 
 -- the owner's line leaves E
-abbrev pub ShapeKept : Kind → ℕ → ℕ → ℕ → (ℕ → Line) → Effect → Type 0
+abbrev pub ShapeKept : Kind → ℕ → ℕ → ℕ → (ℕ → Line) → Left → Type 0
 ShapeKept κ w ω used φ E = Shape κ w ω used (E .queue) (E .store) (E .line) φ
 
 module _ {κ : Kind} {w ω used : ℕ} {q : Queue} {m : List ℕ} {o : Line} {φ : ℕ → Line} (S : Shape κ w ω used q m o φ) where
@@ -96,8 +97,8 @@ spent-done Lifo c used o s = tt
 spent-done Fifo c used o s = omega arith
 spent-done Deque c used o s = tt
 
-read-put : (κ : Kind) (w ω used : ℕ) (q : Queue) (m : List ℕ) (φ : ℕ → Line) (t : Task) → Shape κ w ω used q m (PutRead t) φ → ShapeKept κ w ω used φ (lineStep κ w ω q m 0 (PutRead t))
-unfolding lineStep
+read-put : (κ : Kind) (w ω used : ℕ) (q : Queue) (m : List ℕ) (φ : ℕ → Line) (t : Task) → Shape κ w ω used q m (PutRead t) φ → ShapeKept κ w ω used φ (lineLeft κ w ω q m 0 (PutRead t))
+unfolding lineLeft
 read-put Lifo w ω used q m φ t S = stay S (PutTest t (q .anchor)) refl (S .spent) (S .own, S .anchor)
 read-put Fifo w ω used q m φ t S = go-on S m (PutTail t (q .anchor .head)) (q .anchor .head) (S .arrays) refl (S .spent) (low-now w (size ω q) (S .low) _ (S .anchor)) (S .own, refl)
 read-put Deque w ω used q m φ t S = stay S (PutTest t (q .anchor)) refl (S .spent) (S .own, S .anchor)
@@ -137,17 +138,17 @@ unfolding setWord
 set-length ω m b τ j x = length-set m _ x
 
 word-put : (κ : Kind) (w ω used : ℕ) (q : Queue) (m : List ℕ) (φ : ℕ → Line) (t : Task) (r : Anchor) (j : ℕ) (x : Bool) → eqb j ω ≡ x → Shape κ w ω used q m (PutWord t r j) φ
-    → Shape κ w ω used q (writeWord κ ω q m (q .published - 1) (putIndex κ r) j (wordIn t j)) (if x then PutFinish t r else PutWord t r (j + 1)) φ
+    → Shape κ w ω used q (wordWritten κ ω q m (q .published - 1) (putIndex κ r) j (wordIn t j)) (if x then PutFinish t r else PutWord t r (j + 1)) φ
 unfolding if_then_else_
 word-put κ w ω used q m φ t r j x e S = go x e
   where
-    A : Arrays ω q (writeWord κ ω q m (q .published - 1) (putIndex κ r) j (wordIn t j))
+    A : Arrays ω q (wordWritten κ ω q m (q .published - 1) (putIndex κ r) j (wordIn t j))
     A =
         let P = now (S .arrays) .1 in
         arrays-store _ (S .arrays) (set-length ω m _ _ _ _)
         (numbers-word ω m (taken q) _ _ j _ (P .0) (P .1) (omega (arith, S .own .3)) (λ z. rw (z, number-word t) (S .own .0 .0)) (S .arrays .numbers))
 
-    go : (x : Bool) → eqb j ω ≡ x → Shape κ w ω used q (writeWord κ ω q m (q .published - 1) (putIndex κ r) j (wordIn t j)) (if x then PutFinish t r else PutWord t r (j + 1)) φ
+    go : (x : Bool) → eqb j ω ≡ x → Shape κ w ω used q (wordWritten κ ω q m (q .published - 1) (putIndex κ r) j (wordIn t j)) (if x then PutFinish t r else PutWord t r (j + 1)) φ
     go true e = go-on S _ (PutFinish t r) (S .low) A refl (spent-put κ _ _ (PutWord t r j) (PutFinish t r) refl (S .spent)) (S .anchor) (S .own .0, S .own .1, S .own .2)
     go false e =
         go-on S _ (PutWord t r (j + 1)) (S .low) A refl (spent-put κ _ _ (PutWord t r j) (PutWord t r (j + 1)) refl (S .spent)) (S .anchor)
@@ -213,8 +214,8 @@ note-to κ w ω used q m φ t h k S s u =
     let E = note-expands t h k (eqb k 0) in
     stay S (noteAll t h k) (E .0) (spent-put κ _ _ (Note t) (noteAll t h k) (E .1) (S .spent)) (note-all κ w ω (size ω q) (S .low) (tail κ q) t h k (eqb k 0) refl (S .own) s u)
 
-note-x2 : (κ : Kind) (w ω used : ℕ) (q : Queue) (m : List ℕ) (φ : ℕ → Line) (t : Task) → Shape κ w ω used q m (Note t) φ → ShapeKept κ w ω used φ (lineStep κ w ω q m 0 (Note t))
-unfolding lineStep
+note-x2 : (κ : Kind) (w ω used : ℕ) (q : Queue) (m : List ℕ) (φ : ℕ → Line) (t : Task) → Shape κ w ω used q m (Note t) φ → ShapeKept κ w ω used φ (lineLeft κ w ω q m 0 (Note t))
+unfolding lineLeft
 note-x2 Lifo w ω used q m φ t S = note-to Lifo w ω used q m φ t 0 (size ω q) S refl (omega arith)
 note-x2 Fifo w ω used q m φ t S =
     note-to Fifo w ω used q m φ t (q .anchor .head) (q .anchor .count - q .anchor .head) S (omega (arith, S .anchor .1)) (omega (arith, S .anchor .0, S .anchor .2))
@@ -246,7 +247,7 @@ copy-x3 κ w ω used q m φ t h j k x e S = finished-put x e
     value : wordAt m ω (off q) (slot κ (size ω q) (h + k)) 0 ≤ 65535
     value = number-now A _ (slot-in κ (size ω q) (h + k) (size-pos (now A .0)) (index κ (S .own .1)))
 
-    copied-ok : (n : ℕ) → n ≤ ω + 1 → (length (copyWords κ ω q m (h + k) n) ≡ length m) × Numbers ω (copyWords κ ω q m (h + k) n) (taken q)
+    copied-ok : (n : ℕ) → n ≤ ω + 1 → (length (copyLeft κ ω q m (h + k) n) ≡ length m) × Numbers ω (copyLeft κ ω q m (h + k) n) (taken q)
     copied-ok zero l = (refl, A .numbers)
     copied-ok (suc n) l =
         let (e, N) = copied-ok n (omega arith) in
@@ -292,8 +293,8 @@ publish κ w ω used q m φ t S =
     larger = record { sized = omega (arith, P .1); later = tail-same κ; more = omega arith; same = λ k h. refl }
 
 -- take
-read-take : (κ : Kind) (w ω used : ℕ) (q : Queue) (m : List ℕ) (φ : ℕ → Line) → Shape κ w ω used q m TakeRead φ → ShapeKept κ w ω used φ (lineStep κ w ω q m 0 TakeRead)
-unfolding lineStep
+read-take : (κ : Kind) (w ω used : ℕ) (q : Queue) (m : List ℕ) (φ : ℕ → Line) → Shape κ w ω used q m TakeRead φ → ShapeKept κ w ω used φ (lineLeft κ w ω q m 0 TakeRead)
+unfolding lineLeft
 read-take Lifo w ω used q m φ S = stay S (TakeTest (q .anchor)) refl (S .spent) (S .anchor)
 read-take Fifo w ω used q m φ S = go-on S m (TakeTail (q .anchor .head)) (q .anchor .head) (S .arrays) refl (S .spent) (low-now w (size ω q) (S .low) _ (S .anchor)) refl
 read-take Deque w ω used q m φ S = stay S (TakeTest (q .anchor)) refl (S .spent) (S .anchor)
@@ -356,8 +357,8 @@ finish-take Fifo w ω used q m φ r t S =
 finish-take Deque w ω used q m φ r t S =
     anchor-to S Idle (S .low) _ refl tt (S .own .0 .0, omega (arith, S .own .0 .1), S .own .0 .2) (omega arith) tt
 
-pub own-shaped : (κ : Kind) (w ω used : ℕ) (q : Queue) (m : List ℕ) (φ : ℕ → Line) (o : Line) → ω ≤ 4 → Shape κ w ω used q m o φ → ShapeKept κ w ω used φ (lineStep κ w ω q m 0 o)
-unfolding lineStep
+pub own-shaped : (κ : Kind) (w ω used : ℕ) (q : Queue) (m : List ℕ) (φ : ℕ → Line) (o : Line) → ω ≤ 4 → Shape κ w ω used q m o φ → ShapeKept κ w ω used φ (lineLeft κ w ω q m 0 o)
+unfolding lineLeft
 own-shaped κ w ω used q m φ Idle wide S = S
 own-shaped κ w ω used q m φ (PutRead t) wide S = read-put κ w ω used q m φ t S
 own-shaped κ w ω used q m φ (PutTail t h) wide S = tail-put κ w ω used q m φ t h S

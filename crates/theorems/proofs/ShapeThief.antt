@@ -18,17 +18,19 @@ use Rattle.model.specs.declared.Task.{Task}
 use Rattle.model.specs.declared.Anchor.{Anchor}
 use Rattle.model.specs.Limits.{kindOk}
 use Rattle.model.specs.Tests.{if_then_else_}
-use Rattle.model.specs.Lines.{Effect, eff, size, anchored, succeeds, wordOf, stealOn, lineStep, holdsLink}
+use Rattle.model.specs.Lines.{size, succeeds, wordOf, stealOn, holdsLink}
 use Rattle.model.specs.Tasks.{noTask, withWord}
-use Rattle.model.specs.Figures.{isSame, slot, stealIndex, isEmpty, afterSteal, stealRead, stealLast, anchor}
+use Rattle.model.specs.Figures.{isSame, slot, stealIndex, isEmpty, stealRead, stealLast, anchor}
 use Rattle.model.proofs.Directory.{size-pos}
+use Rattle.model.specs.Stores.{anchored}
+use Rattle.theorems.proofs.Effects.{Left, eff, lineLeft, afterSteal}
 use Rattle.theorems.proofs.Remainders.{le-or-lt}
 use Rattle.theorems.proofs.Directory.{number, arrays-anchor, tidy-proper}
 use Rattle.theorems.proofs.Shape.{tail, Bounded, Early, ThiefRead, Some, Slot, After, Double, Spent, Known, known-more, none-known, OwnShape, ThiefShape, Shape, Larger, thief-keep}
 use Rattle.theorems.proofs.ShapeOwner.{larger-refl, larger-anchor}
 
 -- thief k's line leaves E: the lines φ′ are as φ but for k's
-abbrev pub ShapeKeptT : Kind → ℕ → ℕ → ℕ → Line → (ℕ → Line) → ℕ → Effect → Type 0
+abbrev pub ShapeKeptT : Kind → ℕ → ℕ → ℕ → Line → (ℕ → Line) → ℕ → Left → Type 0
 ShapeKeptT κ w ω used o φ k E =
     (φ′ : ℕ → Line) → φ′ k ≡ E .line → ((i : ℕ) → i ≢ k → φ′ i ≡ φ i) → Shape κ w ω used (E .queue) (E .store) o φ′
 
@@ -168,8 +170,8 @@ next-steal Fifo h d = absurd d
 next-steal Deque h d = mod-lt (h + 1) (omega arith)
 
 pub thief-shaped : (κ : Kind) (w ω used : ℕ) (q : Queue) (m : List ℕ) (o : Line) (φ : ℕ → Line) (k : ℕ) (θ : Line) → ω ≤ 4 → kindOk κ (q .linked) ≡ true → (S : Shape κ w ω used q m o φ) → ThiefShape κ w ω q (tail κ q) θ
-    → ShapeKeptT κ w ω used o φ k (lineStep κ w ω q m (suc k) θ)
-unfolding lineStep
+    → ShapeKeptT κ w ω used o φ k (lineLeft κ w ω q m (suc k) θ)
+unfolding lineLeft
 thief-shaped κ w ω used q m o φ k Idle wide n S s = thief-stay S k Idle tt
 thief-shaped κ w ω used q m o φ k StealRead wide n S s = thief-stay S k (stealRead κ (q .anchor)) (read-steal κ w ω used q m o φ S)
 thief-shaped κ w ω used q m o φ k (StealTail h) wide n S s = thief-stay S k (StealTest (anchor h (q .anchor .count) (q .anchor .tag))) (tail-steal κ w ω used q m o φ h S s)

@@ -21,11 +21,12 @@ use Rattle.model.specs.declared.Answer.{Answer}
 use Rattle.model.specs.declared.Answer.the-variants.{Accepted, Numbered, GoesOn, Finished, HandedOut, Empty, Full, Refused}
 use Rattle.model.specs.Tasks.{task}
 use Rattle.model.proofs.Tasks.{first-number, gathered-again}
-use Rattle.model.specs.Lines.{Effect, size, lineStep, holdsLink}
+use Rattle.model.specs.Lines.{size, holdsLink}
 use Rattle.model.specs.World.{World, Outcome, refuse, tagBits, lineAt, isSteal1, isPast1}
-use Rattle.model.specs.Calls.{firstLine, beginAnswer, begun, stepped, nextEffect, Call, begin, step, dropLink, callOf}
+use Rattle.model.specs.Calls.{firstLine, beginAnswer, begun, Call, begin, step, dropLink, callOf}
 use Rattle.theorems.specs.Demand3.{finishes}
 use Rattle.model.specs.Run.{Played, played, after}
+use Rattle.theorems.proofs.Effects.{Left, lineLeft, leftBy, nextLeft}
 use Rattle.theorems.proofs.Events.{Event, quiet, line-1, finished-put, handed-out, failed-compare, found-empty, began-put, found-full, is-line-1, is-compare, History, puts-since, Premise, PremiseAt, GoodHistory, GoodEvent, event-of}
 use Rattle.theorems.proofs.Window.{old-done}
 use Rattle.theorems.proofs.PutNumbers.{used-kept}
@@ -97,8 +98,8 @@ since-later ω k h c l (Full i t) f e = e
 since-later ω k h c l (Refused r) f e = e
 
 since-read : (κ : Kind) (w ω : ℕ) (q : Queue) (m : List ℕ) (i k : ℕ) (h : History) → k ≡ i → (l : Line) → l ≡ StealRead
-    → puts-since k (event-of ω (step i) l (lineStep κ w ω q m i l .answer) ∷ h) ≡ 0
-unfolding lineStep
+    → puts-since k (event-of ω (step i) l (lineLeft κ w ω q m i l .answer) ∷ h) ≡ 0
+unfolding lineLeft
 since-read κ w ω q m i k h e l r = rw (r, e) (since-now i h)
 
 begin-none : (op : Operation) (u : ℕ) → finishes (beginAnswer op u) ≡ 0
@@ -160,24 +161,24 @@ module _ (W : World) (H : Whole W) (h : History) (I : InvOf W h) (N : (u : Task)
   space : 2 * size (W .bench .words) (W .bench .queue) ≤ 1024 → W .bench .queue .published < length (W .bench .queue .arrays)
   space l = omega (arith, roomy (H .shape .arrays) l, H .shape .arrays .slots)
 
-  abbrev InvAfter : Effect → History → Line → (ℕ → Line) → Type 0
+  abbrev InvAfter : Left → History → Line → (ℕ → Line) → Type 0
   InvAfter E h o φ = Inv (W .bench .kind) (tagBits (W .bench)) (W .bench .words) (E .queue) (E .store) o φ h
 
   -- what a line leaves, with the links as they are then
-  linked-inv : (i : ℕ) {o : Line} {φ : ℕ → Line} {h : History} → InvAfter (nextEffect W i) h o φ
-      → Inv (W .bench .kind) (tagBits (stepped W i (nextEffect W i) .world .bench)) (W .bench .words) (stepped W i (nextEffect W i) .world .bench .queue) (nextEffect W i .store) o φ h
+  linked-inv : (i : ℕ) {o : Line} {φ : ℕ → Line} {h : History} → InvAfter (nextLeft W i) h o φ
+      → Inv (W .bench .kind) (tagBits (leftBy W i (nextLeft W i) .world .bench)) (W .bench .words) (leftBy W i (nextLeft W i) .world .bench .queue) (nextLeft W i .store) o φ h
   linked-inv i {o} {φ} {h} J =
-      subst (λ (w : ℕ). Inv (W .bench .kind) w (W .bench .words) (stepped W i (nextEffect W i) .world .bench .queue) (nextEffect W i .store) o φ h) (same-tag H i) (inv-relink i _ J)
+      subst (λ (w : ℕ). Inv (W .bench .kind) w (W .bench .words) (leftBy W i (nextLeft W i) .world .bench .queue) (nextLeft W i .store) o φ h) (same-tag H i) (inv-relink i _ J)
 
-  stepped-kept : (i : ℕ) → MayStep W i → Fine W h (step i) (lineAt (W .bench .workers) i) (stepped W i (nextEffect W i))
+  stepped-kept : (i : ℕ) → MayStep W i → Fine W h (step i) (lineAt (W .bench .workers) i) (leftBy W i (nextLeft W i))
   stepped-kept zero M f =
       let K = own-kept (W .bench .kind) (tagBits (W .bench)) (W .bench .words) (W .bench .queue) (W .store) (thieves (W .bench .workers)) h (lineAt (W .bench .workers) 0) (H .shape .arrays .some) (H .words .1) (long (H .shape .arrays)) space I in
-      (linked-inv 0 (own-back (InvAfter (nextEffect W 0) (event-of (W .bench .words) (step 0) (lineAt (W .bench .workers) 0) (nextEffect W 0 .answer) ∷ h)) (W .bench .workers) (nextEffect W 0 .line) (in-crew H 0 (M .member)) (K .0)), K .1)
+      (linked-inv 0 (own-back (InvAfter (nextLeft W 0) (event-of (W .bench .words) (step 0) (lineAt (W .bench .workers) 0) (nextLeft W 0 .answer) ∷ h)) (W .bench .workers) (nextLeft W 0 .line) (in-crew H 0 (M .member)) (K .0)), K .1)
   stepped-kept (suc k) M f =
       let θ = thieves (W .bench .workers) k in
       let K = thief-kept (W .bench .kind) (tagBits (W .bench)) (W .bench .words) (W .bench .queue) (W .store) (lineAt (W .bench .workers) 0) (thieves (W .bench .workers)) h k θ I (I .th k) (H .shape .arrays .some) (H .words .1) (tagged H)
       (λ x. (link-parts (W .bench .kind) (W .bench .queue) θ (H .links (suc k) x) .2, L k x)) f in
-      (linked-inv (suc k) (thief-back (InvAfter (nextEffect W (suc k)) (event-of (W .bench .words) (step (suc k)) θ (nextEffect W (suc k) .answer) ∷ h)) (W .bench .workers) k (nextEffect W (suc k) .line) (in-crew H (suc k) (M .member)) (K .0)), K .1)
+      (linked-inv (suc k) (thief-back (InvAfter (nextLeft W (suc k)) (event-of (W .bench .words) (step (suc k)) θ (nextLeft W (suc k) .answer) ∷ h)) (W .bench .workers) k (nextLeft W (suc k) .line) (in-crew H (suc k) (M .member)) (K .0)), K .1)
 
   dropped-kept : (i : ℕ) (l : Line) → Fine W h (dropLink i) l (record { world = dropped W i; answer = Accepted })
   dropped-kept i l f =
@@ -200,11 +201,11 @@ module _ (W : World) (H : Whole W) (h : History) (I : InvOf W h) (N : (u : Task)
   since-same : (c : Call) (l : Line) (a : Answer) → finishes a ≡ 0 → Since W (event-of (W .bench .words) c l a ∷ h)
   since-same c l a f k x = since-later (W .bench .words) (suc k) h c l a f (L k x)
 
-  stepped-since : (i : ℕ) → SinceAfter (step i) (lineAt (W .bench .workers) i) (stepped W i (nextEffect W i))
-  stepped-since i k x = go (held-set (nextEffect W i .queue .links) i (suc k) _ x)
+  stepped-since : (i : ℕ) → SinceAfter (step i) (lineAt (W .bench .workers) i) (leftBy W i (nextLeft W i))
+  stepped-since i k x = go (held-set (nextLeft W i .queue .links) i (suc k) _ x)
     where
-      E : Effect
-      E = nextEffect W i
+      E : Left
+      E = nextLeft W i
 
       held : holdsLink (E .queue) (suc k) ≡ true → puts-since (suc k) (event-of (W .bench .words) (step i) (lineAt (W .bench .workers) i) (E .answer) ∷ h) ≡ 0
       held y = let (a, b, e) = kept-links H i .held (suc k) y in since-later (W .bench .words) (suc k) h (step i) (lineAt (W .bench .workers) i) (E .answer) e (L k a)
@@ -293,7 +294,7 @@ call-within : (W : World) (c : Call) (l : Line) → Within (callOf W c .world .b
 call-within W (begin i op) l =
     begin-cases (λ (D : Outcome). Within (D .world .bench .used) (event-of (W .bench .words) (begin i op) l (D .answer))) W (λ r q. tt) i op (λ B. begin-within W i op l)
 call-within W (step i) l =
-    step-cases (λ (D : Outcome). Within (D .world .bench .used) (event-of (W .bench .words) (step i) l (D .answer))) W (λ r q. tt) i (λ M. step-within (W .bench .words) (W .bench .used) i l (nextEffect W i .answer))
+    step-cases (λ (D : Outcome). Within (D .world .bench .used) (event-of (W .bench .words) (step i) l (D .answer))) W (λ r q. tt) i (λ M. step-within (W .bench .words) (W .bench .used) i l (nextLeft W i .answer))
 call-within W (dropLink i) l =
     drop-cases (λ (D : Outcome). Within (D .world .bench .used) (event-of (W .bench .words) (dropLink i) l (D .answer))) W (λ r q. tt) i tt
 

@@ -19,13 +19,15 @@ use Rattle.model.specs.declared.Anchor.{Anchor}
 use Rattle.model.specs.Tests.{if_then_else_, _and_}
 use Rattle.model.specs.Memory.{offsetAt, sizeAt}
 use Rattle.model.specs.Calls.{step}
-use Rattle.model.specs.Lines.{Effect, eff, size, anchored, succeeds, wordOf, stealOn, lineStep, holdsLink}
+use Rattle.model.specs.Lines.{size, succeeds, wordOf, stealOn, holdsLink}
 use Rattle.model.specs.Limits.{readBy}
 use Rattle.model.specs.Tasks.{noTask, withWord}
 use Rattle.model.proofs.Tasks.{no-words, next-is, number-gathered}
-use Rattle.model.specs.Figures.{isSame, stealLast, stealIndex, isEmpty, afterSteal, stealRead, anchor}
+use Rattle.model.specs.Figures.{isSame, stealLast, stealIndex, isEmpty, stealRead, anchor}
 use Rattle.theorems.specs.Demand3.{Few}
 use Rattle.model.proofs.Directory.{size-pos, size-le}
+use Rattle.model.specs.Stores.{anchored}
+use Rattle.theorems.proofs.Effects.{Left, eff, lineLeft, afterSteal}
 use Rattle.theorems.proofs.Events.{Event, quiet, line-1, handed-out, failed-compare, found-empty, History, Out, puts-since, PremiseAt, GoodEvent, event-of}
 use Rattle.theorems.proofs.Words.{word-W}
 use Rattle.theorems.proofs.Remainders.{le-or-lt, tag-zero, same-head}
@@ -37,7 +39,7 @@ use Rattle.theorems.proofs.Indices.{StandsFor, Small, stolen-ix, steal-
 use Rattle.theorems.proofs.Invariant.{view, Tag, Hold, stale, Reads, GotV, NotedV, Next, ThiefOk, Inv, Calm, move-calm, thief-holds, own-keep, emp-now, since-now, emp-calm, grow-same}
 
 -- thief k's line θ leaves E: the lines φ′ are as φ but for k's
-abbrev pub ThiefKept : Kind → ℕ → ℕ → Line → (ℕ → Line) → History → ℕ → Line → Effect → Type 0
+abbrev pub ThiefKept : Kind → ℕ → ℕ → Line → (ℕ → Line) → History → ℕ → Line → Left → Type 0
 ThiefKept κ w ω o φ h k θ E =
     ((φ′ : ℕ → Line) → φ′ k ≡ E .line → ((i : ℕ) → i ≢ k → φ′ i ≡ φ i) → Inv κ w ω (E .queue) (E .store) o φ′ (event-of ω (step (suc k)) θ (E .answer) ∷ h))
     × GoodEvent (event-of ω (step (suc k)) θ (E .answer)) h
@@ -233,7 +235,7 @@ won κ w Q h k r e t false q T f some L = (q, none-tagged κ w _ (Q .anchor) r q
 
 steal-compare : (κ : Kind) (w ω : ℕ) (Q : Queue) (μ : List ℕ) (o : Line) (φ : ℕ → Line) (h : History) (k : ℕ) (r : Anchor) (e : ℕ) (t : Task) (z : Bool) → succeeds κ Q (suc k) r ≡ z
     → (I : Inv κ w ω Q μ o φ h) → ThiefOk κ w (view ω Q μ (I .own-lo) (I .own-hi)) (Q .anchor .tag) h (suc k) (StealCompare r e t) → (Q .linked ≡ false → 0 < w) → LinkSound κ Q h k (StealCompare r e t)
-    → let R : Effect = (if z then eff (anchored Q (afterSteal κ (Q .anchor) r e)) μ Idle (HandedOut (suc k) t) else eff Q μ StealRead GoesOn) in
+    → let R : Left = (if z then eff (anchored Q (afterSteal κ (Q .anchor) r e)) μ Idle (HandedOut (suc k) t) else eff Q μ StealRead GoesOn) in
     PremiseAt κ w (event-of ω (step (suc k)) (StealCompare r e t) (R .answer)) h → ThiefKept κ w ω o φ h k (StealCompare r e t) R
 unfolding if_then_else_
 steal-compare κ w ω Q μ o φ h k r e t true q I ok some L f =
@@ -329,8 +331,8 @@ steal-next Fifo a = tt
 steal-next Deque a = refl
 
 pub thief-kept : (κ : Kind) (w ω : ℕ) (Q : Queue) (μ : List ℕ) (o : Line) (φ : ℕ → Line) (h : History) (k : ℕ) (θ : Line) (I : Inv κ w ω Q μ o φ h) → ThiefOk κ w (view ω Q μ (I .own-lo) (I .own-hi)) (Q .anchor .tag) h (suc k) θ → 0 < Q .published → ω ≤ 4 → (Q .linked ≡ false → 0 < w) → LinkSound κ Q h k θ
-    → PremiseAt κ w (event-of ω (step (suc k)) θ (lineStep κ w ω Q μ (suc k) θ .answer)) h → ThiefKept κ w ω o φ h k θ (lineStep κ w ω Q μ (suc k) θ)
-unfolding lineStep
+    → PremiseAt κ w (event-of ω (step (suc k)) θ (lineLeft κ w ω Q μ (suc k) θ .answer)) h → ThiefKept κ w ω o φ h k θ (lineLeft κ w ω Q μ (suc k) θ)
+unfolding lineLeft
 thief-kept κ w ω Q μ o φ h k Idle I ok pos wide some L f = (thief-same κ w ω Q μ o φ h k Idle quiet tt tt (λ i q. tt) I tt, tt)
 thief-kept κ w ω Q μ o φ h k StealRead I ok pos wide some L f =
     (thief-same κ w ω Q μ o φ h k (stealRead κ (Q .anchor)) (line-1 (suc k)) tt (omega arith) (λ i ne. omega arith) I (steal-read κ w ω Q μ o φ h k I), tt)

@@ -18,10 +18,10 @@ use Rattle.model.specs.declared.Task.{Task}
 use Rattle.model.specs.Tasks.{task, firstWords}
 use Rattle.model.specs.declared.Anchor.{Anchor}
 use Rattle.model.specs.declared.Refusal.{Refusal}
-use Rattle.model.specs.Lines.{lineStep}
 use Rattle.model.specs.World.{World, Outcome, tagBits, lineAt}
-use Rattle.model.specs.Calls.{nextEffect, Call, begin, step, dropLink, callOf}
+use Rattle.model.specs.Calls.{Call, begin, step, dropLink, callOf}
 use Rattle.model.specs.Run.{Played, played}
+use Rattle.theorems.proofs.Effects.{lineLeft, nextLeft}
 use Rattle.theorems.specs.Demand3.{At, Begins, Finishes, HandsOut, Empties, Line1, Compares, Attempt, finishes, puts, between, Few, FewPuts}
 use Rattle.theorems.proofs.Events.{Event, quiet, line-1, finished-put, handed-out, failed-compare, found-empty, began-put, found-full, is-line-1, is-compare, event-of-begin, event-of-going-on, event-of-hand-out, event-of}
 use Rattle.theorems.proofs.Places.{EventAt, EventLine1, finishes-put, finished-puts, events-between, EventCompares, EventFew}
@@ -204,20 +204,20 @@ ev-line1 i s e = go (first-is (lineOf s) (T .1))
 
 -- a step is refused, or answers what its line answers
 abbrev Stepped : World → ℕ → Answer → Type 0
-Stepped W i a = ((r : Refusal) × (a ≡ Refused r)) ⊎ (a ≡ nextEffect W i .answer)
+Stepped W i a = ((r : Refusal) × (a ≡ Refused r)) ⊎ (a ≡ nextLeft W i .answer)
 
 step-answer : (W : World) (i : ℕ) → Stepped W i (callOf W (step i) .answer)
 step-answer W i = step-cases (λ (D : Outcome). Stepped W i (D .answer)) W (λ r l. inl (r, refl)) i (λ M. inr refl)
 
-goes-take : (κ : Kind) (w ω : ℕ) (q : Queue) (m : List ℕ) (i : ℕ) (l : Line) → l ≡ TakeRead → lineStep κ w ω q m i l .answer ≡ GoesOn
-unfolding lineStep
+goes-take : (κ : Kind) (w ω : ℕ) (q : Queue) (m : List ℕ) (i : ℕ) (l : Line) → l ≡ TakeRead → lineLeft κ w ω q m i l .answer ≡ GoesOn
+unfolding lineLeft
 goes-take κ w ω q m i l e = rw e
 
-goes-steal : (κ : Kind) (w ω : ℕ) (q : Queue) (m : List ℕ) (i : ℕ) (l : Line) → l ≡ StealRead → lineStep κ w ω q m i l .answer ≡ GoesOn
-unfolding lineStep
+goes-steal : (κ : Kind) (w ω : ℕ) (q : Queue) (m : List ℕ) (i : ℕ) (l : Line) → l ≡ StealRead → lineLeft κ w ω q m i l .answer ≡ GoesOn
+unfolding lineLeft
 goes-steal κ w ω q m i l e = rw e
 
-accepted-is : (W : World) (i : ℕ) (a b : Answer) → nextEffect W i .answer ≡ b
+accepted-is : (W : World) (i : ℕ) (a b : Answer) → nextLeft W i .answer ≡ b
     → ((r : Refusal) → a ≡ Refused r → ⊥) → Stepped W i a → a ≡ b
 accepted-is W i a b e n (inl (r, q)) = absurd (n r q)
 accepted-is W i a b e n (inr q) = q ∙ e

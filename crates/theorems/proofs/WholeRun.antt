@@ -19,15 +19,16 @@ use Rattle.model.specs.declared.Operation.{Operation}
 use Rattle.model.specs.declared.Operation.the-variants.{Put, Take, Steal}
 use Rattle.model.specs.Tests.{if_then_else_, _and_, _or_}
 use Rattle.model.specs.Answers.{entryOf, ends, entryLength, entryWords, logged}
-use Rattle.model.specs.Lines.{Effect, holdsLink}
+use Rattle.model.specs.Lines.{holdsLink}
 use Rattle.model.specs.World.{World, Outcome, tagBits, resting, lineAt, isIdle, isSteal1, isPast1}
 use Rattle.model.specs.Limits.{kindOk, linkOk}
-use Rattle.model.specs.Calls.{linkSet, relinked, logFull, usedBy, firstLine, begun, stepped, nextEffect, Call, callOf}
+use Rattle.model.specs.Calls.{linkSet, relinked, logFull, usedBy, firstLine, begun, Call, callOf}
 use Rattle.model.specs.Run.{after}
 use Rattle.model.proofs.Tests.{or-false}
 use Rattle.model.specs.declared.Payload.{Payload}
 use Rattle.model.specs.Tasks.{task, firstWords}
 use Rattle.model.proofs.Tasks.{gathered-again, first-number}
+use Rattle.theorems.proofs.Effects.{Left, leftBy, nextLeft}
 use Rattle.theorems.proofs.Words.{set-all-length}
 use Rattle.theorems.proofs.Cases.{dropped, MayBegin, MayStep, call-cases}
 use Rattle.theorems.proofs.Shape.{tail, Spent, Known, Shape}
@@ -178,45 +179,45 @@ module _ {W : World} (H : Whole W) where
       }
 
   -- STEP
-  abbrev ShapeAfter : Effect → Line → (ℕ → Line) → Type 0
+  abbrev ShapeAfter : Left → Line → (ℕ → Line) → Type 0
   ShapeAfter E o φ = Shape (W .bench .kind) (tagBits (W .bench)) (W .bench .words) (W .bench .used) (E .queue) (E .store) o φ
 
-  line-shape : (i : ℕ) → i < W .bench .crew → let x = nextEffect W i .line in
-      ShapeAfter (nextEffect W i) (lineAt (set (W .bench .workers) i (record { line = x })) 0) (thieves (set (W .bench .workers) i (record { line = x })))
+  line-shape : (i : ℕ) → i < W .bench .crew → let x = nextLeft W i .line in
+      ShapeAfter (nextLeft W i) (lineAt (set (W .bench .workers) i (record { line = x })) 0) (thieves (set (W .bench .workers) i (record { line = x })))
   line-shape zero l =
-      own-back (ShapeAfter (nextEffect W 0)) (W .bench .workers) (nextEffect W 0 .line) (in-crew 0 l)
+      own-back (ShapeAfter (nextLeft W 0)) (W .bench .workers) (nextLeft W 0 .line) (in-crew 0 l)
       (own-shaped _ _ _ _ _ _ _ (lineAt (W .bench .workers) 0) (H .words .1) (H .shape))
   line-shape (suc k) l =
-      thief-back (ShapeAfter (nextEffect W (suc k))) (W .bench .workers) k (nextEffect W (suc k) .line) (in-crew (suc k) l)
+      thief-back (ShapeAfter (nextLeft W (suc k))) (W .bench .workers) k (nextLeft W (suc k) .line) (in-crew (suc k) l)
       (thief-shaped _ _ _ _ _ _ _ _ k (lineAt (W .bench .workers) (suc k)) (H .words .1) (H .kinds) (H .shape) (H .shape .th k))
 
-  pub kept-links : (i : ℕ) → LinksKept (W .bench .queue) (nextEffect W i)
+  pub kept-links : (i : ℕ) → LinksKept (W .bench .queue) (nextLeft W i)
   kept-links i = line-links (W .bench .kind) (tagBits (W .bench)) (W .bench .words) (W .bench .queue) (W .store) i (lineAt (W .bench .workers) i)
 
   -- a line keeps the tag's bits
-  pub same-tag : (i : ℕ) → tagBits (W .bench) ≡ tagBits (stepped W i (nextEffect W i) .world .bench)
+  pub same-tag : (i : ℕ) → tagBits (W .bench) ≡ tagBits (leftBy W i (nextLeft W i) .world .bench)
   same-tag i = ap (λ (x : Bool). if x then 0 else W .bench .width) (sym (kept-links i .linked))
 
-  shape-tag : (i : ℕ) {q : Queue} {o : Line} {φ : ℕ → Line} → Shape (W .bench .kind) (tagBits (W .bench)) (W .bench .words) (W .bench .used) q (nextEffect W i .store) o φ
-      → Shape (W .bench .kind) (tagBits (stepped W i (nextEffect W i) .world .bench)) (W .bench .words) (W .bench .used) q (nextEffect W i .store) o φ
-  shape-tag i {q} {o} {φ} S = subst (λ (w : ℕ). Shape (W .bench .kind) w (W .bench .words) (W .bench .used) q (nextEffect W i .store) o φ) (same-tag i) S
+  shape-tag : (i : ℕ) {q : Queue} {o : Line} {φ : ℕ → Line} → Shape (W .bench .kind) (tagBits (W .bench)) (W .bench .words) (W .bench .used) q (nextLeft W i .store) o φ
+      → Shape (W .bench .kind) (tagBits (leftBy W i (nextLeft W i) .world .bench)) (W .bench .words) (W .bench .used) q (nextLeft W i .store) o φ
+  shape-tag i {q} {o} {φ} S = subst (λ (w : ℕ). Shape (W .bench .kind) w (W .bench .words) (W .bench .used) q (nextLeft W i .store) o φ) (same-tag i) S
 
   held-by : (i : ℕ) → Held (W .bench .kind) (tagBits (W .bench)) (W .bench .words) (W .bench .queue) (H .shape .low) (tail (W .bench .kind) (W .bench .queue)) (lineAt (W .bench .workers) i)
   held-by zero = inl (H .shape .own)
   held-by (suc k) = inr (H .shape .th k)
 
   -- worker i holds a link after its step
-  pub linked-step : (i : ℕ) → let E = nextEffect W i in
+  pub linked-step : (i : ℕ) → let E = nextLeft W i in
       (isPast1 (E .line) and ((E .queue .linked and isSteal1 (lineAt (W .bench .workers) i)) or holdsLink (E .queue) i)) ≡ true
       → ((lineAt (W .bench .workers) i ≡ StealRead) ⊎ (holdsLink (E .queue) i ≡ true))
       × (linkOk (W .bench .kind) (relinked (E .queue) i (lineAt (W .bench .workers) i) (E .line)) (E .line) ≡ true)
   linked-step i x = linked-now (W .bench .kind) (tagBits (W .bench)) (W .bench .words) (W .bench .queue) (W .store) i _ _ (lineAt (W .bench .workers) i) (H .kinds) (held-by i) (H .links i) x
 
-  stepped-links : (i : ℕ) → i < W .bench .crew → LinksOk (W .bench .kind) (stepped W i (nextEffect W i) .world .bench .queue) (stepped W i (nextEffect W i) .world .bench .workers)
-  stepped-links i l k h = go (held-set (nextEffect W i .queue .links) i k _ h)
+  stepped-links : (i : ℕ) → i < W .bench .crew → LinksOk (W .bench .kind) (leftBy W i (nextLeft W i) .world .bench .queue) (leftBy W i (nextLeft W i) .world .bench .workers)
+  stepped-links i l k h = go (held-set (nextLeft W i .queue .links) i k _ h)
     where
-      E : Effect
-      E = nextEffect W i
+      E : Left
+      E = nextLeft W i
 
       q′ : Queue
       q′ = relinked (E .queue) i (lineAt (W .bench .workers) i) (E .line)
@@ -232,8 +233,8 @@ module _ {W : World} (H : Whole W) where
           link-as (W .bench .kind) (W .bench .queue) q′ θ θ (kept-links i .linked) b (link-parts (W .bench .kind) (W .bench .queue) θ o .1) refl o)
 
   -- the log's length stays within the slice
-  written-in : (i : ℕ) (E : Effect) (x y : Bool) → ends (E .answer) ≡ x → logFull (W .bench .words) (W .log) (W .bench .written) ≡ y → x and y ≡ false
-      → stepped W i E .world .bench .written ≤ length (logged (W .bench .words) (W .log) (W .bench .written) (E .answer))
+  written-in : (i : ℕ) (E : Left) (x y : Bool) → ends (E .answer) ≡ x → logFull (W .bench .words) (W .log) (W .bench .written) ≡ y → x and y ≡ false
+      → leftBy W i E .world .bench .written ≤ length (logged (W .bench .words) (W .log) (W .bench .written) (E .answer))
   unfolding _and_ if_then_else_
   written-in i E true true ex ey nb = absurd (let z : _≡_ {A = ℕ} 0 1 = cc in omega arith)
   written-in i E true false ex ey nb =
@@ -245,7 +246,7 @@ module _ {W : World} (H : Whole W) where
       ))
   written-in i E false y ex ey nb = rw ex (H .logged)
 
-  stepped-whole : (i : ℕ) → MayStep W i → Whole (stepped W i (nextEffect W i) .world)
+  stepped-whole : (i : ℕ) → MayStep W i → Whole (leftBy W i (nextLeft W i) .world)
   stepped-whole i M =
       record {
         kinds = subst (λ (x : Bool). kindOk (W .bench .kind) x ≡ true) (sym (kept-links i .linked)) (H .kinds);
@@ -254,9 +255,9 @@ module _ {W : World} (H : Whole W) where
         words = H .words;
         crew = H .crew;
         workers = length-set (W .bench .workers) i _ ∙ H .workers;
-        rest = rested i (nextEffect W i .line) (M .member);
+        rest = rested i (nextLeft W i .line) (M .member);
         used = H .used;
-        logged = written-in i (nextEffect W i) _ _ refl refl (M .room);
+        logged = written-in i (nextLeft W i) _ _ refl refl (M .room);
         shape = shape-tag i (shape-relink i _ (line-shape i (M .member)));
       }
 

@@ -1,15 +1,16 @@
 //! Plays a list of library calls and prints their answers.
 //!
-//!     calls [--check] < list > answers
+//!     calls [--check] [--delayed] < list > answers
 //!
 //! A line that is not of the form is named on standard error and ends it; the
 //! answers to what was played before stay printed. With `--check` what was played
-//! is also checked by demand 3, and the restarts of each worker are counted from
-//! its history; what was found is said on standard error.
+//! is also checked by demand 3, the restarts of each worker are counted from its
+//! history, and so on; what was found is said on standard error. With `--delayed`
+//! the list may have delayed stores, which the library has not yet.
 //!
 //! Exit status: 0; 1 if the list can't be read or the answers can't be written;
-//! 2 if demand 3 was violated while its premise held or a restart was miscounted;
-//! 64 for a flag it does not know; 65 if a line is not of the form.
+//! 2 if a check failed, demand 3 while its premise held; 64 for a flag it does not
+//! know; 65 if a line is not of the form.
 
 use std::io::{self, BufWriter};
 use std::process::ExitCode;
@@ -20,24 +21,38 @@ use simulator::input::{for_each_line, Trouble};
 use simulator::witness::{Blind, Witness};
 
 fn main() -> ExitCode {
-    let flags: Vec<String> = std::env::args().skip(1).collect();
-    match &flags[..] {
-        [] => play(&mut Calls::new(Blind)),
-        [flag] if flag == "--check" => {
-            let mut calls = Calls::new(Checks::new());
-            let status = play(&mut calls);
-            let checks = calls.witness();
-            eprintln!("{checks}");
-            if checks.failed() {
-                ExitCode::from(2)
-            } else {
-                status
+    let mut check = false;
+    let mut delayed = false;
+    for flag in std::env::args().skip(1) {
+        match &flag[..] {
+            "--check" => check = true,
+            "--delayed" => delayed = true,
+            _ => {
+                eprintln!("usage: calls [--check] [--delayed] < list > answers");
+                return ExitCode::from(64);
             }
         }
-        _ => {
-            eprintln!("usage: calls [--check] < list > answers");
-            ExitCode::from(64)
-        }
+    }
+    if !check {
+        return play(&mut started(Blind, delayed));
+    }
+    let mut calls = started(Checks::new(), delayed);
+    let status = play(&mut calls);
+    let checks = calls.witness();
+    eprintln!("{checks}");
+    if checks.failed() {
+        ExitCode::from(2)
+    } else {
+        status
+    }
+}
+
+fn started<W: Witness>(witness: W, delayed: bool) -> Calls<W> {
+    let calls = Calls::new(witness);
+    if delayed {
+        calls.with_delayed_stores()
+    } else {
+        calls
     }
 }
 

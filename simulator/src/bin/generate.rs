@@ -157,7 +157,7 @@ fn shape(random: &mut Random, style: Style) -> (Shape, u32) {
         13 | 14 => 8,
         _ => random.between(4, 8),
     };
-    (Shape { kind, width, size, crew, payload_words }, words)
+    (Shape { kind, width, size, crew, payload_words, delayed: false }, words)
 }
 
 /// The sixth number with a space before it, which may be left out if it is 1.
@@ -175,7 +175,7 @@ fn before_the_queue(script: &mut Script, words: u32) {
         return;
     }
     for _ in 0..script.random.between(1, 12) {
-        let Shape { kind, width, size, crew, payload_words } = script.shape;
+        let Shape { kind, width, size, crew, payload_words, .. } = script.shape;
         let large = script.random.between(9, 5000);
         let sixth = sixth(&mut script.random, payload_words);
         match script.random.below(14) {

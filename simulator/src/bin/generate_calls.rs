@@ -1,9 +1,10 @@
 //! Writes a random list of library calls.
 //!
-//!     generate_calls SEED [CALLS]
+//!     generate_calls [--delayed] SEED [CALLS]
 //!
 //! The same seed gives the same list. CALLS is about how many calls it makes;
-//! without it the seed decides. A list has stretches, each with a bench of its
+//! without it the seed decides. With `--delayed` most benches have delayed stores,
+//! which the library has not yet. A list has stretches, each with a bench of its
 //! own on the same memory. In a stretch workers are paused where the queues are
 //! delicate, as in the runs of `generate`, and links fail; between that stand
 //! calls that the program has no line for, and looks at the shared state and at
@@ -15,19 +16,24 @@ use std::process::ExitCode;
 use simulator::bench::Shape;
 use simulator::episodes as act;
 use simulator::random::Random;
-use simulator::script::{Looks, Script};
+use simulator::script::{Drains, Looks, Script};
 
 fn main() -> ExitCode {
-    let values: Vec<Option<u64>> = std::env::args().skip(1).map(|text| text.parse().ok()).collect();
+    let mut words: Vec<String> = std::env::args().skip(1).collect();
+    let delayed = words.first().is_some_and(|word| word == "--delayed");
+    if delayed {
+        words.remove(0);
+    }
+    let values: Vec<Option<u64>> = words.iter().map(|text| text.parse().ok()).collect();
     let (seed, calls) = match values[..] {
         [Some(seed)] => (seed, None),
         [Some(seed), Some(calls)] => (seed, Some(calls)),
         _ => {
-            eprintln!("usage: generate_calls SEED [CALLS]");
+            eprintln!("usage: generate_calls [--delayed] SEED [CALLS]");
             return ExitCode::from(64);
         }
     };
-    let text = list(seed, calls);
+    let text = list(seed, calls, delayed);
     if let Err(error) = std::io::stdout().write_all(&text) {
         eprintln!("generate_calls: the list can't be written: {error}");
         return ExitCode::FAILURE;
@@ -35,7 +41,7 @@ fn main() -> ExitCode {
     ExitCode::SUCCESS
 }
 
-fn list(seed: u64, calls: Option<u64>) -> Vec<u8> {
+fn list(seed: u64, calls: Option<u64>, delayed: bool) -> Vec<u8> {
     let mut random = Random::new(seed);
     let (first, store, log) = match random.below(100) {
         // With one or two payload words it can be the size alone that forbids a
@@ -46,12 +52,13 @@ fn list(seed: u64, calls: Option<u64>) -> Vec<u8> {
     };
     let looks = looks(&mut random, store, log);
     let calls = calls.unwrap_or_else(|| u64::from(random.between(300, 4000)));
-    let mut script = Script::calls(random, store, log);
+    let mut script = Script::calls(random, store, log, delayed);
     script.looks = looks;
     if script.random.chance(40) {
         strays(&mut script);
     }
     let shape = shape(&mut script.random, store);
+    let shape = with_line(&mut script, shape);
     match first {
         First::LargestArray => {
             let size = *script.random.pick(&[512, 1024]);
@@ -133,6 +140,7 @@ fn looks(random: &mut Random, store: u32, log: u32) -> Looks {
 /// A bench, what is done with it, and looks at what it leaves.
 fn stretch(script: &mut Script, store: u32) {
     let shape = shape(&mut script.random, store);
+    let shape = with_line(script, shape);
     let shape = if script.random.chance(25) { damaged(&mut script.random, shape) } else { shape };
     if !script.fresh(shape) {
         return strays(script);
@@ -161,7 +169,13 @@ fn stretch(script: &mut Script, store: u32) {
     ]);
     let linked = shape.kind >= 4;
     let favourite = if linked && script.random.chance(60) { act::links_fail } else { favourite };
-    let until = script.steps() + u64::from(script.random.between(50, 1500));
+    let favourite = if shape.delayed && script.random.chance(60) { act::delayed } else { favourite };
+    if shape.delayed && shape.size < 64 && script.random.chance(60) {
+        act::growth_waits(script);
+    }
+    // An array grows but a few times in a stretch: short ones see more of it.
+    let most = if shape.delayed { 400 } else { 1500 };
+    let until = script.steps() + u64::from(script.random.between(50, most));
     while script.entries_left() > 0 && script.steps() < until {
         match script.random.below(100) {
             0..=7 => act::refusals(script),
@@ -208,7 +222,21 @@ fn shape(random: &mut Random, store: u32) -> Shape {
         14 | 15 => 8,
         _ => random.between(4, 8),
     };
-    Shape { kind: random.between(1, 5), width, size: 1 << exponent, crew, payload_words }
+    Shape { kind: random.between(1, 5), width, size: 1 << exponent, crew, payload_words, delayed: false }
+}
+
+/// The same with delayed stores, mostly, and how they drain; with neither in a
+/// list that may have none.
+fn with_line(script: &mut Script, shape: Shape) -> Shape {
+    if !script.delayed_stores() {
+        return shape;
+    }
+    script.drains = Drains {
+        now_and_then: *script.random.pick(&[0, 5, 20, 20, 40, 70]),
+        go_on: *script.random.pick(&[50, 90, 95, 100]),
+        sparing: script.random.chance(30),
+    };
+    Shape { delayed: script.random.chance(90), ..shape }
 }
 
 /// The same with a number or more out of its range, or just within.
@@ -239,6 +267,9 @@ fn strays(script: &mut Script) {
             8 => script.random.between(8, 300),
             _ => *script.random.pick(&[256, 257, 1 << 31, u32::MAX - 1, u32::MAX]),
         };
+        if script.delayed_stores() && script.random.chance(20) {
+            script.drain();
+        }
         match script.random.below(11) {
             0 | 1 => script.begin_put(worker),
             2 | 3 => script.begin_take(worker),
@@ -271,7 +302,9 @@ fn the_end(script: &mut Script) {
                 "who", "who ", "who 1 1", "who x", "who 01", "who 4294967296", "whom 1", "begin 1 who",
                 "memory 2 4", "State", "front 0",
             ]);
-            script.say(line);
+            // With delayed stores a sixth number is of the form.
+            let seventh = script.delayed_stores() && line == "fresh 1 1 1 1 1 1";
+            script.say(if seventh { "fresh 1 1 1 1 1 1 1" } else { line });
             script.unplayed(b"step 0 1\nstate\nfront\n");
         }
         1 => script.drop_last_newline(),

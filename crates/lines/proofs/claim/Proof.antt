@@ -5,8 +5,8 @@ use borrow.Author.Needs.{needs}
 use Rattle.model.specs.Tests.{if_then_else_}
 use Rattle.model.specs.Lines.{fits}
 use Rattle.slots.specs.Bounds.{Sized}
-use Rattle.lines.specs.Actions.{queueBy, storeBy, answerBy, failsBy, Doable}
-use Rattle.lines.proofs.Room.{in-room}
+use Rattle.lines.specs.Actions.{claimsBy, storesBy, answerBy, failsBy, Doable}
+use Rattle.lines.proofs.Room.{claims-are}
 use Rattle.lines.proofs.claim.Statement.{statement}
 use Rattle.lines.proofs.claim.Tie as tie
 
@@ -26,20 +26,23 @@ twice-as-long-requires : tie.Need-twice-as-long-requires
 twice-as-long-requires c κs = search needs
 
 returns : tie.Need-returns
-unfolding queueBy storeBy answerBy failsBy Doable if_then_else_
+unfolding claimsBy storesBy answerBy failsBy Doable if_then_else_
 returns c =
     let start = c .before .before .before .before .before .before in
     let q = start .args .queue in
     let m = start .args .store .now in
     let has = c .before .before .before .before .has-room .ensures in
     let room : (v : ℕ) → Sized v q (q .published - 1) → fits v q m ≡ true = λ v S. sym (has v S) ∙ c .before .before .before .if1 .taken in (
-      λ v S. simp (room v S, c .twice-as-long .ensures, c .before .end-of .ensures),
-      (λ v S f. in-room v q m f (room v S) (c .twice-as-long .ensures) (c .before .end-of .ensures), refl),
+      λ v S. record { claims = simp (room v S); stores = simp (room v S); answer = simp (room v S) },
+      (λ v S f. claims-are v q m f (room v S) (c .twice-as-long .ensures) (c .before .end-of .ensures), refl),
     )
 
 returns-2 : tie.Need-returns-2
-unfolding queueBy storeBy answerBy failsBy Doable if_then_else_
-returns-2 c = (λ v S. simp (sym (c .before .has-room .ensures v S) ∙ c .if1 .left), (λ v S f. refl, refl))
+unfolding claimsBy storesBy answerBy failsBy Doable if_then_else_
+returns-2 c = (
+  λ v S. let none = sym (c .before .has-room .ensures v S) ∙ c .if1 .left in record { claims = simp none; stores = simp none; answer = simp none },
+  (λ v S f. refl, refl),
+)
 
 pub claim-spec : {M : Type 1} → statement M
 claim-spec =

@@ -1,14 +1,16 @@
--- An arm knows its line, and with it what `Ready` says there; five places before the arm stands the function's entry.
-use mathlib.Core.Path.{refl}
-use Prim.Native.Nat.{_-_}
+-- An arm knows its line, and with it what `Ready` says there; four places before the arm stands the function's entry.
+use mathlib.Core.Path.{refl, ap, subst}
+use Prim.Native.Nat.{ℕ, _+_, _-_, _*_}
 use native.Mathlib.Omega.{arith}
+use lib.ListN.{length}
 use borrow.Author.Needs.{needs}
-use Rattle.model.specs.Memory.{setWord}
+use Rattle.model.specs.Memory.{offsetAt}
 use Rattle.model.specs.Lines.{lineStep}
-use Rattle.slots.specs.Bounds.{Sized}
-use Rattle.slots.proofs.Places.{word-in, all-in}
-use Rattle.lines.specs.Actions.{Ready, queueBy, storeBy, answerBy, failsBy, Doable}
+use Rattle.slots.specs.Bounds.{Power, Sized}
+use Rattle.slots.proofs.Places.{slot-is, slot-few, read-in}
+use Rattle.lines.specs.Actions.{Ready, claimsBy, storesBy, answerBy, failsBy, Lands, Doable}
 use Rattle.lines.proofs.Copies.{copies-are}
+use Rattle.lines.proofs.LastLines.{put-anchor, take-anchor}
 use Rattle.lines.proofs.decide.Statement.{statement}
 use Rattle.lines.proofs.decide.Tie as tie
 
@@ -33,30 +35,30 @@ enum-told-4 c = search needs
 enum-known-line : tie.Need-enum-known-line
 enum-known-line c = search needs
 
-put-place-requires : tie.Need-put-place-requires
+put-slot-requires : tie.Need-put-slot-requires
 unfolding Ready
-put-place-requires c κs =
+put-slot-requires c κs =
     let arm = c .before in
-    let start = arm .before .before .before .before .before in
+    let start = arm .before .before .before .before in
     let h = rw (arm .line .given .1) at (start .pre .1 .1) in
-    (start .pre .1 .0 .wide, (h .1 .0, (h .0, (h .1 .1, h .2))))
+    (h .1 .0, (h .0, (omega (arith, h .1 .1 .0), subst Power (h .1 .1 .0 .0) (h .1 .1 .1))))
 
 word-in-requires : tie.Need-word-in-requires
 unfolding Ready
 word-in-requires c κs =
     let arm = c .before .before in
-    let start = arm .before .before .before .before .before in
+    let start = arm .before .before .before .before in
     let h = rw (arm .line .given .1) at (start .pre .1 .1) in
     omega (arith, h .2, start .pre .1 .0 .wide)
 
 enum-known-line-2 : tie.Need-enum-known-line-2
 enum-known-line-2 c = search needs
 
-after-put-requires : tie.Need-after-put-requires
+put-store-requires : tie.Need-put-store-requires
 unfolding Ready
-after-put-requires c κs =
+put-store-requires c κs =
     let arm = c .before in
-    let start = arm .before .before .before .before .before in
+    let start = arm .before .before .before .before in
     let h = rw (arm .line2 .given .1) at (start .pre .1 .1) in
     omega (arith, h)
 
@@ -64,9 +66,13 @@ enum-known-line-3 : tie.Need-enum-known-line-3
 enum-known-line-3 c = search needs
 
 claim-requires : tie.Need-claim-requires
+unfolding Ready
 claim-requires c κs =
-    let G = c .before .before .before .before .before .before .pre .1 .0 in
-    ((G .some, G .listed), (omega (arith, G .doubled, G .small), (G .brief, G .near)))
+    let arm = c .before in
+    let start = arm .before .before .before .before in
+    let G = start .pre .1 .0 in
+    let h = rw (arm .line3 .given .1) at (start .pre .1 .1) in
+    ((G .some, G .listed), (omega (arith, G .doubled, G .small), ((G .brief, G .near), h .0)))
 
 enum-told-5 : tie.Need-enum-told-5
 enum-told-5 c = search needs
@@ -78,7 +84,7 @@ add-index : tie.Need-add-index
 unfolding Ready
 add-index c =
     let arm = c .before in
-    let start = arm .before .before .before .before .before in
+    let start = arm .before .before .before .before in
     let h = rw (arm .line4 .given .1) at (start .pre .1 .1) in
     omega (arith, h)
 
@@ -86,20 +92,20 @@ read-task-requires : tie.Need-read-task-requires
 unfolding Ready
 read-task-requires c κs =
     let arm = c .before in
-    let start = arm .before .before .before .before .before in
+    let start = arm .before .before .before .before in
     let h = rw (arm .line4 .given .1) at (start .pre .1 .1) in
     (start .pre .1 .0 .wide, (h .2 .0, (h .2 .1, h .2 .2)))
 
 cast-claimed : tie.Need-cast-claimed
 cast-claimed c = search needs
 
-place-requires : tie.Need-place-requires
+slot-at-requires : tie.Need-slot-at-requires
 unfolding Ready
-place-requires c κs =
-    let arm = c .before .before .before in
-    let start = arm .before .before .before .before .before in
+slot-at-requires c κs =
+    let arm = c .before .before in
+    let start = arm .before .before .before .before in
     let h = rw (arm .line4 .given .1) at (start .pre .1 .1) in
-    (start .pre .1 .0 .wide, (h .3 .0, (h .3 .1, omega arith)))
+    (h .3 .0, (omega (arith, h .3 .1 .0), subst Power (h .3 .1 .0 .0) (h .3 .1 .1)))
 
 enum-told-6 : tie.Need-enum-told-6
 enum-told-6 c = search needs
@@ -122,11 +128,11 @@ enum-told-9 c = search needs
 enum-known-line-6 : tie.Need-enum-known-line-6
 enum-known-line-6 c = search needs
 
-after-take-requires : tie.Need-after-take-requires
+take-store-requires : tie.Need-take-store-requires
 unfolding Ready
-after-take-requires c κs =
+take-store-requires c κs =
     let arm = c .before in
-    let start = arm .before .before .before .before .before in
+    let start = arm .before .before .before .before in
     let h = rw (arm .line6 .given .1) at (start .pre .1 .1) in
     (h .0 .0, h .1)
 
@@ -158,131 +164,153 @@ compare-requires : tie.Need-compare-requires
 unfolding Ready
 compare-requires c κs =
     let arm = c .before in
-    let start = arm .before .before .before .before .before in
+    let start = arm .before .before .before .before in
     rw (arm .line8 .given .1) at (start .pre .1 .1)
 
 returns : tie.Need-returns
-unfolding lineStep queueBy storeBy answerBy failsBy Doable
-returns c = (simp (c .enum-told .given .1), (tt, simp (c .enum-told .given .1)))
+unfolding lineStep claimsBy storesBy answerBy failsBy Doable
+returns c = let e = c .enum-told .given .1 in (record { claims = simp e; stores = simp e; answer = simp e }, (tt, simp e))
 
 returns-2 : tie.Need-returns-2
-unfolding lineStep queueBy storeBy answerBy failsBy Doable
-returns-2 c = (simp (c .enum-told2 .given .1), (tt, simp (c .enum-told2 .given .1)))
+unfolding lineStep claimsBy storesBy answerBy failsBy Doable
+returns-2 c = let e = c .enum-told2 .given .1 in (record { claims = simp e; stores = simp e; answer = simp e }, (tt, simp e))
 
 returns-3 : tie.Need-returns-3
-unfolding lineStep queueBy storeBy answerBy failsBy Doable
-returns-3 c = (simp (c .enum-told3 .given .1), (tt, simp (c .enum-told3 .given .1)))
+unfolding lineStep claimsBy storesBy answerBy failsBy Doable
+returns-3 c = let e = c .enum-told3 .given .1 in (record { claims = simp e; stores = simp e; answer = simp e }, (tt, simp e))
 
 returns-4 : tie.Need-returns-4
-unfolding lineStep queueBy storeBy answerBy failsBy Doable
-returns-4 c = (simp (c .enum-told4 .given .1), (tt, simp (c .enum-told4 .given .1)))
+unfolding lineStep claimsBy storesBy answerBy failsBy Doable
+returns-4 c = let e = c .enum-told4 .given .1 in (record { claims = simp e; stores = simp e; answer = simp e }, (tt, simp e))
 
 returns-5 : tie.Need-returns-5
-unfolding lineStep queueBy storeBy answerBy failsBy Doable setWord Ready
+unfolding lineStep claimsBy storesBy answerBy failsBy Doable Lands Ready
 returns-5 c =
     let arm = c .before .before .before in
-    let start = arm .before .before .before .before .before in
+    let start = arm .before .before .before .before in
+    let a = start .args in
     let e = arm .line .given .1 in
-    let h = rw e at (start .pre .1 .1) in (
-      simp (e, c .before .put-place .ensures, c .word-in .ensures),
-      (word-in (start .args .kind) _ (start .args .queue) _ _ _ _ (h .1 .1) (h .1 .2) (h .2) (c .before .put-place .ensures), simp e),
+    let h = rw e at (start .pre .1 .1) in
+    let slot = slot-is (a .kind) (a .words) (a .queue) _ _ (h .1 .1) (c .before .put-slot .ensures) in
+    let few = slot-few (a .kind) (a .words) (a .queue) _ _ (h .1 .1) (c .before .put-slot .ensures) in
+    let place = offsetAt (a .queue .arrays) (a .queue .published - 1) in
+    let inside = read-in (a .kind) (a .words) (a .queue) (length (a .store .now)) _ _ _ (h .1 .1) (h .1 .2) (h .2) in (
+      record { claims = simp e; stores = simp (e, slot, c .word-in .ensures); answer = simp e },
+      ((h .1 .0, few, h .2, omega (arith, ap (λ (x : ℕ). place + (a .words + 1) * x) slot, inside)), simp e),
     )
 
 returns-6 : tie.Need-returns-6
-unfolding lineStep queueBy storeBy answerBy failsBy Doable
-returns-6 c = (simp (c .before .before .line2 .given .1, c .after-put .ensures), (refl, simp (c .before .before .line2 .given .1)))
+unfolding lineStep claimsBy storesBy answerBy failsBy Doable
+returns-6 c =
+    let arm = c .before .before in
+    let a = arm .before .before .before .before .args in
+    let e = arm .line2 .given .1 in
+    let left = c .put-store .ensures in
+    (record { claims = simp e; stores = simp (e, left); answer = simp e }, ((put-anchor _ (a .kind) (a .width) left, refl), simp e))
 
 returns-7 : tie.Need-returns-7
-unfolding lineStep queueBy storeBy answerBy failsBy Doable Ready
+unfolding lineStep claimsBy storesBy answerBy failsBy Doable Ready
 returns-7 c =
     let e = c .before .before .line3 .given .1 in
-    let start = c .before .before .before .before .before .before .before in
+    let start = c .before .before .before .before .before .before in
     let G = start .pre .1 .0 in
     let free = rw e at (start .pre .1 .1) in
     let a = start .args in
     let S : Sized (a .words) (a .queue) (a .queue .published - 1) = (G .doubled, G .small) in
     let t = c .claim .ensures in
-    (simp (e, t .0 (a .words) S), (t .1 .0 (a .words) S free, simp (e, t .1 .1)))
+    let does = t .0 (a .words) S in
+    (record { claims = simp e (does .claims); stores = simp e (does .stores); answer = simp e (does .answer) }, (t .1 .0 (a .words) S free, simp (e, t .1 .1)))
 
 returns-8 : tie.Need-returns-8
-unfolding lineStep queueBy storeBy answerBy failsBy Doable
-returns-8 c = (simp (c .enum-told5 .given .1), (tt, simp (c .enum-told5 .given .1)))
+unfolding lineStep claimsBy storesBy answerBy failsBy Doable
+returns-8 c = let e = c .enum-told5 .given .1 in (record { claims = simp e; stores = simp e; answer = simp e }, (tt, simp e))
 
 returns-9 : tie.Need-returns-9
-unfolding lineStep queueBy storeBy answerBy failsBy Doable setWord Ready
+unfolding lineStep claimsBy storesBy answerBy failsBy Doable Lands Ready
 returns-9 c =
-    let arm = c .before .before .before .before in
-    let start = arm .before .before .before .before .before in
+    let arm = c .before .before .before in
+    let start = arm .before .before .before .before in
     let a = start .args in
     let e = arm .line4 .given .1 in
     let h = rw e at (start .pre .1 .1) in
     let wide = start .pre .1 .0 .wide .1 in
-    let task = c .before .before .read-task .ensures in
-    let copies = copies-are (a .kind) (a .words) (a .queue) (a .store .now) _ _ wide (c .place .ensures) task in (
-      simp (e, copies),
-      (all-in (a .kind) _ (a .queue) _ _ _ (h .3 .1) (h .3 .2) (c .place .ensures), simp e),
+    let slot = slot-is (a .kind) (a .words) (a .queue) _ _ (h .3 .1) (c .slot-at .ensures) in
+    let few = slot-few (a .kind) (a .words) (a .queue) _ _ (h .3 .1) (c .slot-at .ensures) in
+    let place = offsetAt (a .queue .arrays) (a .queue .published) in
+    let inside = read-in (a .kind) (a .words) (a .queue) (length (a .store .now)) _ _ (a .words) (h .3 .1) (h .3 .2) (omega arith) in
+    let copies = copies-are (a .kind) (a .words) (a .queue) (a .store .now) _ wide slot (c .before .read-task .ensures) in (
+      record { claims = simp e; stores = simp e copies; answer = simp e },
+      ((h .3 .0, few, omega (arith, ap (λ (x : ℕ). place + (a .words + 1) * x) slot, inside)), simp e),
     )
 
 returns-10 : tie.Need-returns-10
-unfolding lineStep queueBy storeBy answerBy failsBy Doable
-returns-10 c = (simp (c .enum-told6 .given .1), (tt, simp (c .enum-told6 .given .1)))
+unfolding lineStep claimsBy storesBy answerBy failsBy Doable Lands
+returns-10 c = let e = c .enum-told6 .given .1 in (record { claims = simp e; stores = simp e; answer = simp e }, (refl, simp e))
 
 returns-11 : tie.Need-returns-11
-unfolding lineStep queueBy storeBy answerBy failsBy Doable
-returns-11 c = (simp (c .enum-told7 .given .1), (tt, simp (c .enum-told7 .given .1)))
+unfolding lineStep claimsBy storesBy answerBy failsBy Doable
+returns-11 c = let e = c .enum-told7 .given .1 in (record { claims = simp e; stores = simp e; answer = simp e }, (tt, simp e))
 
 returns-12 : tie.Need-returns-12
-unfolding lineStep queueBy storeBy answerBy failsBy Doable
-returns-12 c = (simp (c .enum-told8 .given .1), (tt, simp (c .enum-told8 .given .1)))
+unfolding lineStep claimsBy storesBy answerBy failsBy Doable
+returns-12 c = let e = c .enum-told8 .given .1 in (record { claims = simp e; stores = simp e; answer = simp e }, (tt, simp e))
 
 returns-13 : tie.Need-returns-13
-unfolding lineStep queueBy storeBy answerBy failsBy Doable
+unfolding lineStep claimsBy storesBy answerBy failsBy Doable
 returns-13 c =
     let e = c .before .before .line5 .given .1 in
     let t = c .stop-empty .ensures in
-    (simp (e, t .0), (t .1 .0 _ _ _, simp (e, t .1 .1)))
+    let does = t .0 _ _ in
+    (record { claims = simp e (does .claims); stores = simp e (does .stores); answer = simp e (does .answer) }, (t .1 .0 _ _ _, simp (e, t .1 .1)))
 
 returns-14 : tie.Need-returns-14
-unfolding lineStep queueBy storeBy answerBy failsBy Doable
-returns-14 c = (simp (c .enum-told9 .given .1), (tt, simp (c .enum-told9 .given .1)))
+unfolding lineStep claimsBy storesBy answerBy failsBy Doable
+returns-14 c = let e = c .enum-told9 .given .1 in (record { claims = simp e; stores = simp e; answer = simp e }, (tt, simp e))
 
 returns-15 : tie.Need-returns-15
-unfolding lineStep queueBy storeBy answerBy failsBy Doable
-returns-15 c = (simp (c .before .before .line6 .given .1, c .after-take .ensures), (refl, simp (c .before .before .line6 .given .1)))
+unfolding lineStep claimsBy storesBy answerBy failsBy Doable
+returns-15 c =
+    let arm = c .before .before in
+    let a = arm .before .before .before .before .args in
+    let e = arm .line6 .given .1 in
+    let left = c .take-store .ensures in
+    (record { claims = simp e; stores = simp (e, left); answer = simp e }, ((take-anchor _ (a .kind) left, refl), simp e))
 
 returns-16 : tie.Need-returns-16
-unfolding lineStep queueBy storeBy answerBy failsBy Doable
-returns-16 c = (simp (c .enum-told10 .given .1), (tt, simp (c .enum-told10 .given .1)))
+unfolding lineStep claimsBy storesBy answerBy failsBy Doable
+returns-16 c = let e = c .enum-told10 .given .1 in (record { claims = simp e; stores = simp e; answer = simp e }, (tt, simp e))
 
 returns-17 : tie.Need-returns-17
-unfolding lineStep queueBy storeBy answerBy failsBy Doable
-returns-17 c = (simp (c .enum-told11 .given .1), (tt, simp (c .enum-told11 .given .1)))
+unfolding lineStep claimsBy storesBy answerBy failsBy Doable
+returns-17 c = let e = c .enum-told11 .given .1 in (record { claims = simp e; stores = simp e; answer = simp e }, (tt, simp e))
 
 returns-18 : tie.Need-returns-18
-unfolding lineStep queueBy storeBy answerBy failsBy Doable
+unfolding lineStep claimsBy storesBy answerBy failsBy Doable
 returns-18 c =
     let e = c .before .before .line7 .given .1 in
     let t = c .stop-empty2 .ensures in
-    (simp (e, t .0), (t .1 .0 _ _ _, simp (e, t .1 .1)))
+    let does = t .0 _ _ in
+    (record { claims = simp e (does .claims); stores = simp e (does .stores); answer = simp e (does .answer) }, (t .1 .0 _ _ _, simp (e, t .1 .1)))
 
 returns-19 : tie.Need-returns-19
-unfolding lineStep queueBy storeBy answerBy failsBy Doable
-returns-19 c = (simp (c .enum-told12 .given .1), (tt, simp (c .enum-told12 .given .1)))
+unfolding lineStep claimsBy storesBy answerBy failsBy Doable
+returns-19 c = let e = c .enum-told12 .given .1 in (record { claims = simp e; stores = simp e; answer = simp e }, (tt, simp e))
 
 returns-20 : tie.Need-returns-20
-unfolding lineStep queueBy storeBy answerBy failsBy Doable
-returns-20 c = (simp (c .enum-told13 .given .1), (tt, simp (c .enum-told13 .given .1)))
+unfolding lineStep claimsBy storesBy answerBy failsBy Doable
+returns-20 c = let e = c .enum-told13 .given .1 in (record { claims = simp e; stores = simp e; answer = simp e }, (tt, simp e))
 
 returns-21 : tie.Need-returns-21
-unfolding lineStep queueBy storeBy answerBy failsBy Doable
-returns-21 c = (simp (c .enum-told14 .given .1), (tt, simp (c .enum-told14 .given .1)))
+unfolding lineStep claimsBy storesBy answerBy failsBy Doable
+returns-21 c = let e = c .enum-told14 .given .1 in (record { claims = simp e; stores = simp e; answer = simp e }, (tt, simp e))
 
 returns-22 : tie.Need-returns-22
-unfolding lineStep queueBy storeBy answerBy failsBy Doable
+unfolding lineStep claimsBy storesBy answerBy failsBy Doable
 returns-22 c =
     let e = c .before .before .line8 .given .1 in
     let t = c .compare .ensures in
-    (simp (e, t .0), (t .1 .0 _ _, simp (e, t .1 .1)))
+    let does = t .0 _ in
+    (record { claims = simp e (does .claims); stores = simp e (does .stores); answer = simp e (does .answer) }, (t .1 .0 _ _, simp (e, t .1 .1)))
 
 pub decide-spec : {M : Type 1} → statement M
 decide-spec =
@@ -295,10 +323,10 @@ decide-spec =
     enum-told-3
     enum-told-4
     enum-known-line
-    put-place-requires
+    put-slot-requires
     word-in-requires
     enum-known-line-2
-    after-put-requires
+    put-store-requires
     enum-known-line-3
     claim-requires
     enum-told-5
@@ -306,7 +334,7 @@ decide-spec =
     add-index
     read-task-requires
     cast-claimed
-    place-requires
+    slot-at-requires
     enum-told-6
     enum-told-7
     enum-told-8
@@ -314,7 +342,7 @@ decide-spec =
     stop-empty-requires
     enum-told-9
     enum-known-line-6
-    after-take-requires
+    take-store-requires
     enum-told-10
     enum-told-11
     enum-known-line-7

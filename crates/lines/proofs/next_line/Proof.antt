@@ -59,7 +59,13 @@ enum-known-line-5 : tie.Need-enum-known-line-5
 enum-known-line-5 c = search needs
 
 past-claim-requires : tie.Need-past-claim-requires
-past-claim-requires c κs = search needs
+unfolding Ready
+past-claim-requires c κs =
+    let arm = c .before in
+    let start = arm .before .before .before .before .before in
+    let G = start .pre .0 in
+    let h = rw (arm .line5 .given .1) at (start .pre .1) in
+    ((G .some, G .listed), (omega (arith, G .doubled, G .small), ((G .brief, G .near), h .0)))
 
 enum-known-line-6 : tie.Need-enum-known-line-6
 enum-known-line-6 c = search needs
@@ -274,7 +280,7 @@ unfolding lineStep
 returns-13 c =
     let arm = c .before .before .before in
     let a = arm .before .before .before .before .before .args in
-    λ w. simp (arm .line10 .given .1) (rw (c .before .take-first .ensures) at (c .past-empty .ensures (a .queue) (a .store .now) (a .worker)))
+    λ w. simp (arm .line10 .given .1) (rw (c .before .take-first .ensures) at (c .past-empty .ensures (a .worker)))
 
 returns-14 : tie.Need-returns-14
 unfolding lineStep
@@ -294,7 +300,7 @@ returns-17 c = λ w. simp (c .before .before .line12 .given .1, c .with-tail3 .e
 
 returns-18 : tie.Need-returns-18
 unfolding lineStep
-returns-18 c = λ w. simp (c .before .before .line13 .given .1) (c .past-empty2 .ensures _ _ _)
+returns-18 c = λ w. simp (c .before .before .line13 .given .1) (c .past-empty2 .ensures _)
 
 returns-19 : tie.Need-returns-19
 unfolding lineStep
@@ -310,7 +316,7 @@ returns-21 c = λ w. simp (c .before .before .line16 .given .1, c .next-head .en
 
 returns-22 : tie.Need-returns-22
 unfolding lineStep
-returns-22 c = λ w. simp (c .before .before .line17 .given .1) (c .past-compare .ensures _ _ _)
+returns-22 c = λ w. simp (c .before .before .line17 .given .1) (c .past-compare .ensures _ _)
 
 pub next-line-spec : {M : Type 1} → statement M
 next-line-spec =

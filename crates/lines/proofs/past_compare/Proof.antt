@@ -9,11 +9,11 @@ succeeds-requires c κs = search needs
 
 returns : tie.Need-returns
 unfolding if_then_else_
-returns c = λ m e t. simp (sym (c .before .succeeds .ensures) ∙ c .if1 .taken)
+returns c = λ e t. simp (sym (c .before .succeeds .ensures) ∙ c .if1 .taken)
 
 returns-2 : tie.Need-returns-2
 unfolding if_then_else_
-returns-2 c = λ m e t. simp (sym (c .before .succeeds .ensures) ∙ c .if1 .left)
+returns-2 c = λ e t. simp (sym (c .before .succeeds .ensures) ∙ c .if1 .left)
 
 pub past-compare-spec : {M : Type 1} → statement M
 past-compare-spec = tie.close (tie.spec succeeds-requires returns returns-2)

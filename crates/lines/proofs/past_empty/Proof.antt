@@ -9,11 +9,11 @@ is-empty-requires c κs = search needs
 
 returns : tie.Need-returns
 unfolding if_then_else_
-returns c = λ q m i. simp (sym (c .before .is-empty .ensures) ∙ c .if1 .taken)
+returns c = λ i. simp (sym (c .before .is-empty .ensures) ∙ c .if1 .taken)
 
 returns-2 : tie.Need-returns-2
 unfolding if_then_else_
-returns-2 c = λ q m i. simp (sym (c .before .is-empty .ensures) ∙ c .if1 .left)
+returns-2 c = λ i. simp (sym (c .before .is-empty .ensures) ∙ c .if1 .left)
 
 pub past-empty-spec : {M : Type 1} → statement M
 past-empty-spec = tie.close (tie.spec is-empty-requires returns returns-2)

@@ -1,16 +1,17 @@
 use borrow.Author.Needs.{needs}
-use mathlib.Core.Path.{_≡_, sym, ap, subst, _∙_}
+use mathlib.Core.Path.{sym, ap, subst, _∙_}
 use Prim.Native.Nat.{ℕ}
 use native.Mathlib.Omega.{arith}
 use lib.ListN.{length}
 use borrow.Author.Tests.{le-ltb}
 use Rattle.model.specs.Lines.{lineStep}
+use Rattle.model.specs.Stores.{shared}
 use Rattle.model.specs.World.{lineAt}
 use Rattle.model.proofs.Tests.{if-false}
-use Rattle.lines.specs.Actions.{storeBy, effectBy}
+use Rattle.lines.specs.Actions.{Does}
 use Rattle.machine.specs.declared.Made.the-variants as made
-use Rattle.machine.specs.Steps.{benchOf, benchAfter, answerAfter, movedBy, actedBy, logAfter, Fits}
-use Rattle.machine.proofs.Moves.{few-bits, fits, writable}
+use Rattle.machine.specs.Steps.{benchOf, benchAfter, answerAfter, movedBy, leftBy, actedBy, logAfter, Fits}
+use Rattle.machine.proofs.Moves.{few-bits, fits}
 use Rattle.machine.proofs.Stepping.{same-moved, idle-worker, line-done, line-links}
 use Rattle.machine.proofs.step_in.Statement.{statement}
 use Rattle.machine.proofs.step_in.Tie as tie
@@ -73,7 +74,7 @@ decide-requires c κs =
 act-requires : tie.Need-act-requires
 act-requires c κs =
     let start = c .before .before .before .before .before .before .before .before .before .before .before .before .before .before in
-    (start .pre .ground .wide, writable (start .args .words) (start .args .queue) (length (start .args .store .now)) _ (c .before .before .decide .ensures .1 .0))
+    (start .pre .ground .wide, c .before .before .decide .ensures .1 .0)
 
 same-length-2 : tie.Need-same-length-2
 same-length-2 c = search needs
@@ -99,10 +100,10 @@ returns-4 c =
           let b = benchOf (a .kind) (a .width) (a .words) (a .crew) (a .queue) (a .written) u n ws in
           let is = at (omega (arith, h, start .pre .crew)) in
           same-moved b k x made (at-act .act .ensures .1 .0) (at-act .act .ensures .1 .1)
-          ∙ ap (λ (j : ℕ). movedBy b j x (actedBy (a .words) (a .written) l d) (storeBy (a .words) m d) (logAfter (a .words) (a .written) l d)) is
+          ∙ ap (λ (j : ℕ). movedBy b j x (actedBy (a .words) (a .written) l (a .queue) d) (leftBy (a .words) (shared (a .queue) m) d .store) (logAfter (a .words) (a .written) l d)) is
           ∙ line-done b (a .worker) (a .line) m l (ap (lineAt ws) (sym is) ∙ e) h (start .pre .held h) x (c .before .before .before .before .before .before .before .before .before .before .before .before .next-line .ensures) d
           (sym (c .before .before .before .before .before .before .before .before .before .before .before .before .before .before .before .is-idle .ensures) ∙ c .before .before .before .before .before .before .before .before .before .before .before .before .before .before .if2 .left) (sym (c .before .before .before .before .before .before .before .before .before .before .before .links .ensures) ∙ c .before .before .before .before .before .before .before .before .before .before .if3 .left) safe
-          (subst (λ (w : ℕ). effectBy (a .words) (a .queue) m (lineStep (a .kind) w (a .words) (a .queue) m (a .worker) (a .line) .line) d ≡ lineStep (a .kind) w (a .words) (a .queue) m (a .worker) (a .line)) (c .before .before .before .before .before .before .before .before .before .tag-bits .ensures) (at-decide .decide .ensures .0))
+          (subst (λ (w : ℕ). Does (a .words) (lineStep (a .kind) w (a .words) (a .queue) m (a .worker) (a .line)) d) (c .before .before .before .before .before .before .before .before .before .tag-bits .ensures) (at-decide .decide .ensures .0))
           (at-decide .decide .ensures .1 .1),
     )
 

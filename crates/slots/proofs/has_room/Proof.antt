@@ -33,7 +33,8 @@ returns : tie.Need-returns
 unfolding _and_ if_then_else_
 returns c v S =
     let size = c .before .before .before .size-at .ensures ∙ sym (S .0) in
-    simp (c .before .before .end-of .ensures, c .before .twice-as-long .ensures, le-leb _ _ (rw size at (c .if1 .taken)))
+    let all = c .before .before .before .before .before .before .pre .1 .1 .1 in
+    simp (all, c .before .before .end-of .ensures, c .before .twice-as-long .ensures, le-leb _ _ (rw size at (c .if1 .taken)))
 
 returns-2 : tie.Need-returns-2
 unfolding _and_ if_then_else_

@@ -1,70 +1,26 @@
-use mathlib.Core.Path.{sym, _∙_}
+use mathlib.Core.Path.{subst}
 use native.Mathlib.Omega.{arith}
-use borrow.Author.Needs.{needs}
-use Rattle.model.specs.Memory.{offsetAt}
-use Rattle.slots.proofs.Places.{place-few}
+use Rattle.slots.specs.Bounds.{Power}
+use Rattle.slots.proofs.Places.{slot-few}
 use Rattle.slots.proofs.place.Statement.{statement}
 use Rattle.slots.proofs.place.Tie as tie
 
-mul-region : tie.Need-mul-region
-mul-region c = search needs
+slot-at-requires : tie.Need-slot-at-requires
+slot-at-requires c κs =
+    let p = c .pre in
+    let S = p .1 .1 .0 in
+    (p .1 .0, (omega (arith, S .0), subst Power (S .0 .0) (S .1)))
 
-element-copy-out-region : tie.Need-element-copy-out-region
-element-copy-out-region c = search needs
-
-size-at-requires : tie.Need-size-at-requires
-size-at-requires c κs = search needs
-
-slot-of-requires : tie.Need-slot-of-requires
-slot-of-requires c κs =
-    let S = c .before .before .pre .1 .1 .0 in
-    rw (c .size-at .ensures ∙ sym (S .0 .0)) (S .1)
-
-cast-first : tie.Need-cast-first
-cast-first c = search needs
-
-add-each : tie.Need-add-each
-add-each c = search needs
-
-cast-task : tie.Need-cast-task
-cast-task c = search needs
-
-mul-before : tie.Need-mul-before
-mul-before c =
-    let a = c .before .before .before .before .args in
-    let p = c .before .before .before .before .pre in
-    omega (arith, place-few (a .kind) (a .words) (a .t3) (a .at) (a .index) (p .0) (p .1 .1 .0) (c .before .before .size-at .ensures) (c .before .slot-of .ensures))
-
-add-result : tie.Need-add-result
-add-result c =
-    let a = c .before .before .before .before .args in
-    let p = c .before .before .before .before .pre in
-    omega (arith, place-few (a .kind) (a .words) (a .t3) (a .at) (a .index) (p .0) (p .1 .1 .0) (c .before .before .size-at .ensures) (c .before .slot-of .ensures))
-
-add-result-2 : tie.Need-add-result-2
-add-result-2 c =
-    let a = c .before .before .before .before .args in
-    let p = c .before .before .before .before .pre in
-    omega (arith, place-few (a .kind) (a .words) (a .t3) (a .at) (a .index) (p .0) (p .1 .1 .0) (c .before .before .size-at .ensures) (c .before .slot-of .ensures))
+address-requires : tie.Need-address-requires
+address-requires c κs =
+    let a = c .before .args in
+    let p = c .before .pre in
+    (p .0, (p .1 .0, (slot-few (a .kind) (a .words) (a .queue) (a .at) (a .index) (p .1 .1 .0) (c .slot-at .ensures), p .1 .1 .1)))
 
 returns : tie.Need-returns
-unfolding offsetAt
 returns c =
-    let S = c .before .before .before .before .pre .1 .1 .0 in
-    simp (c .before .slot-of .ensures, c .before .before .size-at .ensures ∙ sym (S .0 .0))
+    let S = c .before .before .pre .1 .1 .0 in
+    simp (c .address .ensures, c .before .slot-at .ensures, S .0 .0)
 
 pub place-spec : {M : Type 1} → statement M
-place-spec =
-    tie.close
-    (tie.spec
-    mul-region
-    element-copy-out-region
-    size-at-requires
-    slot-of-requires
-    cast-first
-    add-each
-    cast-task
-    mul-before
-    add-result
-    add-result-2
-    returns)
+place-spec = tie.close (tie.spec slot-at-requires address-requires returns)

@@ -1,0 +1,89 @@
+-- The shared words, and the stores that change them.
+use mathlib.Core.Bool.{Bool, true, false}
+use mathlib.Core.List.{List, [], _∷_}
+use Prim.Native.Nat.{ℕ, _+_, _-_, _*_}
+use lib.ListN.{set, replicate}
+use Rattle.model.specs.declared.Anchor.{Anchor}
+use Rattle.model.specs.declared.Queue.{Queue}
+use Rattle.model.specs.declared.Store.{Store}
+use Rattle.model.specs.declared.Store.the-variants.{StoreWord, StoreNote, StorePut, StoreOut, StoreHead, StoreTail}
+use Rattle.model.specs.Memory.{setWord, zeros, offsetAt, lengthAt}
+use Rattle.model.specs.Figures.{anchor}
+
+-- the queue and the store
+pub record Shared : Type 0 where
+  pub queue : Queue
+  pub store : List ℕ
+
+abbrev pub shared : Queue → List ℕ → Shared
+shared q m = record { queue = q; store = m }
+
+-- a write of the anchor, which breaks every link, even if the value is equal
+abbrev pub anchored : Queue → Anchor → Queue
+anchored q a =
+    record {
+      linked = q .linked;
+      anchor = a;
+      arrays = q .arrays;
+      published = q .published;
+      claimed = q .claimed;
+      initial = q .initial;
+      links = replicate 8 false;
+    }
+
+-- the array at place k of the directory becomes the current one
+abbrev pub publishing : Queue → ℕ → Queue
+publishing q k =
+    record {
+      linked = q .linked;
+      anchor = q .anchor;
+      arrays = q .arrays;
+      published = k + 1;
+      claimed = q .claimed;
+      initial = q .initial;
+      links = q .links;
+    }
+
+-- a store has reached its place, where tasks have v payload words
+abbrev pub landed : ℕ → Shared → Store → Shared
+landed v S (StoreWord k t j x) = shared (S .queue) (setWord (S .store) v (offsetAt (S .queue .arrays) k) t j x)
+landed v S (StoreNote k) = shared (publishing (S .queue) k) (S .store)
+landed v S (StorePut a) = shared (anchored (S .queue) a) (S .store)
+landed v S (StoreOut a) = shared (anchored (S .queue) a) (S .store)
+landed v S (StoreHead h) =
+    shared (anchored (S .queue) (anchor h (S .queue .anchor .count) (S .queue .anchor .tag))) (S .store)
+landed v S (StoreTail t) =
+    shared (anchored (S .queue) (anchor (S .queue .anchor .head) t (S .queue .anchor .tag))) (S .store)
+
+-- all of these have, in order
+unfoldable pub landedAll : ℕ → Shared → List Store → Shared
+landedAll v S [] = S
+landedAll v S (x ∷ xs) = landedAll v (landed v S x) xs
+
+-- the words that the directory takes, claimed ones included: the first free word
+abbrev pub taken : Queue → ℕ
+taken q = offsetAt (q .arrays) (q .claimed - 1) + lengthAt (q .arrays) (q .claimed - 1)
+
+-- CLAIM. X1: the next free words become an array of twice the last one's length, and are zeroed
+abbrev pub nextLength : Queue → ℕ
+nextLength q = 2 * lengthAt (q .arrays) (q .claimed - 1)
+
+abbrev pub claiming : Queue → Queue
+claiming q =
+    record {
+      linked = q .linked;
+      anchor = q .anchor;
+      arrays = set (q .arrays) (q .claimed) (record { offset = taken q; length = nextLength q });
+      published = q .published;
+      claimed = q .claimed + 1;
+      initial = q .initial;
+      links = q .links;
+    }
+
+abbrev pub claim : Shared → Shared
+claim S = shared (claiming (S .queue)) (zeros (S .store) (taken (S .queue)) (nextLength (S .queue)))
+
+-- where a line claims
+abbrev pub claimedBy : Bool → Shared → Shared
+claimedBy true S = claim S
+claimedBy false S = S

@@ -1,0 +1,233 @@
+//! Refusal 12's limits on what is shared, which no state reached from fresh may
+//! break: the directory, the queue as memory has it with the array that thieves
+//! read, the queue as the owner reads it with the array that the owner reads, and
+//! the waiting line with its stores.
+//!
+//! A drain can come at any time, so the limits on the queue have to hold as well
+//! with any front of the waiting line put down.
+
+use std::fmt;
+
+use crate::bench::{Shape, LAST_NUMBER};
+use crate::settled::waiting;
+use crate::store::LARGEST;
+use crate::waiting::{Waiting, LONGEST};
+use crate::witness::{Cause, Shown, Witness};
+
+/// FIFO's last tail, and as many heads as figure 3 has.
+const LAST_TAIL: u32 = 65_535;
+const HEADS: u32 = 2048;
+
+#[derive(Default)]
+pub struct Limits {
+    calls: u64,
+    shape: Option<Shape>,
+    /// What was wrong first, in whichever list.
+    wrong: Option<String>,
+}
+
+impl Limits {
+    pub fn is_wrong(&self) -> bool {
+        self.wrong.is_some()
+    }
+}
+
+impl fmt::Display for Limits {
+    fn fmt(&self, text: &mut fmt::Formatter<'_>) -> fmt::Result {
+        match &self.wrong {
+            None => write!(text, "limits kept"),
+            Some(what) => write!(text, "limits broken {what}"),
+        }
+    }
+}
+
+impl Witness for Limits {
+    fn fresh(&mut self, shape: Shape) {
+        self.shape = Some(shape);
+    }
+
+    fn call(&mut self) {
+        self.calls += 1;
+    }
+
+    fn watches(&self) -> bool {
+        true
+    }
+
+    fn after(&mut self, _cause: Cause, shown: &Shown) {
+        let Some(shape) = self.shape else { return };
+        if self.wrong.is_none() {
+            if let Err(what) = kept(shape, shown) {
+                self.wrong = Some(format!("by call {}: {what}", self.calls));
+            }
+        }
+    }
+}
+
+fn ask(kept: bool, what: impl FnOnce() -> String) -> Result<(), String> {
+    if kept {
+        Ok(())
+    } else {
+        Err(what())
+    }
+}
+
+/// All of them; else which one is broken.
+fn kept(shape: Shape, shown: &Shown) -> Result<(), String> {
+    let count = waiting(shown.store).count();
+    let most = if shape.delayed { LONGEST } else { 0 };
+    ask(count <= most, || format!("{count} stores wait"))?;
+    directory(shape, shown)?;
+    let arrays = shown.store.arrays();
+    let mut published = shown.store.published();
+    let mut anchor = shown.anchor;
+    ask(1 <= published && published <= arrays.len(), || format!("{published} arrays are published"))?;
+    queue(shape, anchor, arrays[published - 1].size)?;
+    for &store in waiting(shown.store) {
+        waiting_store(shape, shown, store)?;
+        match store {
+            Waiting::Word { .. } => {}
+            Waiting::Note { published: noted } => {
+                ask(noted == published + 1, || format!("a note of {noted} arrays follows {published}"))?;
+                published = noted;
+            }
+            Waiting::Anchor(next) => anchor = next,
+            Waiting::Head(head) => anchor[0] = head,
+            Waiting::Tail(tail) => anchor[1] = tail,
+        }
+        queue(shape, anchor, arrays[published - 1].size)?;
+    }
+    // What the notes wait for counts as published.
+    let claimed = published + usize::from(shown.copying);
+    ask(arrays.len() == claimed, || {
+        format!("{} arrays are claimed, {published} published for the owner", arrays.len())
+    })
+}
+
+/// Laid end to end from offset 0, each twice the one before, within the store.
+fn directory(shape: Shape, shown: &Shown) -> Result<(), String> {
+    let mut end = 0;
+    let mut size = shape.size;
+    for array in shown.store.arrays() {
+        ask((array.offset, array.size) == (end, size) && size <= LARGEST, || format!("array {array:?}"))?;
+        end += size * (shape.payload_words + 1);
+        size *= 2;
+    }
+    ask(end as usize <= shown.store.words().len(), || format!("arrays up to word {end}"))
+}
+
+/// The queue's own, with the size of the array it is read with.
+fn queue(shape: Shape, anchor: [u32; 3], size: u32) -> Result<(), String> {
+    let [first, second, tag] = anchor;
+    let tags = if matches!(shape.kind, 1 | 3) { 1 << shape.width } else { 1 };
+    let within = match shape.kind {
+        1 | 4 => first == 0 && second <= size,
+        2 => first <= second && second <= LAST_TAIL && second - first <= size,
+        _ => first < HEADS && second <= size,
+    };
+    ask(within && tag < tags, || format!("the anchor {anchor:?} with an array of {size}"))
+}
+
+fn waiting_store(shape: Shape, shown: &Shown, store: Waiting) -> Result<(), String> {
+    let fifo = shape.kind == 2;
+    let arrays = shown.store.arrays();
+    let within = match store {
+        Waiting::Word { array, slot, word, value } => {
+            array < arrays.len()
+                && slot < arrays[array].size
+                && word <= shape.payload_words as usize
+                && (word > 0 || value <= LAST_NUMBER)
+        }
+        // Not the one that is claimed and unpublished.
+        Waiting::Note { published } => published <= arrays.len() - usize::from(shown.copying),
+        Waiting::Anchor(_) => !fifo,
+        Waiting::Head(_) | Waiting::Tail(_) => fifo,
+    };
+    ask(within, || format!("the waiting store {store:?}"))
+}
+
+#[cfg(test)]
+mod tests {
+    use super::*;
+    use crate::store::Store;
+
+    fn shape(kind: u32) -> Shape {
+        Shape { kind, width: 1, size: 1, crew: 2, payload_words: 1, delayed: true }
+    }
+
+    /// A bench whose first array holds one task, with a second array of two tasks
+    /// claimed, and with these stores waiting.
+    fn kept_with(kind: u32, anchor: [u32; 3], stores: &[Waiting], copying: bool) -> bool {
+        let mut store = Store::fresh(vec![0; 6], 1, 1).with_line(true);
+        store.claim(store.next_array().unwrap());
+        for &waiting in stores {
+            store.line_mut().join(waiting);
+        }
+        kept(shape(kind), &Shown { anchor, restarts: &[0; 8], store: &store, copying }).is_ok()
+    }
+
+    const NOTE: Waiting = Waiting::Note { published: 2 };
+
+    #[test]
+    fn an_array_whose_note_waits_counts_as_published() {
+        for kind in 1..=5 {
+            assert!(kept_with(kind, [0; 3], &[NOTE], false));
+            assert!(!kept_with(kind, [0; 3], &[NOTE], true));
+            assert!(kept_with(kind, [0; 3], &[], true));
+            assert!(!kept_with(kind, [0; 3], &[], false));
+            assert!(!kept_with(kind, [0; 3], &[Waiting::Note { published: 3 }], false));
+            assert!(!kept_with(kind, [0; 3], &[Waiting::Note { published: 1 }], true));
+        }
+    }
+
+    #[test]
+    fn memory_goes_by_the_array_of_the_thieves_and_the_owner_by_its_own() {
+        let put = Waiting::Anchor([0, 2, 1]);
+        assert!(kept_with(1, [0, 1, 0], &[NOTE, put], false));
+        assert!(!kept_with(1, [0, 2, 0], &[NOTE], false), "t of memory above its array");
+        assert!(!kept_with(1, [0, 1, 0], &[put, NOTE], false), "t would come before its array");
+        assert!(!kept_with(1, [0, 1, 0], &[NOTE, Waiting::Anchor([0, 3, 1])], false));
+        assert!(kept_with(2, [4, 5, 0], &[NOTE, Waiting::Tail(6)], false));
+        assert!(!kept_with(2, [4, 6, 0], &[NOTE], false));
+        assert!(!kept_with(2, [4, 5, 0], &[NOTE, Waiting::Tail(7)], false));
+        assert!(kept_with(2, [4, 4, 0], &[Waiting::Tail(5), Waiting::Head(5), NOTE], false));
+        assert!(!kept_with(2, [4, 4, 0], &[Waiting::Head(5), Waiting::Tail(5), NOTE], false));
+        assert!(!kept_with(2, [0, 65_536, 0], &[NOTE], false));
+    }
+
+    #[test]
+    fn a_waiting_store_has_a_place_and_a_value_of_its_kind() {
+        let word = |array, slot, word, value| Waiting::Word { array, slot, word, value };
+        for kind in 1..=5 {
+            let alone = |store| kept_with(kind, [0; 3], &[store], true);
+            assert!(alone(word(0, 0, 0, 65_535)) && alone(word(1, 1, 1, u32::MAX)));
+            for wrong in [word(0, 0, 0, 65_536), word(0, 1, 0, 1), word(1, 2, 0, 1), word(2, 0, 0, 1), word(0, 0, 2, 1)] {
+                assert!(!alone(wrong), "{wrong:?}");
+            }
+            assert_eq!(alone(Waiting::Anchor([0, 1, 0])), kind != 2);
+            assert_eq!(alone(Waiting::Tail(1)), kind == 2);
+            assert_eq!(alone(Waiting::Head(0)), kind == 2);
+            assert!(!alone(Waiting::Head(1)), "past the tail");
+            assert_eq!(alone(Waiting::Anchor([2047, 1, 0])), matches!(kind, 3 | 5));
+            assert!(!alone(Waiting::Anchor([2048, 1, 0])));
+            assert_eq!(alone(Waiting::Anchor([0, 1, 1])), matches!(kind, 1 | 3), "no tag with links");
+            assert!(!alone(Waiting::Anchor([0, 1, 2])));
+        }
+    }
+
+    #[test]
+    fn eight_may_wait_and_none_without_the_mode() {
+        let store = Waiting::Word { array: 0, slot: 0, word: 0, value: 1 };
+        assert!(kept_with(1, [0; 3], &[store; 8], true));
+        assert!(!kept_with(1, [0; 3], &[store; 9], true));
+        let mut waits = Store::fresh(vec![0; 2], 1, 1).with_line(true);
+        let shown = |store: &Store, delayed| {
+            let shape = Shape { delayed, ..shape(1) };
+            kept(shape, &Shown { anchor: [0; 3], restarts: &[0; 8], store, copying: false }).is_ok()
+        };
+        assert!(shown(&waits, false));
+        waits.line_mut().join(store);
+        assert!(shown(&waits, true));
+        assert!(!shown(&waits, false));
+    }
+}

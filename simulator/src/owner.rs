@@ -1,0 +1,310 @@
+//! With delayed stores: what the owner reads and what it writes, line by line. It
+//! reads its own youngest waiting store to a place before memory, so all that it
+//! does from line 1 on follows from memory with every waiting store put down
+//! before that line:
+//!
+//! - a put's words go, in turn, to the slot behind the window that it read, and
+//!   its last store is the anchor that follows (FIFO: the tail);
+//! - a take hands out the task that it read, and stores the anchor (FIFO: head);
+//! - EMPTY is answered if it read no task, growth and FULL come if it read a full
+//!   array, FULL if no larger one can be claimed;
+//! - X3 copies what it reads, as many tasks as it read at X2 (LIFO: every slot), and
+//!   X4 notes the claimed array;
+//! - 18 is answered only if the step's stores would make more than eight.
+
+use std::fmt;
+
+use crate::bench::Shape;
+use crate::outcome::{refusal, Outcome};
+use crate::settled::{waiting, Memory};
+use crate::store::LARGEST;
+use crate::task::Task;
+use crate::waiting::{Waiting, LONGEST};
+use crate::witness::{Cause, Shown, Witness};
+
+/// How far the owner's growth is.
+#[derive(Clone, Copy)]
+enum Growth {
+    None,
+    /// X1 has claimed an array.
+    Claimed,
+    /// X2 has noted the indices; the next one to copy, and the first one not to.
+    Copying { next: u32, stop: u32 },
+}
+
+pub struct Owner {
+    calls: u64,
+    /// Of a bench with delayed stores; none else.
+    shape: Option<Shape>,
+    /// What the owner would read, and how many stores wait, as the last call left
+    /// them.
+    before: Option<Memory>,
+    waiting: usize,
+    /// The task of the last put begun, and how many of its words are written.
+    task: Task,
+    written: usize,
+    /// The step does line 1.
+    line_one: bool,
+    /// What the owner would read before its line 1.
+    read: Option<Memory>,
+    growth: Growth,
+    /// How few stores waited when its next step was refused 18.
+    refused_at: Option<usize>,
+    /// What was wrong first, in whichever list.
+    wrong: Option<String>,
+}
+
+impl Owner {
+    fn new() -> Owner {
+        Owner {
+            calls: 0,
+            shape: None,
+            before: None,
+            waiting: 0,
+            task: Task::default(),
+            written: 0,
+            line_one: false,
+            read: None,
+            growth: Growth::None,
+            refused_at: None,
+            wrong: None,
+        }
+    }
+
+    pub fn is_wrong(&self) -> bool {
+        self.wrong.is_some()
+    }
+
+    /// Whether an accepted step with these new stores did what it should; else
+    /// what is wrong.
+    fn step(&mut self, shape: Shape, outcome: Outcome, now: &Memory, new: &[Waiting]) -> Result<(), &'static str> {
+        let Some(before) = self.before.take() else { return Ok(()) };
+        if self.refused_at.take().is_some_and(|waited| waited + new.len() <= LONGEST) {
+            return Err("18 though its stores could wait");
+        }
+        if self.line_one {
+            self.read = Some(before.clone());
+            self.written = 0;
+        }
+        let Some(read) = &self.read else { return Ok(()) };
+        let [first, second, tag] = read.anchor;
+        let (kind, size, count) = (shape.kind, read.size(), read.count());
+        let fine = match outcome {
+            Outcome::Finished(task) => {
+                let tags = if matches!(kind, 1 | 3) { 1 << shape.width } else { 1 };
+                let last = match kind {
+                    2 => Waiting::Tail(second + 1),
+                    _ => Waiting::Anchor([first, second + 1, (tag + 1) % tags]),
+                };
+                let whole = self.written == shape.payload_words as usize + 1;
+                count < size && whole && task == self.task && new == [last]
+            }
+            Outcome::HandedOut(task) => {
+                let (index, last) = match kind {
+                    2 => (first, Waiting::Head(first + 1)),
+                    _ => (first + second.wrapping_sub(1), Waiting::Anchor([first, second.wrapping_sub(1), tag])),
+                };
+                count > 0 && task == read.task(index) && new == [last]
+            }
+            Outcome::Empty => count == 0 && new.is_empty(),
+            Outcome::Full(_) => {
+                let used: u32 = before.arrays.iter().map(|array| array.size).sum();
+                let left = before.words.len() as u32 - used * (shape.payload_words + 1);
+                let larger = 2 * size <= LARGEST && left >= 2 * size * (shape.payload_words + 1);
+                count == size && !larger && new.is_empty()
+            }
+            Outcome::Published => {
+                let copied = matches!(self.growth, Growth::Copying { next, stop } if next == stop);
+                self.growth = Growth::None;
+                copied && new == [Waiting::Note { published: now.arrays.len() }]
+            }
+            Outcome::GoesOn if now.arrays.len() > before.arrays.len() => {
+                self.growth = Growth::Claimed;
+                count == size && new.is_empty()
+            }
+            Outcome::GoesOn => match self.growth {
+                Growth::Claimed => {
+                    // What the owner reads now, and not what line 1 read.
+                    let [head, end, _] = before.anchor;
+                    let (next, stop) = match kind {
+                        1 | 4 => (0, before.size()),
+                        2 => (head, end),
+                        _ => (head, head + end),
+                    };
+                    self.growth = Growth::Copying { next, stop };
+                    new.is_empty()
+                }
+                Growth::Copying { next, stop } => {
+                    self.growth = Growth::Copying { next: next + 1, stop };
+                    let task = before.task(next);
+                    let array = before.arrays.len() - 1;
+                    let slot = next % before.arrays[array].size;
+                    let copy = |word| Waiting::Word { array, slot, word, value: task.0[word] };
+                    next < stop && new.iter().copied().eq((0..=shape.payload_words as usize).map(copy))
+                }
+                Growth::None if new.is_empty() => true,
+                Growth::None => {
+                    let index = if kind == 2 { second } else { first + second };
+                    let word = self.written;
+                    self.written += 1;
+                    let value = self.task.0.get(word).copied().unwrap_or(0);
+                    let slot = index % size;
+                    count < size && new == [Waiting::Word { array: read.published - 1, slot, word, value }]
+                }
+            },
+            Outcome::Restarted | Outcome::Refused(_) => false,
+        };
+        if fine {
+            Ok(())
+        } else {
+            Err("a step of the owner does not follow from what it read")
+        }
+    }
+}
+
+impl Default for Owner {
+    fn default() -> Owner {
+        Owner::new()
+    }
+}
+
+impl fmt::Display for Owner {
+    fn fmt(&self, text: &mut fmt::Formatter<'_>) -> fmt::Result {
+        match &self.wrong {
+            None => write!(text, "the owner read its own stores"),
+            Some(what) => write!(text, "the owner went wrong {what}"),
+        }
+    }
+}
+
+impl Witness for Owner {
+    fn fresh(&mut self, shape: Shape) {
+        *self = Owner {
+            calls: self.calls,
+            shape: shape.delayed.then_some(shape),
+            wrong: self.wrong.take(),
+            ..Owner::new()
+        };
+    }
+
+    fn call(&mut self) {
+        self.calls += 1;
+        self.line_one = false;
+    }
+
+    fn put_begun(&mut self, task: Task) {
+        self.task = task;
+    }
+
+    fn put_line_one(&mut self) {
+        self.line_one = true;
+    }
+
+    fn line_one(&mut self, worker: usize) {
+        self.line_one |= worker == 0;
+    }
+
+    fn watches(&self) -> bool {
+        true
+    }
+
+    fn after(&mut self, cause: Cause, shown: &Shown) {
+        let Some(shape) = self.shape else { return };
+        let now = Memory::of_owner(shape.kind, shown);
+        let line: Vec<Waiting> = waiting(shown.store).copied().collect();
+        match cause {
+            Cause::Step { worker: 0, outcome: Outcome::Refused(number) } => {
+                if number == refusal::LINE_FULL {
+                    self.refused_at = Some(self.waiting);
+                }
+            }
+            Cause::Step { worker: 0, outcome } => {
+                let new = line.get(self.waiting..).unwrap_or(&[]);
+                if let (Err(what), None) = (self.step(shape, outcome, &now, new), &self.wrong) {
+                    self.wrong = Some(format!("by call {}: {what}", self.calls));
+                }
+            }
+            _ => {}
+        }
+        self.before = Some(now);
+        self.waiting = line.len();
+    }
+}
+
+#[cfg(test)]
+mod tests {
+    use super::*;
+    use crate::calls::Calls;
+
+    fn kept(list: &str) -> bool {
+        let mut calls = Calls::new(Owner::new()).with_delayed_stores();
+        for line in list.split(", ") {
+            assert!(calls.line(line.as_bytes(), &mut Vec::new()).unwrap(), "{line}");
+        }
+        !calls.witness().is_wrong()
+    }
+
+    #[test]
+    fn operations_of_every_kind_and_width() {
+        for kind in 1..=5 {
+            for words in 1..=4 {
+                let drains = "drain, ".repeat(6);
+                let mut list = format!("memory 35 200, fresh {kind} 1 1 2 {words} 1, ");
+                for _ in 0..5 {
+                    list += "begin 0 put 7 8 9 10, ";
+                    list += &format!("step 0 4, step 0 4, {drains}").repeat(6);
+                }
+                list += &format!("begin 0 take, step 0 9, {drains}").repeat(5);
+                list += "state";
+                assert!(kept(&list), "kind {kind}, {words} words");
+            }
+        }
+    }
+
+    /// The owner as a bench shows it after a put of `[1, 5]` up to its last line,
+    /// with the two words waiting.
+    fn before_the_last_line() -> (Owner, Memory) {
+        let mut calls = Calls::new(Owner::new()).with_delayed_stores();
+        for line in ["memory 2 40", "fresh 1 1 1 2 1 1", "begin 0 put 5", "step 0 4"] {
+            assert!(calls.line(line.as_bytes(), &mut Vec::new()).unwrap());
+        }
+        let owner = calls.into_witness();
+        assert!(!owner.is_wrong());
+        let before = owner.before.clone().unwrap();
+        (owner, before)
+    }
+
+    const SHAPE: Shape = Shape { kind: 1, width: 1, size: 1, crew: 2, payload_words: 1, delayed: true };
+
+    #[test]
+    fn a_put_that_stores_another_anchor_or_task() {
+        let task = Task([1, 5, 0, 0, 0]);
+        let anchor = |t, g| Waiting::Anchor([0, t, g]);
+        for (outcome, new, right) in [
+            (Outcome::Finished(task), anchor(1, 1), true),
+            (Outcome::Finished(task), anchor(1, 0), false),
+            (Outcome::Finished(task), anchor(2, 1), false),
+            (Outcome::Finished(task), Waiting::Tail(1), false),
+            (Outcome::Finished(Task([1, 6, 0, 0, 0])), anchor(1, 1), false),
+            (Outcome::HandedOut(task), anchor(0, 0), false),
+        ] {
+            let (mut owner, now) = before_the_last_line();
+            assert_eq!(owner.step(SHAPE, outcome, &now, &[new]).is_ok(), right, "{outcome:?} {new:?}");
+        }
+        for outcome in [Outcome::Full(task), Outcome::Published] {
+            let (mut owner, now) = before_the_last_line();
+            assert!(owner.step(SHAPE, outcome, &now, &[]).is_err());
+        }
+    }
+
+    #[test]
+    fn refused_18_though_there_was_room() {
+        let last = Waiting::Anchor([0, 1, 1]);
+        for (waited, right) in [(8, true), (7, false), (2, false)] {
+            let (mut owner, now) = before_the_last_line();
+            owner.refused_at = Some(waited);
+            let done = owner.step(SHAPE, Outcome::Finished(Task([1, 5, 0, 0, 0])), &now, &[last]);
+            assert_eq!(done.is_ok(), right);
+        }
+    }
+}
