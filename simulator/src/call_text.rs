@@ -30,9 +30,8 @@ pub enum Call {
 }
 
 /// What a line says, its newline taken off; none if it is not of the form.
-/// Numbers are written as in the bench program's input. Delayed stores are of the
-/// form only where they are asked for: the library has none yet.
-pub fn parse(line: &[u8], delayed_stores: bool) -> Option<Line> {
+/// Numbers are written as in the bench program's input.
+pub fn parse(line: &[u8]) -> Option<Line> {
     let words: Vec<&[u8]> = line.split(|&byte| byte == b' ').collect();
     let call = match words[..] {
         [b"memory", store, log] => {
@@ -47,9 +46,8 @@ pub fn parse(line: &[u8], delayed_stores: bool) -> Option<Line> {
             crew: number(crew)?,
             payload_words: number(payload_words)?,
             delayed: match delayed {
-                [] => false,
-                [b"0"] if delayed_stores => false,
-                [b"1"] if delayed_stores => true,
+                [] | [b"0"] => false,
+                [b"1"] => true,
                 _ => return None,
             },
         }),
@@ -69,7 +67,7 @@ pub fn parse(line: &[u8], delayed_stores: bool) -> Option<Line> {
         }
         [b"step", worker, count] => Call::Step { worker: number(worker)?, count: number(count)? },
         [b"drop", worker] => Call::Drop { worker: number(worker)? },
-        [b"drain"] if delayed_stores => Call::Drain,
+        [b"drain"] => Call::Drain,
         [b"who", worker] => Call::Who { worker: number(worker)? },
         [b"front"] => Call::Front,
         [b"state"] => Call::State,
@@ -86,41 +84,16 @@ fn number(word: &[u8]) -> Option<u32> {
 mod tests {
     use super::*;
 
-    /// As the library takes it.
-    fn parse(line: &[u8]) -> Option<Line> {
-        super::parse(line, false)
-    }
-
-    #[test]
-    fn delayed_stores_where_they_are_asked_for() {
-        let fresh = |delayed| {
-            Some(Line::Call(Call::Fresh(Shape { kind: 3, width: 16, size: 1024, crew: 8, payload_words: 4, delayed })))
-        };
-        let parse = |line: &str, asked| super::parse(line.as_bytes(), asked);
-        assert_eq!(parse("fresh 3 16 1024 8 4", true), fresh(false));
-        assert_eq!(parse("fresh 3 16 1024 8 4 0", true), fresh(false));
-        assert_eq!(parse("fresh 3 16 1024 8 4 1", true), fresh(true));
-        assert_eq!(parse("drain", true), Some(Line::Call(Call::Drain)));
-        for line in ["fresh 3 16 1024 8 4 0", "fresh 3 16 1024 8 4 1", "drain"] {
-            assert_eq!(parse(line, false), None, "{line}");
-        }
-        for line in [
-            "fresh 3 16 1024 8 4 2", "fresh 3 16 1024 8 4 4294967295", "fresh 3 16 1024 8 4 01", "fresh 3 16 1024 8 4 x",
-            "fresh 3 16 1024 8 4 ", "fresh 3 16 1024 8 4 1 1", "fresh 3 16 1024 8", "drain 0", "drain ", "drains", "Drain",
-            "begin 0 drain",
-        ] {
-            assert_eq!(parse(line, true), None, "{line}");
-        }
-    }
-
     #[test]
     fn each_form() {
         assert_eq!(parse(b"memory 10300 20000"), Some(Line::Memory { store: 10_300, log: 20_000 }));
         assert_eq!(parse(b"memory 0 0"), Some(Line::Memory { store: 0, log: 0 }));
-        assert_eq!(
-            parse(b"fresh 3 16 1024 8 4"),
-            Some(Line::Call(Call::Fresh(Shape { kind: 3, width: 16, size: 1024, crew: 8, payload_words: 4, delayed: false })))
-        );
+        let fresh = |delayed| {
+            Some(Line::Call(Call::Fresh(Shape { kind: 3, width: 16, size: 1024, crew: 8, payload_words: 4, delayed })))
+        };
+        assert_eq!(parse(b"fresh 3 16 1024 8 4"), fresh(false));
+        assert_eq!(parse(b"fresh 3 16 1024 8 4 0"), fresh(false));
+        assert_eq!(parse(b"fresh 3 16 1024 8 4 1"), fresh(true));
         let begin = |worker, operation| Some(Line::Call(Call::Begin { worker, operation }));
         let put = |payload| begin(0, Operation::Put { payload });
         assert_eq!(parse(b"begin 0 put 65"), put([65, 0, 0, 0]));
@@ -131,6 +104,7 @@ mod tests {
         assert_eq!(parse(b"begin 7 steal"), begin(7, Operation::Steal));
         assert_eq!(parse(b"step 0 0"), Some(Line::Call(Call::Step { worker: 0, count: 0 })));
         assert_eq!(parse(b"drop 7"), Some(Line::Call(Call::Drop { worker: 7 })));
+        assert_eq!(parse(b"drain"), Some(Line::Call(Call::Drain)));
         assert_eq!(parse(b"who 7"), Some(Line::Call(Call::Who { worker: 7 })));
         assert_eq!(parse(b"front"), Some(Line::Call(Call::Front)));
         assert_eq!(parse(b"state"), Some(Line::Call(Call::State)));
@@ -167,14 +141,16 @@ mod tests {
     fn not_of_the_form() {
         for line in [
             "", " ", "memory", "memory 1", "memory 1 1 1", "fresh 1 1 1", "fresh 1 1 1 1",
-            "fresh 1 1 1 1 1 1", "fresh 1 1 1 1 ", "fresh 1 1 1 1 x", "begin 0", "begin 0 put",
+            "fresh 1 1 1 1 ", "fresh 1 1 1 1 x", "fresh 1 1 1 1 1 2", "fresh 1 1 1 1 1 4294967295", "fresh 1 1 1 1 1 01",
+            "fresh 1 1 1 1 1 x", "fresh 1 1 1 1 1 ", "fresh 1 1 1 1 1 1 1", "drain 0", "drain ", "drains", "Drain", "begin 0 drain",
+            "begin 0", "begin 0 put",
             "begin 0 put ", "begin 0 put 1 ", "begin 0 put 1 2 3 4 5", "begin 0 put 1 x", "begin put 1",
             "begin 0 take 1", "begin 1 steal 1", "begin 0 commit", "step 0", "step 0 1 1",
             "step 0 -1", "step +0 1", "step 0 x", "step  0 1", " step 0 1", "step 0 1 ",
             "step\t0 1", "step 0 1\r", "STEP 0 1", "drop", "drop ", "drop x", "drop 01", "drop 1 1", "drops 1", "Drop 1",
             "begin 1 drop", "who", "who ", "who x", "who 01", "who 1 1", "who 1 ", "whom 1", "Who 1", "begin 1 who",
             "front 0", "fronts", "state 0", "states",
-            "put 1", "take", "steal 1", "queue 1 1 1 1 2", "end", "unlink 1", "drain",
+            "put 1", "take", "steal 1", "queue 1 1 1 1 2", "end", "unlink 1",
             "ask 0", "unask 0", "make 1 1 1 1",
         ] {
             assert_eq!(parse(line.as_bytes()), None, "{line:?}");

@@ -21,19 +21,12 @@ const LOG_FROM: u32 = 4_000_000_000;
 pub struct Calls<W> {
     /// None before the first line.
     lent: Option<Lent>,
-    /// Whether the list may have delayed stores.
-    delayed_stores: bool,
     witness: W,
 }
 
 impl<W: Witness> Calls<W> {
     pub fn new(witness: W) -> Calls<W> {
-        Calls { lent: None, delayed_stores: false, witness }
-    }
-
-    /// A list that may have delayed stores, which the library has not yet.
-    pub fn with_delayed_stores(self) -> Calls<W> {
-        Calls { delayed_stores: true, ..self }
+        Calls { lent: None, witness }
     }
 
     pub fn witness(&self) -> &W {
@@ -48,7 +41,7 @@ impl<W: Witness> Calls<W> {
     /// soon as it is there. Answers false if the line is not of the form: then
     /// nothing was played.
     pub fn line(&mut self, line: &[u8], out: &mut impl Write) -> io::Result<bool> {
-        match (call_text::parse(line, self.delayed_stores), &mut self.lent) {
+        match (call_text::parse(line), &mut self.lent) {
             (Some(Line::Memory { store, log }), None) => self.lent = Some(Lent::new(store, log)),
             (Some(Line::Call(call)), Some(lent)) => {
                 lent.play(call, &mut self.witness, out)?;
@@ -542,7 +535,7 @@ mod tests {
 
     #[test]
     fn delayed_stores_are_shown_and_drained() {
-        let mut calls = Calls::new(Blind).with_delayed_stores();
+        let mut calls = Calls::new(Blind);
         let mut out = Vec::new();
         let list = "memory 3 8, drain, fresh 2 1 1 2 1 1, begin 0 put 5, step 0 6, state, begin 1 steal, step 1 3, \
                     drain, drain, drain, state, drain, fresh 2 1 1 2 1 0, state, drain";

@@ -237,7 +237,7 @@ mod tests {
     use crate::calls::Calls;
 
     fn kept(list: &str) -> bool {
-        let mut calls = Calls::new(Owner::new()).with_delayed_stores();
+        let mut calls = Calls::new(Owner::new());
         for line in list.split(", ") {
             assert!(calls.line(line.as_bytes(), &mut Vec::new()).unwrap(), "{line}");
         }
@@ -264,7 +264,7 @@ mod tests {
     /// The owner as a bench shows it after a put of `[1, 5]` up to its last line,
     /// with the two words waiting.
     fn before_the_last_line() -> (Owner, Memory) {
-        let mut calls = Calls::new(Owner::new()).with_delayed_stores();
+        let mut calls = Calls::new(Owner::new());
         for line in ["memory 2 40", "fresh 1 1 1 2 1 1", "begin 0 put 5", "step 0 4"] {
             assert!(calls.line(line.as_bytes(), &mut Vec::new()).unwrap());
         }

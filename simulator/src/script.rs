@@ -42,8 +42,6 @@ pub struct Script {
     pub shape: Shape,
     pub looks: Looks,
     pub drains: Drains,
-    /// Whether the list may have delayed stores.
-    delayed_stores: bool,
     form: Form,
     text: Vec<u8>,
     /// What the last line printed.
@@ -58,13 +56,10 @@ impl Script {
         Script::new(random, shape, Form::Program(Player::new(Blind)))
     }
 
-    /// A list of library calls; with delayed stores the library has no such list.
-    pub fn calls(random: Random, store: u32, log: u32, delayed_stores: bool) -> Script {
+    /// A list of library calls.
+    pub fn calls(random: Random, store: u32, log: u32) -> Script {
         let none = Shape { kind: 0, width: 0, size: 0, crew: 0, payload_words: 1, delayed: false };
-        let calls = Calls::new(Blind);
-        let calls = if delayed_stores { calls.with_delayed_stores() } else { calls };
-        let mut script = Script::new(random, none, Form::Calls(calls));
-        script.delayed_stores = delayed_stores;
+        let mut script = Script::new(random, none, Form::Calls(Calls::new(Blind)));
         script.say(&format!("memory {store} {log}"));
         script
     }
@@ -75,7 +70,6 @@ impl Script {
             shape,
             looks: Looks::default(),
             drains: Drains::default(),
-            delayed_stores: false,
             form,
             text: Vec::new(),
             heard: Vec::new(),
@@ -126,11 +120,6 @@ impl Script {
     /// A thief of the crew, if it has one.
     pub fn thief(&mut self) -> Option<u32> {
         (self.shape.crew > 1).then(|| self.random.between(1, self.shape.crew - 1))
-    }
-
-    /// Whether the list may have delayed stores.
-    pub fn delayed_stores(&self) -> bool {
-        self.delayed_stores
     }
 
     /// Whether stores can wait here.
@@ -190,12 +179,11 @@ impl Script {
     /// A library call; whether it is accepted.
     pub fn fresh(&mut self, shape: Shape) -> bool {
         let Shape { kind, width, size, crew, payload_words, delayed } = shape;
-        let sixth = match (self.delayed_stores, delayed) {
-            (false, _) => "",
-            (true, true) => " 1",
+        let sixth = match delayed {
+            true => " 1",
             // It may be left out.
-            (true, false) if self.random.chance(50) => "",
-            (true, false) => " 0",
+            false if self.random.chance(50) => "",
+            false => " 0",
         };
         self.say(&format!("fresh {kind} {width} {size} {crew} {payload_words}{sixth}"));
         let accepted = self.heard.first() == Some(&b'A');

@@ -10,7 +10,8 @@ use borrow.Author.Tests.{eq-eqb, le-leb, lt-ltb}
 use Rattle.model.specs.declared.Kind.{Kind}
 use Rattle.model.specs.declared.Kind.the-variants.{Lifo, Fifo, Deque}
 use Rattle.model.specs.declared.Anchor.{Anchor}
-use Rattle.model.specs.World.{World}
+use Rattle.model.specs.Stores.{Shared, inLine}
+use Rattle.model.specs.World.{World, tagBits}
 use Rattle.model.specs.Calls.{freshOf}
 use Rattle.model.specs.Answers.{entryLength}
 use Rattle.model.specs.Limits.{wordsOk}
@@ -20,6 +21,8 @@ use Rattle.model.specs.Counts.{countBelow, outFirst, entriesIn, countsOf}
 use Rattle.model.proofs.Directory.{size-le}
 use Rattle.model.proofs.Tests.{if-true, and-both}
 use Rattle.theorems.proofs.Shape.{Bounded}
+use Rattle.theorems.proofs.Folds.{landed-is}
+use Rattle.theorems.proofs.ShapeLay.{shape-settle}
 use Rattle.theorems.proofs.Directory.{now}
 use Rattle.theorems.proofs.Valid.{Whole}
 use Rattle.theorems.proofs.WholeRun.{whole-run}
@@ -41,9 +44,11 @@ tasks-le Deque w z low a (h, c, t) = c
 
 window-small : (W : World) → Whole W → windowSize W ≤ 1024
 window-small W H =
-    let S = H .shape in
-    let t = tasks-le (W .bench .kind) _ _ (S .low) (W .bench .queue .anchor) (S .anchor) in
-    let z = size-le (now (S .arrays) .0) in omega (arith, t, z)
+    let ss = inLine (W .bench .waiting) in
+    let S = shape-settle (W .bench .kind) ss (H .shape) in
+    let t = tasks-le (W .bench .kind) (tagBits (W .bench)) _ _ _ (S .anchor) in
+    let e = ap (λ (U : Shared). tasks (W .bench .kind) (U .queue .anchor)) (landed-is (W .bench .words) (W .bench .queue) (W .store) ss) in
+    let z = size-le (now (S .arrays) .0) in omega (arith, t, e, z)
 
 -- what is judged where the lengths are right
 judged-words : (v : ℕ) (log list : List ℕ) (n m : ℕ) → wordsOk v ≡ true → length log ≡ entryBytes v * n → length list ≡ 4 * m → length log ≤ 65536 → length list ≤ 65536

@@ -1,7 +1,7 @@
 // What differs from figure to figure of the anchor: whether it tells of an empty queue, whether a compare finds it as it was read,
 // what a last line stores, and which anchor that leaves. `anchor` is the anchor now, `read` the anchor as a worker read it at
 // line 1.
-// Uses `model`. It is used by `lines`, `limits` and `machine`.
+// Uses `model`. It is used by `lines`, `waiting`, `limits` and `machine`.
 ghost use mathlib.Core.Path.{_≡_};
 ghost use mathlib.Core.Bool.{true};
 ghost use Prim.Native.Nat.{_+_, _≤_, _%_};

@@ -34,6 +34,8 @@ pub fn number_of(why: Refusal) -> u32
         Refusal::BadLine => 13,
         Refusal::PayloadWords => 16,
         Refusal::NoLink => 17,
+        Refusal::WaitingFull => 18,
+        Refusal::NoneWaiting => 19,
     }
 }
 

@@ -21,6 +21,7 @@ pub enum Request {
         size: u32,
         workers: u32,
         words: u32,
+        delayed: bool,
     },
     Calls {
         operation: u32,
@@ -43,6 +44,7 @@ enum Key {
     Fresh,
     Step,
     Drop,
+    Drain,
     Who,
     Front,
     State,
@@ -51,10 +53,10 @@ enum Key {
 // The numbers of a line. The count is one more than a line may have where there are more, or where a word is no number.
 struct Values {
     count: usize,
-    v: [u32; 5],
+    v: [u32; 6],
 }
 
-const MANY: usize = 6;
+const MANY: usize = 7;
 
 // The longest line of an answer: H and six numbers. A number with the space before it. Both have room for numbers of 64 bits.
 pub const ANSWER: usize = 128;
@@ -107,6 +109,9 @@ fn keyword(word: &[u8]) -> Key {
     if text::same(word, b"drop") {
         return Key::Drop;
     }
+    if text::same(word, b"drain") {
+        return Key::Drain;
+    }
     if text::same(word, b"who") {
         return Key::Who;
     }
@@ -138,10 +143,10 @@ fn numbers(line: &[u8], end: usize) -> Values
     requires { ⌜ end ≤ length (now line) ⌝ }
 {
     let mut at = end;
-    let mut v = [0u32; 5];
+    let mut v = [0u32; 6];
     let mut n = 0;
     while at < line.len() {
-        if n == 5 {
+        if n == 6 {
             return Values { count: MANY, v };
         }
         let from = at + 1;
@@ -157,7 +162,7 @@ fn numbers(line: &[u8], end: usize) -> Values
 }
 
 // The keyword with as many numbers as it takes, those with a range within it.
-fn form(key: Key, count: usize, v: [u32; 5]) -> ListLine {
+fn form(key: Key, count: usize, v: [u32; 6]) -> ListLine {
     match key {
         Key::Other => ListLine::Bad,
         Key::Memory => {
@@ -176,8 +181,14 @@ fn form(key: Key, count: usize, v: [u32; 5]) -> ListLine {
             }
         }
         Key::Fresh => {
+            // The sixth may be left out, which means 0.
             if count != 5 {
-                return ListLine::Bad;
+                if count != 6 {
+                    return ListLine::Bad;
+                }
+                if 1 < v[5] {
+                    return ListLine::Bad;
+                }
             }
             ListLine::Asks {
                 asked: Request::Fresh {
@@ -186,6 +197,7 @@ fn form(key: Key, count: usize, v: [u32; 5]) -> ListLine {
                     size: v[2],
                     workers: v[3],
                     words: v[4],
+                    delayed: v[5] == 1,
                 },
             }
         }
@@ -210,6 +222,19 @@ fn form(key: Key, count: usize, v: [u32; 5]) -> ListLine {
                 asked: Request::Calls {
                     operation: 4,
                     worker: v[0],
+                    payload: payload_of(0, 0, 0, 0),
+                    times: 1,
+                },
+            }
+        }
+        Key::Drain => {
+            if count != 0 {
+                return ListLine::Bad;
+            }
+            ListLine::Asks {
+                asked: Request::Calls {
+                    operation: 5,
+                    worker: 0,
                     payload: payload_of(0, 0, 0, 0),
                     times: 1,
                 },
@@ -276,7 +301,7 @@ fn begin(line: &[u8], end: usize) -> ListLine
 }
 
 // A put has one to four words; those that it has not are 0.
-fn begun(operation: u32, worker: u32, count: usize, v: [u32; 5]) -> ListLine {
+fn begun(operation: u32, worker: u32, count: usize, v: [u32; 6]) -> ListLine {
     if operation == 0 {
         return ListLine::Bad;
     }

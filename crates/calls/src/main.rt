@@ -198,6 +198,7 @@ fn ask(
             size,
             workers,
             words,
+            delayed,
         } => {
             let setup = model::Setup {
                 kind,
@@ -205,6 +206,7 @@ fn ask(
                 size,
                 crew: workers,
                 words,
+                delayed,
             };
             let made = Bench::fresh(setup, store);
             let answer = made.answer;
@@ -407,25 +409,30 @@ fn play_some(
     }
 }
 
-fn run(buf: &mut [u8], store: &mut [u32], log: &mut [u32], out: &mut [u8])
-    requires { ⌜ (64 < length (now buf)) × (128 ≤ length (now out)) ⌝ }
-{
-    // a refused fresh: no bench
+// Before the first line: a refused fresh, which makes no bench.
+fn unbegun(store: &mut [u32]) -> Game {
     let nothing = model::Setup {
         kind: 0,
         width: 0,
         size: 0,
         crew: 0,
         words: 0,
+        delayed: false,
     };
     let none = Bench::fresh(nothing, store);
     let bench = none.bench;
-    let game = Game {
+    Game {
         begun: false,
         store: 0,
         log: 0,
         bench,
-    };
+    }
+}
+
+fn run(buf: &mut [u8], store: &mut [u32], log: &mut [u32], out: &mut [u8])
+    requires { ⌜ (64 < length (now buf)) × (128 ≤ length (now out)) ⌝ }
+{
+    let game = unbegun(store);
     let mut next = Next {
         game,
         have: 0,

@@ -4,6 +4,9 @@ ghost use Prim.Native.Nat.{_+_, _≤_};
 ghost use lib.ListN.{length};
 use libc::STDERR_FILENO;
 use libc::STDOUT_FILENO;
+use model::Anchor;
+use model::Queue;
+use model::Store;
 use model::Tally;
 use queues::Bench;
 
@@ -135,7 +138,7 @@ pub fn show_front(text: Text, bench: Bench, log: &[u32], out: &mut [u8]) -> Text
 }
 
 // The anchor, how many arrays are published and how many claimed, and offset and length of each of those.
-fn show_queue(text: Text, queue: model::Queue, out: &mut [u8]) -> Text
+fn show_queue(text: Text, queue: Queue, out: &mut [u8]) -> Text
     requires { ⌜ (text .end ≤ length (now out)) × (128 ≤ length (now out)) ⌝ }
     ensures { λ r. ⌜ r .end ≤ length (now (out .exit)) ⌝ }
 {
@@ -169,7 +172,102 @@ fn show_counts(text: Text, used: u32, written: u32, restarts: [u32; 8], out: &mu
     show_words(shown, &restarts, out)
 }
 
-// What is shared, in the order that the form gives. A crew of 0 is no bench.
+// A sum that fits where a state is the library's own.
+fn sum(a: u32, b: u32) -> u32 {
+    std::num::wrapping_add_u32(a, b)
+}
+
+// Where a task's word lies in the store, of a bench with so many payload words.
+fn word_address(queue: Queue, words: u32, place: u32, slot: u32, word: u32) -> u32 {
+    let at = crate::least(place as usize, 10);
+    let array = queue.arrays[at];
+    let twice = sum(slot, slot);
+    let before = match words {
+        1 => twice,
+        2 => sum(twice, slot),
+        3 => sum(twice, twice),
+        _ => sum(sum(twice, twice), slot),
+    };
+    sum(array.offset, sum(before, word))
+}
+
+fn show_anchor(text: Text, anchor: Anchor, out: &mut [u8]) -> Text
+    requires { ⌜ (text .end ≤ length (now out)) × (128 ≤ length (now out)) ⌝ }
+    ensures { λ r. ⌜ r .end ≤ length (now (out .exit)) ⌝ }
+{
+    let row = [3, anchor.head, anchor.count, anchor.tag];
+    show_words(text, &row, out)
+}
+
+// A store that waits: which place it is for, and the value.
+fn show_store(text: Text, queue: Queue, words: u32, store: Store, out: &mut [u8]) -> Text
+    requires { ⌜ (text .end ≤ length (now out)) × (128 ≤ length (now out)) ⌝ }
+    ensures { λ r. ⌜ r .end ≤ length (now (out .exit)) ⌝ }
+{
+    match store {
+        Store::StoreWord {
+            place,
+            slot,
+            word,
+            value,
+        } => {
+            let row = [1, word_address(queue, words, place, slot, word), value];
+            show_words(text, &row, out)
+        }
+        // The array's place in the directory; so many are published then.
+        Store::StoreNote { place } => {
+            let row = [2, sum(place, 1)];
+            show_words(text, &row, out)
+        }
+        Store::StorePut { value } => show_anchor(text, value, out),
+        Store::StoreOut { value } => show_anchor(text, value, out),
+        Store::StoreHead { value } => {
+            let row = [4, value];
+            show_words(text, &row, out)
+        }
+        Store::StoreTail { value } => {
+            let row = [5, value];
+            show_words(text, &row, out)
+        }
+    }
+}
+
+// How many stores wait, and each, the oldest first; nothing of a bench that does not delay its stores.
+fn show_waiting(text: Text, state: model::Bench, out: &mut [u8]) -> Text
+    requires { ⌜ (text .end ≤ length (now out)) × (128 ≤ length (now out)) ⌝ }
+    ensures { λ r. ⌜ r .end ≤ length (now (out .exit)) ⌝ }
+{
+    if !state.delayed {
+        return text;
+    }
+    let queue = state.queue;
+    let words = state.words;
+    let waiting = state.waiting;
+    let first = [waiting.count];
+    let mut shown = show_words(text, &first, out);
+    let count = crate::least(waiting.count as usize, 8);
+    let mut i = 0;
+    while i < count {
+        let pending = waiting.stores[i];
+        let store = pending.store;
+        shown = show_store(shown, queue, words, store, out);
+        i += 1;
+    }
+    shown
+}
+
+// What is shared but the store's words, in the order that the form gives.
+fn show_shared(text: Text, state: model::Bench, out: &mut [u8]) -> Text
+    requires { ⌜ (text .end ≤ length (now out)) × (128 ≤ length (now out)) ⌝ }
+    ensures { λ r. ⌜ r .end ≤ length (now (out .exit)) ⌝ }
+{
+    let restarts = state.restarts;
+    let mut shown = show_queue(text, state.queue, out);
+    shown = show_counts(shown, state.used, state.written, restarts, out);
+    show_waiting(shown, state, out)
+}
+
+// The same with the words. A crew of 0 is no bench.
 pub fn show_state(text: Text, state: model::Bench, store: &[u32], out: &mut [u8]) -> Text
     requires { ⌜ (text .end ≤ length (now out)) × (128 ≤ length (now out)) ⌝ }
     ensures { λ r. ⌜ r .end ≤ length (now (out .exit)) ⌝ }
@@ -178,10 +276,8 @@ pub fn show_state(text: Text, state: model::Bench, store: &[u32], out: &mut [u8]
         let foreign = [0, 3, 12, 0, 0, 0, 0];
         return show_answer(text, 1, &foreign, out);
     }
-    let restarts = state.restarts;
     let mut shown = show_byte(text, b'S', out);
-    shown = show_queue(shown, state.queue, out);
-    shown = show_counts(shown, state.used, state.written, restarts, out);
+    shown = show_shared(shown, state, out);
     shown = show_words(shown, store, out);
     show_byte(shown, b'\n', out)
 }

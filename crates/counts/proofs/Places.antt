@@ -1,5 +1,5 @@
 -- Where the window's tasks lie.
-use mathlib.Core.Path.{_≡_, ap, _∙_}
+use mathlib.Core.Path.{_≡_, sym, ap, _∙_}
 use mathlib.Core.List.{List, []}
 use Prim.Native.Nat.{ℕ, _+_, _-_, _*_, _/_, _≤_}
 use native.Mathlib.Omega.{arith}
@@ -13,7 +13,9 @@ use Rattle.model.specs.declared.Task.{Task}
 use Rattle.model.specs.Tasks.{gathered}
 use Rattle.model.specs.Memory.{wordAt, offsetAt, lengthAt, sizeAt, nowhere}
 use Rattle.model.specs.Figures.{slot}
-use Rattle.model.specs.Window.{windowIndex, windowSize}
+use Rattle.model.specs.Stores.{Shared, landedAll}
+use Rattle.model.specs.World.{World, memory, ownersView}
+use Rattle.model.specs.Window.{tasks, windowIndex, windowSize}
 use Rattle.model.specs.Calls.{lent}
 use Rattle.model.specs.Counts.{someBelow, standsAt}
 use Rattle.model.proofs.Tasks.{same-words}
@@ -39,10 +41,17 @@ task-is κ v a g m i x s r e f h S =
     ∙ ap (λ (n : ℕ). getD m n 0) (let z : (v + 1) * s + (g .offset + k) ≡ g .offset + (v + 1) * s + k = omega arith in z)
     ∙ ap (λ (n : ℕ). getD m (g .offset + (v + 1) * n + k) 0) q)
 
+-- where no store waits the owner reads memory
+pub reads-memory : (W : World) → W .bench .waiting .count ≡ 0 → ownersView W ≡ memory W
+unfolding landedAll
+reads-memory W e = rw e
+
 -- the current array's pair is all that the window asks of the directory
-pub stands-is : (b : Bench) (m : List ℕ) (t : Task) (g : Region) (n : ℕ) → g ≡ getD (b .queue .arrays) (b .queue .published - 1) nowhere → n ≡ windowSize (lent b m []) →
+pub stands-is : (b : Bench) (m : List ℕ) (t : Task) (g : Region) (n : ℕ) → b .waiting .count ≡ 0 → g ≡ getD (b .queue .arrays) (b .queue .published - 1) nowhere → n ≡ tasks (b .kind) (b .queue .anchor) →
     someBelow (stands (b .kind) (b .words) (b .queue .anchor) g m t) n ≡ someBelow (standsAt (lent b m []) t) (windowSize (lent b m []))
 unfolding offsetAt lengthAt sizeAt
-stands-is b m t g n e f =
+stands-is b m t g n none e f =
     ap (someBelow (stands (b .kind) (b .words) (b .queue .anchor) g m t)) f
-    ∙ ap (λ (h : Region). someBelow (stands (b .kind) (b .words) (b .queue .anchor) h m t) (windowSize (lent b m []))) e
+    ∙ ap (λ (h : Region). someBelow (stands (b .kind) (b .words) (b .queue .anchor) h m t) (tasks (b .kind) (b .queue .anchor))) e
+    ∙ ap (λ (S : Shared). someBelow (stands (b .kind) (b .words) (S .queue .anchor) (getD (S .queue .arrays) (S .queue .published - 1) nowhere) (S .store) t) (tasks (b .kind) (S .queue .anchor)))
+    (sym (reads-memory (lent b m []) none))

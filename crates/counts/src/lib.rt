@@ -1,4 +1,5 @@
-// The six counts of `T`, worked out from log, store and state as the model defines them, for any state and any memory.
+// The six counts of `T`, worked out from log, store and state as the model defines them, for any memory and any state in which no
+// store waits: the program's stores are not delayed.
 // Uses `model` and `handouts`. It is used by `replies`.
 ghost use mathlib.Core.Path.{_≡_};
 ghost use mathlib.Core.List.{[]};
@@ -141,6 +142,7 @@ fn least(a: u32, b: u32) -> u32
 // A slot of the window holds the task. The window has its tasks in the order of their puts, in which they are asked
 // for: so the scan starts at `from`, just past the task found last, and what lies below comes after.
 fn in_window(bench: Bench, store: &[u32], task: Task, from: &mut u32) -> bool
+    requires { ⌜ bench .waiting .count ≡ 0 ⌝ }
     ensures { λ r.
         ⌜ r ≡ someBelow (standsAt (lent bench (now (store .entry)) []) task) (windowSize (lent bench (now (store .entry)) [])) ⌝ }
 {
@@ -175,6 +177,7 @@ fn is_lost(
     n: u32,
     entry: u32,
 ) -> bool
+    requires { ⌜ bench .waiting .count ≡ 0 ⌝ }
     requires { ⌜ Seen (bench .words) (now log) (now seen) n ⌝ }
     ensures { λ r. ⌜ r ≡ isLost (lent bench (now (store .entry)) (now (log .entry))) n entry ⌝ }
 {
@@ -194,6 +197,7 @@ fn is_lost(
 
 // How many finished puts of the first `n` entries are lost.
 fn lost_of(bench: Bench, store: &[u32], log: &[u32], seen: &[u32; 4096], n: u32) -> u32
+    requires { ⌜ bench .waiting .count ≡ 0 ⌝ }
     requires { ⌜ Seen (bench .words) (now log) (now seen) n ⌝ }
     ensures { λ r. ⌜ r ≡ countBelow (isLost (lent bench (now (store .entry)) (now (log .entry))) n) n ⌝ }
 {
@@ -229,6 +233,7 @@ fn restarts_of(each: [u32; 8]) -> u64
 }
 
 pub fn counts(bench: Bench, store: &[u32], log: &[u32]) -> Counts
+    requires { ⌜ bench .waiting .count ≡ 0 ⌝ }
     ensures { λ r. ⌜ r ≡ countsOf (lent bench (now (store .entry)) (now (log .entry))) ⌝ }
 {
     let words = bench.words;

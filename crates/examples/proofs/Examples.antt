@@ -26,7 +26,7 @@ use Rattle.model.specs.Stores.{landedAll}
 use Rattle.model.specs.Lines.{lineStep}
 use Rattle.model.specs.World.{World, tagBits, lineAt}
 use Rattle.model.specs.Limits.{validOf}
-use Rattle.model.specs.Calls.{freshOf, setup, beginOf, stepOf, Call, begin, step, dropLink}
+use Rattle.model.specs.Calls.{freshOf, setup, beginOf, stepOf, Call, begin, step, dropLink, drain}
 use Rattle.model.specs.Run.{Played, played, after}
 use Rattle.model.specs.Window.{windowSize}
 use Rattle.theorems.specs.Demand3.{At, Begins, Line1, Attempt, Out, AllOut, Stands, puts, between, Few, FewPuts, Demand3}
@@ -38,7 +38,7 @@ use Rattle.theorems.proofs.NothingLost.{demand3}
 use Rattle.theorems.proofs.Remainders.{le-or-lt}
 
 -- TESTS over places. A task is handed out nowhere
-isOut : Task → Answer → Bool
+unfoldable pub isOut : Task → Answer → Bool
 isOut t Accepted = false
 isOut t (Numbered n) = false
 isOut t GoesOn = false
@@ -48,7 +48,7 @@ isOut t (Empty i) = false
 isOut t (Full i u) = false
 isOut t (Refused r) = false
 
-anyOut : Task → List Played → Bool
+unfoldable pub anyOut : Task → List Played → Bool
 anyOut t [] = false
 anyOut t (s ∷ T) = isOut t (s .answer) or anyOut t T
 
@@ -59,22 +59,23 @@ out-yes : (t : Task) (a : Answer) (i : ℕ) → a ≡ HandedOut i t → isOut t 
 unfolding isOut
 out-yes t a i e = ap (isOut t) e ∙ task-same t t refl
 
-none-out : (t : Task) (T : List Played) → anyOut t T ≡ false → (k : ℕ) → Out T k t → ⊥
+pub none-out : (t : Task) (T : List Played) → anyOut t T ≡ false → (k : ℕ) → Out T k t → ⊥
 unfolding anyOut
 none-out t [] f k a = a
 none-out t (s ∷ T) f zero (i, e) = not-both (out-yes t (s .answer) i e) (or-false (isOut t (s .answer)) _ f .0)
 none-out t (s ∷ T) f (suc k) a = none-out t T (or-false (isOut t (s .answer)) _ f .1) k a
 
 -- no call of a part is a line 1 of worker i
-isStep : ℕ → Call → Bool
+unfoldable pub isStep : ℕ → Call → Bool
 isStep i (begin j op) = false
 isStep i (step j) = eqb j i
 isStep i (dropLink j) = false
+isStep i drain = false
 
-startsAttempt : ℕ → Played → Bool
+unfoldable pub startsAttempt : ℕ → Played → Bool
 startsAttempt i s = isStep i (s .call) and is-line-1 (lineAt (s .before .bench .workers) i)
 
-anyStart : ℕ → List Played → Bool
+unfoldable pub anyStart : ℕ → List Played → Bool
 anyStart i [] = false
 anyStart i (s ∷ T) = startsAttempt i s or anyStart i T
 
@@ -101,7 +102,7 @@ at-take (s ∷ T) zero k P h a = absurd (omega arith)
 at-take (s ∷ T) (suc n) zero P h a = a
 at-take (s ∷ T) (suc n) (suc k) P h a = at-take T n k P (omega arith) a
 
-newest-by : (T : List Played) (i l j : ℕ) → anyStart i (between l j T) ≡ false → (k : ℕ) → l < k → k < j → At T k (Line1 i) → ⊥
+pub newest-by : (T : List Played) (i l j : ℕ) → anyStart i (between l j T) ≡ false → (k : ℕ) → l < k → k < j → At T k (Line1 i) → ⊥
 newest-by T i l j f k a b x =
     none-starts i (between l j T) f (k - suc l)
     (at-take (drop (suc l) T) (j - suc l) (k - suc l) (Line1 i) (omega arith) (at-drop T (suc l) k (Line1 i) (omega arith) x))
@@ -111,6 +112,7 @@ unfoldable pub does : Call → List Call
 does (begin i op) = begin i op ∷ replicate 5 (step i)
 does (step i) = step i ∷ []
 does (dropLink i) = dropLink i ∷ []
+does drain = drain ∷ []
 
 unfoldable pub p1 : List Call
 p1 = does (begin 0 (Put (one 65))) ++ does (begin 1 Steal) ++ does (begin 0 Take) ++ does (begin 0 (Put (one 66))) ++ does (begin 0 Take) ++ does (begin 0 (Put (one 67))) ++ step 1 ∷ []
@@ -235,9 +237,9 @@ false-empty D = go (D .none-left 39 0 refl)
         late (inl h) = omega arith
         late (inr h) = absurd (A .newest 38 h (omega arith) (inl (refl, refl, λ r e. let z : _≡_ {A = ℕ} 0 1 = cc in omega arith)))
 
-    go : (l : ℕ) × Attempt T 0 l 39 × AllOut T l 39 → ⊥
+    go : (l : ℕ) × Attempt T 0 l 39 × AllOut T 0 l 39 → ⊥
     go (l, A, all) =
-        let o = all 30 35 (short 3 67) (record { begun = (3, one 67, refl, refl, refl); later = omega arith; finished = (0, refl) }) (first l A) in
+        let o = all 30 35 (short 3 67) (record { begun = (3, one 67, refl, refl, refl); later = omega arith; finished = (0, refl) }) (first l A) tt in
         none-out (short 3 67) T refl (o .0) (o .2)
 
 -- TWO PAYLOAD WORDS. Word by word an operation has one step more, and a payload's third and fourth word are not used
@@ -245,6 +247,7 @@ unfoldable pub does2 : Call → List Call
 does2 (begin i op) = begin i op ∷ replicate 6 (step i)
 does2 (step i) = step i ∷ []
 does2 (dropLink i) = dropLink i ∷ []
+does2 drain = drain ∷ []
 
 unfoldable pub bench2 : World
 bench2 = freshOf (setup 1 1 2 3 2) (replicate 18 0) (replicate 64 0) .world

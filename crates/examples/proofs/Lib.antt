@@ -2,3 +2,4 @@ pub mod Examples
 pub mod OrderExamples
 pub mod ListingExamples
 pub mod LinkedExamples
+pub mod DelayedExamples

@@ -18,6 +18,7 @@ use states::played;
 use states::stepped;
 use states::with_line;
 
+mod delayed;
 mod foreign;
 mod links;
 mod restarts;
@@ -33,6 +34,7 @@ fn try_setup(tried: &[u8], kind: u32, width: u32, size: u32, crew: u32, words: u
         size,
         crew,
         words,
+        delayed: false,
     };
     let made = Bench::fresh(setup, &mut store);
     let answer = made.answer;
@@ -168,8 +170,8 @@ fn put(bench: Bench, lines: u32, store: &mut [u32], log: &mut [u32]) -> Reply {
     let mut last = bench.begin(0, Operation::Put { payload }, store, log);
     let mut line: u32 = 0;
     while line < lines {
-        last = last.bench.step(0, store, log);
         line += 1;
+        last = last.bench.step(0, store, log);
     }
     last
 }
@@ -183,6 +185,7 @@ fn try_log(tried: &[u8], words: u32, lines: u32, log: &mut [u32]) {
         size: 2,
         crew: 1,
         words,
+        delayed: false,
     };
     let mut last = Bench::fresh(setup, &mut store);
     last = put(last.bench, lines, &mut store, log);
@@ -273,4 +276,13 @@ fn main() {
     links::marks();
     restarts::counts();
     restarts::ceilings();
+    delayed::lengths();
+    delayed::words();
+    delayed::notes();
+    delayed::anchors();
+    delayed::fifo();
+    delayed::owners_array();
+    delayed::full();
+    delayed::full_growth();
+    delayed::full_order();
 }

@@ -49,12 +49,16 @@ fn said_text(said: Said) {
     if 0 < said.number {
         number(said.number);
     }
-    text(b"\n");
+}
+
+pub fn say(answer: Answer) {
+    said_text(said_by(answer));
 }
 
 // A line of output.
 pub fn report(tried: &[u8], answer: Answer) {
     text(tried);
     text(b": ");
-    said_text(said_by(answer));
+    say(answer);
+    text(b"\n");
 }

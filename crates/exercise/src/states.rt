@@ -40,7 +40,7 @@ pub fn try_state(tried: &[u8], state: model::Bench) {
 }
 
 // The state that an accepted fresh makes: 2 slots, tags of 4 bits, a crew of 3.
-pub fn base_of(kind: u32, words: u32) -> model::Bench {
+pub fn made(kind: u32, words: u32, delayed: bool) -> model::Bench {
     let mut store = [0u32; 30];
     let setup = Setup {
         kind,
@@ -48,10 +48,15 @@ pub fn base_of(kind: u32, words: u32) -> model::Bench {
         size: 2,
         crew: 3,
         words,
+        delayed,
     };
     let made = Bench::fresh(setup, &mut store);
     let bench = made.bench;
     bench.state
+}
+
+pub fn base_of(kind: u32, words: u32) -> model::Bench {
+    made(kind, words, false)
 }
 
 // With one payload word.
@@ -94,12 +99,16 @@ pub fn with_line(state: model::Bench, worker: usize, line: Line) -> model::Bench
     next
 }
 
+pub fn with_anchor(state: model::Bench, anchor: Anchor) -> model::Bench {
+    let mut next = state;
+    let mut queue = next.queue;
+    queue.anchor = anchor;
+    next.queue = queue;
+    next
+}
+
 pub fn try_anchor(tried: &[u8], kind: u32, head: u32, count: u32, tag: u32) {
-    let mut state = base(kind);
-    let mut queue = state.queue;
-    queue.anchor = anchor(head, count, tag);
-    state.queue = queue;
-    try_state(tried, state);
+    try_state(tried, with_anchor(base(kind), anchor(head, count, tag)));
 }
 
 // A pair of the directory, and how many are published and claimed. The size that is kept is the first array's.

@@ -20,7 +20,7 @@ bounds-of W v =
     let words = and-right _ _ (and-right _ _ v) in
     let crew = and-right _ _ words in
     let log = and-right _ _ (and-right _ _ crew) in
-    let used = and-right _ _ (and-right _ _ log) in
+    let used = and-right _ _ (and-right _ _ (and-right _ _ log)) in
     record {
       wide = (ltb-true _ _ (and-left _ _ (and-left _ _ words)), leb-true _ _ (and-right _ _ (and-left _ _ words)));
       crew = leb-true _ _ (and-right _ _ (and-left _ _ crew));

@@ -1,24 +1,25 @@
 -- A directory is tidy as far as its links hold.
 use mathlib.Core.Bool.{Bool, true, false, true≢false}
 use mathlib.Core.List.{List}
+use mathlib.Core.Logic.{_⊎_, inl, inr}
 use mathlib.Core.Path.{_≡_, refl, sym, _∙_, subst}
-use Prim.Native.Nat.{ℕ, suc, _+_, _-_, _*_, _^_, _%_, _≤_, _<_}
-use native.Mathlib.Nat.{mod-eq-of-lt}
+use Prim.Native.Nat.{ℕ, zero, suc, _+_, _-_, _*_, _^_, _%_, _≤_, _<_}
+use native.Mathlib.Nat.{mod-eq-of-lt, eq-or-lt-of-le}
 use native.Mathlib.Omega.{arith}
 use lib.Dec.{eqb}
-use lib.ListN.{getD}
+use lib.ListN.{length, getD}
 use borrow.Author.Tests.{eqb-true, ltb-true, leb-true}
 use Rattle.model.specs.declared.Line.{Line}
 use Rattle.model.specs.declared.Region.{Region}
 use Rattle.model.specs.declared.Queue.{Queue}
 use Rattle.model.specs.Tests.{if_then_else_, _and_}
 use Rattle.model.specs.Memory.{nowhere, offsetAt, lengthAt, sizeAt}
-use Rattle.model.specs.Lines.{size}
+use Rattle.model.specs.Stores.{taken}
 use Rattle.model.specs.Limits.{tidy, directoryOk}
-use Rattle.ranges.specs.Doubles.{Doubles}
+use Rattle.ranges.specs.Doubles.{Doubled}
 use Rattle.limits.specs.Parts.{tasksIn, startsOk, followsOk}
 use Rattle.model.proofs.Tests.{holds, and-left, and-right, and-both}
-use Rattle.model.proofs.Directory.{size-le, tidy-front, tidy-size, tidy-kept}
+use Rattle.model.proofs.Directory.{size-le, tidy-front, tidy-last, tidy-size, tidy-kept}
 use Rattle.limits.proofs.Scan.{fails-by}
 use Rattle.limits.proofs.Lengths.{never}
 
@@ -28,12 +29,32 @@ unfolding if_then_else_
 reaches true c p e = let h : c ≡ p + 1 = eqb-true _ _ e in omega arith
 reaches false c p e = let h : c ≡ p = eqb-true _ _ e in omega arith
 
-pub published-in : (v : ℕ) (q : Queue) (m : List ℕ) (o : Line) → directoryOk v q m o ≡ true → (0 < q .published) × (q .published ≤ 11)
-published-in v q m o e =
-    let some : 0 < q .published = ltb-true _ _ (and-left _ _ e) in
-    let few : q .claimed ≤ 11 = leb-true _ _ (and-left _ _ (and-right _ _ e)) in
-    let all : q .published ≤ q .claimed = reaches _ _ _ (and-left _ _ (and-right _ _ (and-right _ _ e))) in
-    (some, omega arith)
+-- the directory's parts
+pub record Ordered (v : ℕ) (q : Queue) (p : ℕ) (m : List ℕ) : Type 0 where
+  pub some : 0 < q .published
+  pub few : q .published ≤ p
+  pub claimed : p ≤ q .claimed
+  pub listed : q .claimed ≤ 11
+  pub tidied : tidy v (q .arrays) (q .claimed) ≡ true
+  pub fits : taken q ≤ length m
+  pub kept : q .initial ≡ sizeAt v (q .arrays) 0
+
+pub ordered : (v : ℕ) (q : Queue) (p : ℕ) (m : List ℕ) (o : Line) → directoryOk v q p m o ≡ true → Ordered v q p m
+ordered v q p m o e =
+    let e1 = and-right _ _ e in
+    let e2 = and-right _ _ e1 in
+    let e3 = and-right _ _ e2 in
+    let e4 = and-right _ _ e3 in
+    let e5 = and-right _ _ e4 in
+    record {
+      some = ltb-true _ _ (and-left _ _ e);
+      few = leb-true _ _ (and-left _ _ e1);
+      claimed = reaches _ _ _ (and-left _ _ e3);
+      listed = leb-true _ _ (and-left _ _ e2);
+      tidied = and-left _ _ e4;
+      fits = leb-true _ _ (and-left _ _ e5);
+      kept = eqb-true _ _ (and-right _ _ e5);
+    }
 
 module _ (v : ℕ) (l : List Region) where
   abbrev pub link : ℕ → Bool
@@ -75,19 +96,26 @@ pub kept : (v : ℕ) (q : Queue) → eqb (q .initial) (tasksIn v (getD (q .array
 unfolding lengthAt sizeAt
 kept v q e = e
 
-pub doubles : (v : ℕ) (q : Queue) (m : List ℕ) (o : Line) → directoryOk v q m o ≡ true → Doubles v q (q .initial)
-doubles v q m o e k h =
-    let t = and-right _ _ (and-right _ _ e) in
-    let all : q .published ≤ q .claimed = reaches _ _ _ (and-left _ _ t) in
-    let tidied = and-left _ _ (and-right _ _ t) in
-    let kept : q .initial ≡ sizeAt v (q .arrays) 0 = eqb-true _ _ (and-right _ _ (and-right _ _ (and-right _ _ t))) in
-    let u = tidy-front v (q .arrays) (q .claimed) k tidied (omega (arith, all, h)) in
-    let d = tidy-kept v (q .arrays) (q .initial) k kept u in
+pub doubled : (v : ℕ) (q : Queue) (p : ℕ) (m : List ℕ) → Ordered v q p m → Doubled v (q .arrays) (q .claimed) (q .initial)
+doubled v q p m O k h =
+    let u = tidy-front v (q .arrays) (q .claimed) k (O .tidied) h in
+    let d = tidy-kept v (q .arrays) (q .initial) k (O .kept) u in
     (d, subst (λ (x : ℕ). x ≤ 1024) d (size-le (tidy-size v (q .arrays) k u)))
 
--- the current array's size, as the first one's shifted
-pub current : (v : ℕ) (q : Queue) → Doubles v q (q .initial) → 0 < q .published
-    → q .initial * 2 ^ (q .published - 1) % 2 ^ 32 ≡ size v q
-current v q d h =
-    let (doubled, small) = d (q .published - 1) (omega arith) in
-    mod-eq-of-lt (let low : q .initial * 2 ^ (q .published - 1) < 2 ^ 32 = omega (arith, small) in low) ∙ sym doubled
+-- the size of the array at place k, as the first one's shifted
+pub shifted : (v : ℕ) (l : List Region) (n f k : ℕ) → Doubled v l n f → k < n → f * 2 ^ k % 2 ^ 32 ≡ sizeAt v l k
+shifted v l n f k d h =
+    let (doubled, small) = d k h in
+    mod-eq-of-lt (let low : f * 2 ^ k < 2 ^ 32 = omega (arith, small) in low) ∙ sym doubled
+
+-- an array ends where the last one does, or before
+pub ends-before : (v : ℕ) (l : List Region) (m k : ℕ) → tidy v l (suc m) ≡ true → k ≤ m
+    → offsetAt l k + lengthAt l k ≤ offsetAt l m + lengthAt l m
+ends-before v l zero k t h =
+    subst (λ (x : ℕ). offsetAt l x + lengthAt l x ≤ offsetAt l 0 + lengthAt l 0) {x = 0} {y = k} (omega arith) (omega arith)
+ends-before v l (suc m) k t h = go (eq-or-lt-of-le h) (λ i. ends-before v l m k (and-left (tidy v l (suc m)) _ t) i)
+  where
+    go : (k ≡ suc m) ⊎ (k < suc m) → (k ≤ m → offsetAt l k + lengthAt l k ≤ offsetAt l m + lengthAt l m)
+        → offsetAt l k + lengthAt l k ≤ offsetAt l (suc m) + lengthAt l (suc m)
+    go (inl e) f = subst (λ (x : ℕ). offsetAt l x + lengthAt l x ≤ offsetAt l (suc m) + lengthAt l (suc m)) (sym e) (omega arith)
+    go (inr i) f = omega (arith, f (omega (arith, i)), tidy-last v l m t .place)

@@ -1,6 +1,10 @@
 pub mod Scan
+pub mod Waits
+pub mod Views
 pub mod Directory
 pub mod Crew
 pub mod Bounds
 pub mod Lengths
 pub mod Held
+pub mod Contents
+pub mod Whole

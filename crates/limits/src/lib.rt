@@ -1,23 +1,24 @@
 // The state limits of refusal 12, as code of early returns: `valid` is true of exactly the states that
 // the definitions take for no foreign ones. A foreign state holds any 32-bit values, so each limit is
-// tested before a later test counts on it, and a sum of two free values is worked out in 64 bits.
-// Uses `model`, `anchors`, `stages`, `admission` and `ranges`. It is used by `opening`, `events` and `queues`, and
-// by proofs of `machine` and `listing`.
+// tested before a later test counts on it, and a sum of two free values is worked out in 64 bits. The owner's lines and waiting
+// stores are held to the queue as it reads it; where none waits that is memory's, and nothing is looked at twice.
+// Uses `model`, `anchors`, `stages`, `admission`, `ranges` and `waiting`. It is used by `opening`, `events` and `queues`, and
+// by proofs of `owner` and `listing`.
 ghost use mathlib.Core.Path.{_≡_};
-ghost use mathlib.Core.Bool.{false};
-ghost use Prim.Native.Nat.{_+_, _*_, _≤_, _<_};
+ghost use mathlib.Core.Bool.{true, false};
+ghost use mathlib.Core.List.{List};
+ghost use Prim.Native.Nat.{ℕ, _+_, _*_, _≤_, _<_};
 ghost use lib.Dec.{eqb, ltb, leb};
 ghost use lib.ListN.{length, getD};
 ghost use Rattle.model.specs.declared.Queue.{Queue};
 ghost use Rattle.model.specs.Tests.{if_then_else_, _and_};
 ghost use Rattle.model.specs.Memory.{nowhere, sizeAt};
-ghost use Rattle.model.specs.Lines.{size};
 ghost use Rattle.model.specs.World.{isIdle, isExpanding};
-ghost use Rattle.model.specs.Stores.{taken};
+ghost use Rattle.model.specs.Stores.{shared, landedAll, inLine, taken};
 ghost use Rattle.model.specs.Limits.{tidy, directoryOk, kindOk, linkOk, linksOk, validOf};
 ghost use Rattle.model.specs.Calls.{lent};
-ghost use Rattle.ranges.specs.Doubles.{Doubles};
-ghost use Rattle.limits.specs.Parts.{tasksIn, startsOk, followsOk, memberOk, workersOk, contentsOk, Scoped};
+ghost use Rattle.ranges.specs.Doubles.{Doubled};
+ghost use Rattle.limits.specs.Parts.{tasksIn, startsOk, followsOk, memberOk, workersOk, lineHeld, frameOk, waitsOk, contentsOk, Reached, Scoped, Seen};
 use model::Anchor;
 use model::Bench;
 use model::Kind;
@@ -121,19 +122,23 @@ fn claims_ok(published: u32, claimed: u32, owner: Line) -> bool
     }
 }
 
-fn directory_ok(words: u32, queue: Queue, store: &[u32], owner: Line) -> bool
+// The owner reads `seen` arrays as published.
+fn directory_ok(words: u32, queue: Queue, seen: u32, store: &[u32], owner: Line) -> bool
     requires { ⌜ words ≤ 4 ⌝ }
-    ensures { λ r. ⌜ r ≡ directoryOk words queue (now (store .entry)) owner ⌝ }
+    ensures { λ r. ⌜ r ≡ directoryOk words queue seen (now (store .entry)) owner ⌝ }
 {
     let published = queue.published;
     let claimed = queue.claimed;
     if published == 0 {
         return false;
     }
+    if seen < published {
+        return false;
+    }
     if 11 < claimed {
         return false;
     }
-    if !claims_ok(published, claimed, owner) {
+    if !claims_ok(seen, claimed, owner) {
         return false;
     }
     if !tidy(words, queue) {
@@ -149,16 +154,31 @@ fn own_line(worker: u32, at: u32) -> bool
     if worker == 0 { at < 4 } else { 3 < at }
 }
 
-// What the limits of a worker's line are taken from: the bench without its workers, and of the directory the number of
-// published arrays, the first one's size and the current one's.
+// The arrays as a worker reads them: how many are published, and the current one's size.
+struct Reach {
+    published: u32,
+    tasks: u32,
+}
+
+// What the limits of a worker's line are taken from: the bench without its workers, and of the directory the first array's size
+// and what thieves, that read memory, and the owner read.
 struct Scope {
     kind: Kind,
     width: u32,
     words: u32,
     crew: u32,
-    published: u32,
     first: u32,
-    tasks: u32,
+    memory: Reach,
+    owner: Reach,
+}
+
+fn reach_of(scope: Scope, worker: u32) -> Reach
+    ensures { λ r. ⌜ r ≡ (if eqb worker 0 then scope .owner else scope .memory) ⌝ }
+{
+    if worker == 0 {
+        return scope.owner;
+    }
+    scope.memory
 }
 
 fn rests(own: Worker) -> bool
@@ -171,10 +191,10 @@ fn rests(own: Worker) -> bool
 // A worker that is not idle.
 fn busy_ok(scope: Scope, worker: u32, own: Worker) -> bool
     requires { ⌜ (scope .width ≤ 16) × (scope .words ≤ 4) ⌝ }
-    requires { ⌜ scope .published ≤ 11 ⌝ }
+    requires { ⌜ (scope .memory .published ≤ 11) × (scope .owner .published ≤ 11) ⌝ }
     requires { ⌜ 0 < scope .crew ⌝ }
     requires { ⌜ isIdle (own .line) ≡ false ⌝ }
-    ensures { λ r. ⌜ ((q : Queue) → Scoped scope q → r ≡ memberOk (scope .kind) (scope .width) (scope .words) q (scope .crew) worker (own .line)) ⌝ }
+    ensures { λ r. ⌜ ((q p : Queue) → Scoped scope q p → r ≡ memberOk (scope .kind) (scope .width) (scope .words) q p (scope .crew) worker (own .line)) ⌝ }
 {
     if scope.crew <= worker {
         return false;
@@ -185,13 +205,14 @@ fn busy_ok(scope: Scope, worker: u32, own: Worker) -> bool
         return false;
     }
     let kind = scope.kind;
+    let reach = reach_of(scope, worker);
     ranges::line_ok(
         kind,
         scope.width,
         scope.words,
-        scope.published,
+        reach.published,
         scope.first,
-        scope.tasks,
+        reach.tasks,
         line,
     )
 }
@@ -213,13 +234,12 @@ fn link_ok(kind: Kind, linked: bool, anchor: Anchor, own: Worker) -> bool
 
 // The eight workers and their links, in one loop. Naming the workers one by one, or a second loop for the links, would copy the
 // records once more.
-fn workers_ok(bench: Bench, bits: u32, first: u32, tasks: u32) -> bool
+fn workers_ok(bench: Bench, bits: u32, memory: Reach, owner: Reach) -> bool
     requires { ⌜ (bits ≤ 16) × (bench .words ≤ 4) ⌝ }
-    requires { ⌜ bench .queue .published ≤ 11 ⌝ }
-    requires { ⌜ Doubles (bench .words) (bench .queue) first ⌝ }
-    requires { ⌜ tasks ≡ size (bench .words) (bench .queue) ⌝ }
+    requires { ⌜ (memory .published ≤ 11) × (owner .published ≤ 11) ⌝ }
+    requires { ⌜ Reached memory (bench .words) (bench .queue .initial) (bench .queue) ⌝ }
     requires { ⌜ 0 < bench .crew ⌝ }
-    ensures { λ r. ⌜ r ≡ (linksOk (bench .kind) (bench .queue) (bench .workers) 8 and workersOk (bench .kind) bits (bench .words) (bench .queue) (bench .crew) (bench .workers) 8) ⌝ }
+    ensures { λ r. ⌜ ((p : Queue) → Reached owner (bench .words) (bench .queue .initial) p → r ≡ (linksOk (bench .kind) (bench .queue) (bench .workers) 8 and workersOk (bench .kind) bits (bench .words) (bench .queue) p (bench .crew) (bench .workers) 8)) ⌝ }
 {
     let kind = bench.kind;
     let linked = bench.queue.linked;
@@ -230,9 +250,9 @@ fn workers_ok(bench: Bench, bits: u32, first: u32, tasks: u32) -> bool
         width: bits,
         words: bench.words,
         crew: bench.crew,
-        published: bench.queue.published,
-        first: first,
-        tasks: tasks,
+        first: bench.queue.initial,
+        memory: memory,
+        owner: owner,
     };
     let mut worker: u32 = 0;
     while worker < 8 {
@@ -248,27 +268,137 @@ fn workers_ok(bench: Bench, bits: u32, first: u32, tasks: u32) -> bool
     true
 }
 
-// The anchor, the numbers given out, the links and the workers, over a directory that is in order.
-fn contents_ok(bench: Bench) -> bool
+// What the owner reads of the queue, as far as its waiting stores change it: how many arrays are published, and the anchor. It
+// is told only of a `fine` line, of at most 8 stores, of none without the mode, and with notes that name places of the directory.
+struct View {
+    fine: bool,
+    published: u32,
+    anchor: Anchor,
+}
+
+// At most 8 stores wait, and none without the mode.
+fn most_waiting(delayed: bool) -> u32
+    ensures { λ r. ⌜ r ≡ (if delayed then 8 else 0) ⌝ }
+{
+    if delayed { 8 } else { 0 }
+}
+
+fn owners_view(bench: Bench) -> View
+    ensures { λ r. ⌜ r .fine ≡ lineHeld (bench .delayed) (bench .waiting) ⌝ }
+    ensures { λ r. ⌜ (r .fine ≡ true → (m : List ℕ) → Seen r bench (landedAll (bench .words) (shared (bench .queue) m) (inLine (bench .waiting)) .queue)) ⌝ }
+{
+    let count = bench.waiting.count;
+    let published = bench.queue.published;
+    let anchor = bench.queue.anchor;
+    if count == 0 {
+        return View {
+            fine: true,
+            published: published,
+            anchor: anchor,
+        };
+    }
+    if most_waiting(bench.delayed) < count {
+        return View {
+            fine: false,
+            published: published,
+            anchor: anchor,
+        };
+    }
+    let line = bench.waiting;
+    if !waiting::notes_ok(line) {
+        return View {
+            fine: false,
+            published: published,
+            anchor: anchor,
+        };
+    }
+    let queue = bench.queue;
+    let seen = waiting::seen(queue, line);
+    let last = seen.anchor;
+    View {
+        fine: true,
+        published: seen.published,
+        anchor: last,
+    }
+}
+
+// The anchor as the owner reads it, and its waiting stores, over a directory that is in order.
+fn waits_ok(bench: Bench, view: View) -> bool
+    requires { ⌜ bench .width ≤ 16 ⌝ }
+    requires { ⌜ (0 < view .published) × (view .published ≤ bench .queue .claimed) ⌝ }
+    requires { ⌜ bench .queue .claimed ≤ 11 ⌝ }
+    requires { ⌜ Doubled (bench .words) (bench .queue .arrays) (bench .queue .claimed) (bench .queue .initial) ⌝ }
+    requires { ⌜ bench .waiting .count ≤ 8 ⌝ }
+    ensures { λ r. ⌜ ((p : Queue) → Seen view bench p → r ≡ waitsOk bench p) ⌝ }
+{
+    let kind = bench.kind;
+    let words = bench.words;
+    let claimed = bench.queue.claimed;
+    let first = bench.queue.initial;
+    let stores = bench.waiting.stores;
+    let count = bench.waiting.count as usize;
+    let anchor = view.anchor;
+    let published = view.published;
+    let most = anchor.count;
+    let bits = stages::tag_bits(bench.queue.linked, bench.width);
+    let current = published - 1;
+    let tasks = first << current;
+    let mut good = ranges::anchor_ok(kind, bits, tasks, anchor);
+    let mut i: usize = 0;
+    while i < count {
+        let one = stores[i];
+        let store = one.store;
+        let fine = ranges::store_ok(
+            kind,
+            bits,
+            words,
+            published,
+            claimed,
+            first,
+            tasks,
+            most,
+            store,
+        );
+        good = good && fine;
+        i += 1;
+    }
+    good
+}
+
+// Memory's anchor, the numbers given out, the links and the workers, over a directory that is in order; the owner reads `seen`
+// arrays as published.
+fn contents_ok(bench: Bench, seen: u32) -> bool
     requires { ⌜ (bench .width ≤ 16) × (bench .words ≤ 4) ⌝ }
-    requires { ⌜ (0 < bench .queue .published) × (bench .queue .published ≤ 11) ⌝ }
-    requires { ⌜ Doubles (bench .words) (bench .queue) (bench .queue .initial) ⌝ }
+    requires { ⌜ (0 < bench .queue .published) × (bench .queue .published ≤ seen) ⌝ }
+    requires { ⌜ (seen ≤ bench .queue .claimed) × (bench .queue .claimed ≤ 11) ⌝ }
+    requires { ⌜ Doubled (bench .words) (bench .queue .arrays) (bench .queue .claimed) (bench .queue .initial) ⌝ }
     requires { ⌜ 0 < bench .crew ⌝ }
-    ensures { λ r. ⌜ r ≡ contentsOk bench ⌝ }
+    ensures { λ r. ⌜ ((p : Queue) → p .published ≡ seen → p .arrays ≡ bench .queue .arrays → r ≡ contentsOk bench p) ⌝ }
 {
     let kind = bench.kind;
     let queue = bench.queue;
     let anchor = queue.anchor;
+    let first = queue.initial;
     let bits = stages::tag_bits(queue.linked, bench.width);
     let current = queue.published - 1;
-    let tasks = queue.initial << current;
+    let tasks = first << current;
     if !ranges::anchor_ok(kind, bits, tasks, anchor) {
         return false;
     }
     if !ranges::number_ok(bench.used) {
         return false;
     }
-    workers_ok(bench, bits, queue.initial, tasks)
+    let last = seen - 1;
+    let most = first << last;
+    let memory = Reach {
+        published: queue.published,
+        tasks: tasks,
+    };
+    let owner = Reach {
+        published: seen,
+        tasks: most,
+    };
+    workers_ok(bench, bits, memory, owner)
 }
 
 // A FIFO queue is not linked.
@@ -282,14 +412,19 @@ fn kind_ok(kind: Kind, linked: bool) -> bool
     }
 }
 
-// The state, with the lengths of its lent memory, is no foreign one.
-pub fn valid(bench: Bench, store: &[u32], log: &[u32]) -> bool
-    ensures { λ r. ⌜ r ≡ validOf (lent bench (now (store .entry)) (now (log .entry))) ⌝ }
+// The limits before those on what stands in the directory. They are a function of their own so that `valid` branches once for
+// them: past many early returns a compiler takes the rest for rare, and copies the state for it.
+fn frame_ok(bench: Bench, view: View, store: &[u32], log: &[u32]) -> bool
+    ensures { λ r. ⌜ r ≡ (view .fine and frameOk bench (view .published) (now (store .entry)) (now (log .entry))) ⌝ }
 {
     let queue = bench.queue;
     let owner = bench.workers[0];
     let line = owner.line;
     let kind = bench.kind;
+    let written = bench.written as usize;
+    if !view.fine {
+        return false;
+    }
     if !kind_ok(kind, queue.linked) {
         return false;
     }
@@ -302,12 +437,25 @@ pub fn valid(bench: Bench, store: &[u32], log: &[u32]) -> bool
     if !admission::crew_ok(bench.crew) {
         return false;
     }
-    if !directory_ok(bench.words, queue, store, line) {
+    if !directory_ok(bench.words, queue, view.published, store, line) {
         return false;
     }
-    let written = bench.written as usize;
-    if log.len() < written {
+    written <= log.len()
+}
+
+// The state, with the lengths of its lent memory, is no foreign one.
+pub fn valid(bench: Bench, store: &[u32], log: &[u32]) -> bool
+    ensures { λ r. ⌜ r ≡ validOf (lent bench (now (store .entry)) (now (log .entry))) ⌝ }
+{
+    let view = owners_view(bench);
+    if !frame_ok(bench, view, store, log) {
         return false;
     }
-    contents_ok(bench)
+    if !contents_ok(bench, view.published) {
+        return false;
+    }
+    if bench.waiting.count == 0 {
+        return true;
+    }
+    waits_ok(bench, view)
 }

@@ -18,6 +18,7 @@ use Rattle.model.specs.Stores.{taken}
 use Rattle.model.specs.Limits.{tidy, directoryOk}
 use Rattle.model.proofs.Tests.{and-left, and-right}
 use Rattle.model.proofs.Directory.{Size, size-pos, size-le, size-twice, Next, tidy-last, tidy-start, tidy-long, tidy-twice, tidy-front, tidy-kept}
+use Rattle.lines.proofs.Views.{Same}
 
 -- the array at place k, in a directory whose last pair is at place m
 pub record Laid (v : ℕ) (l : List Region) (m k : ℕ) : Type 0 where
@@ -82,11 +83,10 @@ laid v l (suc m) k t h =
         (join v l m t (f m (omega arith)))
     go (inr i) f = keep v l m t k (f k (omega (arith, i)))
 
--- a directory in a store of n words, the owner at line o
-pub record Arrays (v : ℕ) (q : Queue) (n : ℕ) (o : Line) : Type 0 where
+-- a directory in a store of n words, as a worker reads it
+pub record Arrays (v : ℕ) (q : Queue) (n : ℕ) : Type 0 where
   pub some : 0 < q .published
   pub listed : q .claimed ≤ 11
-  pub told : q .claimed ≡ (if isExpanding o then q .published + 1 else q .published)
   pub behind : q .published ≤ q .claimed
   pub stands : (k : ℕ) → k < q .claimed → Laid v (q .arrays) (q .claimed - 1) k
   pub doubled : (k : ℕ) → k < q .claimed → sizeAt v (q .arrays) k ≡ q .initial * 2 ^ k
@@ -97,26 +97,30 @@ unfolding if_then_else_
 grown true p = omega arith
 grown false p = omega arith
 
-pub arrays-of : (v : ℕ) (q : Queue) (m : List ℕ) (o : Line) → directoryOk v q m o ≡ true → Arrays v q (length m) o
-arrays-of v q m o t =
-    let t1 = and-right _ _ t in
-    let t2 = and-right _ _ t1 in
-    let t3 = and-right _ _ t2 in
-    let t4 = and-right _ _ t3 in
-    let s : 0 < q .published = ltb-true _ _ (and-left _ _ t) in
-    let e : q .claimed ≡ (if isExpanding o then q .published + 1 else q .published) = eqb-true _ _ (and-left _ _ t2) in
-    let b : q .published ≤ q .claimed = omega (arith, e, grown (isExpanding o) (q .published)) in
-    let one : q .claimed ≡ suc (q .claimed - 1) = omega (arith, s, b) in
-    let tidied = subst (λ (x : ℕ). tidy v (q .arrays) x ≡ true) one (and-left _ _ t3) in
-    record {
-      some = s;
-      listed = leb-true _ _ (and-left _ _ t1);
-      told = e;
-      behind = b;
-      stands =
-          λ k h. laid v (q .arrays) (q .claimed - 1) k tidied (omega (arith, h));
-      doubled =
-          λ k h. tidy-kept v (q .arrays) (q .initial) k (eqb-true _ _ (and-right _ _ t4))
-          (tidy-front v (q .arrays) (q .claimed) k (and-left _ _ t3) h);
-      fits = leb-true _ _ (and-left _ _ t4);
-    }
+-- q is the queue in memory, r as the worker reads it; p arrays are published for the owner, which is at line o
+module _ (v : ℕ) (q : Queue) (p : ℕ) (m : List ℕ) (o : Line) (t : directoryOk v q p m o ≡ true) where
+  pub told : q .claimed ≡ (if isExpanding o then p + 1 else p)
+  told = eqb-true _ _ (and-left _ _ (and-right _ _ (and-right _ _ (and-right _ _ t))))
+
+  pub in-memory : (0 < q .published) × (q .published ≤ p)
+  in-memory = (ltb-true _ _ (and-left _ _ t), leb-true _ _ (and-left _ _ (and-right _ _ t)))
+
+  pub arrays-of : (r : Queue) → Same r q → 0 < r .published → r .published ≤ p → Arrays v r (length m)
+  arrays-of r S some few =
+      let t2 = and-right _ _ (and-right _ _ t) in
+      let t4 = and-right _ _ (and-right _ _ t2) in
+      let tidied : tidy v (r .arrays) (r .claimed) ≡ true = rw (S .arrays, S .claimed) (and-left _ _ t4) in
+      let fits : taken r ≤ length m = rw (S .arrays, S .claimed) (leb-true _ _ (and-left _ _ (and-right _ _ t4))) in
+      let kept : r .initial ≡ sizeAt v (r .arrays) 0 = rw (S .arrays, S .initial) (eqb-true _ _ (and-right _ _ (and-right _ _ t4))) in
+      let b : r .published ≤ r .claimed = omega (arith, few, S .claimed, told, grown (isExpanding o) p) in
+      let one : r .claimed ≡ suc (r .claimed - 1) = omega (arith, some, b) in
+      let last = subst (λ (x : ℕ). tidy v (r .arrays) x ≡ true) one tidied in
+      let most : q .claimed ≤ 11 = leb-true _ _ (and-left _ _ t2) in
+      record {
+        some = some;
+        listed = omega (arith, most, S .claimed);
+        behind = b;
+        stands = λ k h. laid v (r .arrays) (r .claimed - 1) k last (omega (arith, h));
+        doubled = λ k h. tidy-kept v (r .arrays) (r .initial) k kept (tidy-front v (r .arrays) (r .claimed) k tidied h);
+        fits = fits;
+      }

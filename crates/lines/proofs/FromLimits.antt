@@ -1,6 +1,6 @@
 -- The limits give what a line needs: in a valid state each worker of the crew can do its line, and what it reads and writes
 -- lies in the store.
-use mathlib.Core.Bool.{true, false, not, true≢false}
+use mathlib.Core.Bool.{Bool, true, false, not, true≢false}
 use mathlib.Core.Path.{_≡_, refl, sym, ap, subst, _∙_}
 use mathlib.Core.Logic.{_⊎_, inl, inr}
 use mathlib.Core.List.{List}
@@ -41,11 +41,12 @@ use Rattle.model.specs.declared.Line.the-variants.{
 use Rattle.model.specs.declared.Queue.{Queue}
 use Rattle.model.specs.declared.Worker.{Worker}
 use Rattle.model.specs.declared.Bench.{Bench}
-use Rattle.model.specs.Tests.{_and_, _or_}
+use Rattle.model.specs.Tests.{if_then_else_, _and_, _or_}
 use Rattle.model.specs.Memory.{sizeAt}
 use Rattle.model.specs.Figures.{slot, putIndex, takeIndex, stealIndex}
+use Rattle.model.specs.Stores.{inLine}
 use Rattle.model.specs.Lines.{size, holdsLink}
-use Rattle.model.specs.World.{World, tagBits, lineAt, isPast1, isExpanding, isThiefs}
+use Rattle.model.specs.World.{World, memory, ownersView, viewOf, tagBits, lineAt, isPast1, isExpanding, isThiefs}
 use Rattle.model.specs.Limits.{
   widthOk,
   wordsOk,
@@ -64,6 +65,7 @@ use Rattle.model.specs.Limits.{
   linkOk,
   linksOk,
   thievesOk,
+  waitingOk,
   validOf,
 }
 use Rattle.figures.specs.Bounds.{Ordered}
@@ -71,40 +73,45 @@ use Rattle.slots.specs.Bounds.{Wide, Inside}
 use Rattle.slots.proofs.Places.{most-words}
 use Rattle.lines.specs.Actions.{len, Ground, Ready, Range, Lies}
 use Rattle.model.proofs.Tests.{and-left, and-right, if-true, if-false}
-use Rattle.lines.proofs.Directory.{Laid, Arrays, arrays-of}
+use Rattle.lines.proofs.Views.{same-self, view-same}
+use Rattle.lines.proofs.Directory.{Laid, Arrays, told, in-memory, arrays-of}
 
--- the limits' parts that bound a line
-pub record Limits (b : Bench) (m : List ℕ) : Type 0 where
+-- the limits' parts that bound a line: q is the queue in memory, p as the owner reads it
+pub record Limits (b : Bench) (q p : Queue) (m : List ℕ) : Type 0 where
   pub width : widthOk (b .width) ≡ true
   pub words : wordsOk (b .words) ≡ true
   pub crew : crewOk (b .crew) ≡ true
-  pub directory : directoryOk (b .words) (b .queue) m (lineAt (b .workers) 0) ≡ true
-  pub anchor : anchorOk (b .kind) (tagBits b) (size (b .words) (b .queue)) (b .queue .anchor) ≡ true
-  pub links : linksOk (b .kind) (b .queue) (b .workers) 8 ≡ true
-  pub owner : ownerOk (b .kind) (tagBits b) (b .words) (b .queue) (lineAt (b .workers) 0) ≡ true
-  pub thieves : thievesOk (b .kind) (tagBits b) (b .words) (b .queue) (b .crew) (b .workers) 7 ≡ true
+  pub directory : directoryOk (b .words) q (p .published) m (lineAt (b .workers) 0) ≡ true
+  pub memory : anchorOk (b .kind) (tagBits b) (size (b .words) q) (q .anchor) ≡ true
+  pub seen : anchorOk (b .kind) (tagBits b) (size (b .words) p) (p .anchor) ≡ true
+  pub waiting : waitingOk (b .kind) (tagBits b) (b .words) p (b .delayed) (b .waiting) ≡ true
+  pub links : linksOk (b .kind) q (b .workers) 8 ≡ true
+  pub owner : ownerOk (b .kind) (tagBits b) (b .words) p (lineAt (b .workers) 0) ≡ true
+  pub thieves : thievesOk (b .kind) (tagBits b) (b .words) q (b .crew) (b .workers) 7 ≡ true
 
-pub limits-of : (W : World) → validOf W ≡ true → Limits (W .bench) (W .store)
+pub limits-of : (W : World) → validOf W ≡ true → Limits (W .bench) (W .bench .queue) (ownersView W .queue) (W .store)
 unfolding validOf
 limits-of W v =
     let v1 = and-right _ _ v in
     let v2 = and-right _ _ v1 in
     let v3 = and-right _ _ v2 in
     let v4 = and-right _ _ v3 in
-    let v5 = and-right _ _ v4 in
-    let v6 = and-right _ _ v5 in
+    let v6 = and-right _ _ (and-right _ _ v4) in
     let v7 = and-right _ _ v6 in
-    let v8 = and-right _ _ v7 in
-    let v9 = and-right _ _ v8 in
+    let v9 = and-right _ _ (and-right _ _ v7) in
+    let v10 = and-right _ _ v9 in
+    let v11 = and-right _ _ v10 in
     record {
       width = and-left _ _ v1;
       words = and-left _ _ v2;
       crew = and-left _ _ v3;
       directory = and-left _ _ v4;
-      anchor = and-left _ _ v6;
-      links = and-left _ _ v8;
-      owner = and-left _ _ v9;
-      thieves = and-right _ _ v9;
+      memory = and-left _ _ v6;
+      seen = and-left _ _ v7;
+      waiting = and-left _ _ v9;
+      links = and-left _ _ v10;
+      owner = and-left _ _ v11;
+      thieves = and-right _ _ v11;
     }
 
 -- the anchor read, by the kind
@@ -160,8 +167,12 @@ noted-in Lifo h j e = let o : h ≡ 0 = eqb-true _ _ e in omega (arith, o)
 noted-in Fifo h j e = let o : h + j ≤ 65535 = leb-true _ _ e in omega (arith, o)
 noted-in Deque h j e = let o : h < 2048 = ltb-true _ _ e in omega (arith, o)
 
--- each line, from its own limits and the directory; a line of an expansion is the owner's, o
-module _ (κ : Kind) (w v : ℕ) (q : Queue) (n : ℕ) (o : Line) (A : Arrays v q n o) where
+-- at line l: one array more is claimed than published, or none
+abbrev Told : Queue → Line → Type 0
+Told q l = q .claimed ≡ (if isExpanding l then q .published + 1 else q .published)
+
+-- each line, from its own limits and the directory; q is the queue as its worker reads it
+module _ (κ : Kind) (w v : ℕ) (q : Queue) (n : ℕ) (A : Arrays v q n) where
   here : Laid v (q .arrays) (q .claimed - 1) (q .published - 1)
   here = A .stands (q .published - 1) (omega (arith, A .some, A .behind))
 
@@ -207,10 +218,9 @@ module _ (κ : Kind) (w v : ℕ) (q : Queue) (n : ℕ) (o : Line) (A : Arrays v 
           let z : 1024 ≤ size v q = subst (λ (x : ℕ). 2 ^ x ≤ size v q) (sym ten) (here .large) in
           omega (arith, z, d)
 
-  copy-ready : (h j k : ℕ) → isExpanding o ≡ true → notedOk κ h j ≡ true → j ≤ size v q → k < j
+  copy-ready : (h j k : ℕ) → q .claimed ≡ q .published + 1 → notedOk κ h j ≡ true → j ≤ size v q → k < j
       → (h ≤ 65535) × (k ≤ 1024) × Lies κ v q n (q .published - 1) (h + k) × Lies κ v q n (q .published) (h + k)
-  copy-ready h j k x e f g =
-      let two : q .claimed ≡ q .published + 1 = A .told ∙ if-true _ x in
+  copy-ready h j k two e f g =
       let last : q .published < q .claimed = omega (arith, two) in
       let now : q .published - 1 < q .claimed = omega (arith, A .some, two) in
       let one : q .claimed - 1 ≡ q .published = omega (arith, two) in
@@ -221,7 +231,7 @@ module _ (κ : Kind) (w v : ℕ) (q : Queue) (n : ℕ) (o : Line) (A : Arrays v 
         lies _ _ last (copy-slot κ (sizeAt v (q .arrays) (q .published)) (size v q) h j k (there _ last .1) up e f g),
       )
 
-  ready : (l : Line) → Ordered κ (q .anchor) → (isThiefs l ≡ false → o ≡ l) → lineOk κ w v q l ≡ true
+  ready : (l : Line) → Ordered κ (q .anchor) → (isThiefs l ≡ false → Told q l) → lineOk κ w v q l ≡ true
       → Ready κ v q n l
   unfolding Ready _or_
   ready Idle a x e = tt
@@ -233,12 +243,12 @@ module _ (κ : Kind) (w v : ℕ) (q : Queue) (n : ℕ) (o : Line) (A : Arrays v 
       let e2 = and-right _ _ e1 in
       let p = put-ready r (and-left _ _ e1) (and-left _ _ e2) in (p .0, p .1, leb-true _ _ (and-right _ _ e2))
   ready (PutFinish t r) a x e = range r (and-left _ _ (and-right _ _ e))
-  ready (Claim t) a x e = (A .told ∙ if-false _ (ap isExpanding (x refl)), free)
+  ready (Claim t) a x e = (x refl ∙ if-false _ refl, free)
   ready (Note t) a x e = a
   ready (Copy t h j k) a x e =
       let e1 = and-right _ _ e in
       let e2 = and-right _ _ e1 in
-      copy-ready h j k (ap isExpanding (x refl)) (and-left _ _ e1) (leb-true _ _ (and-left _ _ e2)) (ltb-true _ _ (and-right _ _ e2))
+      copy-ready h j k (x refl ∙ if-true _ refl) (and-left _ _ e1) (leb-true _ _ (and-left _ _ e2)) (ltb-true _ _ (and-right _ _ e2))
   ready (Publish t) a x e = tt
   ready TakeRead a x e = tt
   ready (TakeTail h) a x e = tt
@@ -290,18 +300,45 @@ link-of κ q l (suc k) i t h e = go (eq-or-lt-of-le h) (λ j. link-of κ q l k i
         held y = let z : linkOk κ q (lineAt l i) ≡ true = rw e at y in (and-left _ _ z, and-left _ _ (and-right _ _ z))
     go (inr j) f = f (omega (arith, j))
 
--- the anchor now, and the directory, of a valid state
+-- of a valid state: the anchor and the directory, as worker i reads them
 module _ (W : World) (v : validOf W ≡ true) where
-  anchored : Within (W .bench .kind) (size (W .bench .words) (W .bench .queue)) (W .bench .queue .anchor)
-  anchored =
-      now-read (W .bench .kind) (tagBits (W .bench)) (size (W .bench .words) (W .bench .queue)) (W .bench .queue .anchor) (limits-of W v .anchor)
+  anchored : (i : ℕ) → Within (W .bench .kind) (size (W .bench .words) (viewOf W i .queue)) (viewOf W i .queue .anchor)
+  anchored zero = now-read (W .bench .kind) (tagBits (W .bench)) _ _ (limits-of W v .seen)
+  anchored (suc i) = now-read (W .bench .kind) (tagBits (W .bench)) _ _ (limits-of W v .memory)
 
-  arrayed : Arrays (W .bench .words) (W .bench .queue) (length (W .store)) (lineAt (W .bench .workers) 0)
-  arrayed = arrays-of (W .bench .words) (W .bench .queue) (W .store) (lineAt (W .bench .workers) 0) (limits-of W v .directory)
+  abbrev directory : directoryOk (W .bench .words) (W .bench .queue) (ownersView W .queue .published) (W .store) (lineAt (W .bench .workers) 0) ≡ true
+  directory = limits-of W v .directory
+
+  abbrev shared-directory : (0 < W .bench .queue .published) × (W .bench .queue .published ≤ ownersView W .queue .published)
+  shared-directory = in-memory (W .bench .words) (W .bench .queue) (ownersView W .queue .published) (W .store) (lineAt (W .bench .workers) 0) directory
+
+  arrayed : (i : ℕ) → Arrays (W .bench .words) (viewOf W i .queue) (length (W .store))
+  arrayed zero =
+      let (some, few) = shared-directory in
+      arrays-of (W .bench .words) (W .bench .queue) (ownersView W .queue .published) (W .store) (lineAt (W .bench .workers) 0) directory (ownersView W .queue) (view-same (W .bench .words) (memory W) (inLine (W .bench .waiting)))
+      (omega (arith, some, few)) (omega arith)
+  arrayed (suc i) = let (some, few) = shared-directory in arrays-of (W .bench .words) (W .bench .queue) (ownersView W .queue .published) (W .store) (lineAt (W .bench .workers) 0) directory (W .bench .queue) (same-self (W .bench .queue)) some few
 
   -- what every line needs
   pub narrow-of-valid : W .bench .width ≤ 16
   narrow-of-valid = leb-true _ _ (and-right _ _ (limits-of W v .width))
+
+  pub crew-of-valid : (0 < W .bench .crew) × (W .bench .crew ≤ 8)
+  crew-of-valid = (ltb-true _ _ (and-left _ _ (limits-of W v .crew)), leb-true _ _ (and-right _ _ (limits-of W v .crew)))
+
+  -- the waiting line has eight places, and without the mode none waits
+  pub few-of-valid : W .bench .waiting .count ≤ 8
+  unfolding if_then_else_
+  few-of-valid = by (W .bench .delayed) (leb-true _ _ (and-left _ _ (limits-of W v .waiting)))
+    where
+      by : (d : Bool) → W .bench .waiting .count ≤ (if d then 8 else 0) → W .bench .waiting .count ≤ 8
+      by true h = h
+      by false h = omega (arith, h)
+
+  pub none-of-valid : W .bench .delayed ≡ false → W .bench .waiting .count ≡ 0
+  none-of-valid e =
+      let h : W .bench .waiting .count ≤ (if W .bench .delayed then 8 else 0) = leb-true _ _ (and-left _ _ (limits-of W v .waiting)) in
+      let n : _≡_ {A = ℕ} (if W .bench .delayed then 8 else 0) 0 = if-false 8 e in omega (arith, h, n)
 
   -- a link is held in a linked queue, past line 1 of a steal
   pub link-of-valid : (i : ℕ) → i < 8 → holdsLink (W .bench .queue) i ≡ true
@@ -311,42 +348,47 @@ module _ (W : World) (v : validOf W ≡ true) where
   pub wide-of-valid : Wide (W .bench .words)
   wide-of-valid = (ltb-true _ _ (and-left _ _ (limits-of W v .words)), leb-true _ _ (and-right _ _ (limits-of W v .words)))
 
-  pub ground-of-valid : Ground (W .bench .words) (W .bench .queue) (length (W .store))
-  ground-of-valid =
+  pub ground-of-valid : (i : ℕ) → Ground (W .bench .words) (viewOf W i .queue) (length (W .store))
+  ground-of-valid i =
       let b = W .bench in
-      let h = here (b .kind) (tagBits b) (b .words) (b .queue) (length (W .store)) (lineAt (b .workers) 0) arrayed in
-      let r = in-range (b .kind) (size (b .words) (b .queue)) (b .queue .anchor) (h .small) anchored in
-      let most = most-words (b .words) (size (b .words) (b .queue)) (wide-of-valid .1) (h .small) in
-      let brief : len (b .queue) ≤ 5120 = omega (arith, h .long, most) in
+      let q = viewOf W i .queue in
+      let A = arrayed i in
+      let h = here (b .kind) (tagBits b) (b .words) q (length (W .store)) A in
+      let r = in-range (b .kind) (size (b .words) q) (q .anchor) (h .small) (anchored i) in
+      let most = most-words (b .words) (size (b .words) q) (wide-of-valid .1) (h .small) in
+      let brief : len q ≤ 5120 = omega (arith, h .long, most) in
       record {
         wide = wide-of-valid;
-        some = arrayed .some;
-        listed = omega (arith, arrayed .behind, arrayed .listed);
+        some = A .some;
+        listed = omega (arith, A .behind, A .listed);
         head = r .0;
         count = r .1;
         small = h .small;
-        doubled = arrayed .doubled (b .queue .published - 1) (omega (arith, arrayed .some, arrayed .behind));
+        doubled = A .doubled (q .published - 1) (omega (arith, A .some, A .behind));
         brief = brief;
         near = omega (arith, h .near, brief);
-        inside = omega (arith, h .ends, arrayed .fits);
+        inside = omega (arith, h .ends, A .fits);
       }
 
   -- the line of a worker of the crew is in the limits, and if it is none of a thief's it is the owner's
   line-ok : (i : ℕ) → i < W .bench .crew
-      → (lineOk (W .bench .kind) (tagBits (W .bench)) (W .bench .words) (W .bench .queue) (lineAt (W .bench .workers) i) ≡ true)
-      × (isThiefs (lineAt (W .bench .workers) i) ≡ false → lineAt (W .bench .workers) 0 ≡ lineAt (W .bench .workers) i)
-  line-ok zero c = (and-right _ _ (limits-of W v .owner), λ x. refl)
+      → (lineOk (W .bench .kind) (tagBits (W .bench)) (W .bench .words) (viewOf W i .queue) (lineAt (W .bench .workers) i) ≡ true)
+      × (isThiefs (lineAt (W .bench .workers) i) ≡ false → Told (viewOf W i .queue) (lineAt (W .bench .workers) i))
+  line-ok zero c =
+      let S = view-same (W .bench .words) (memory W) (inLine (W .bench .waiting)) in
+      (and-right _ _ (limits-of W v .owner), λ x. S .claimed ∙ told (W .bench .words) (W .bench .queue) (ownersView W .queue .published) (W .store) (lineAt (W .bench .workers) 0) directory)
   line-ok (suc i) c =
       let b = W .bench in
-      let n : W .bench .crew ≤ 8 = leb-true _ _ (and-right _ _ (limits-of W v .crew)) in
+      let n = crew-of-valid .1 in
       let s = limits-of W v .thieves in
       let t = thief-of (b .kind) (tagBits b) (b .words) (b .queue) (b .crew) (b .workers) 7 i s (omega (arith, n, c)) c in
       (and-right _ _ t, λ x. absurd (true≢false (sym (and-left _ _ t) ∙ x)))
 
   -- what the line of worker i needs
   pub ready-of-valid : (i : ℕ) → i < W .bench .crew
-      → Ready (W .bench .kind) (W .bench .words) (W .bench .queue) (length (W .store)) (lineAt (W .bench .workers) i)
+      → Ready (W .bench .kind) (W .bench .words) (viewOf W i .queue) (length (W .store)) (lineAt (W .bench .workers) i)
   ready-of-valid i c =
       let b = W .bench in
-      ready (b .kind) (tagBits b) (b .words) (b .queue) (length (W .store)) (lineAt (b .workers) 0) arrayed (lineAt (b .workers) i)
-      (ordered (b .kind) (size (b .words) (b .queue)) (b .queue .anchor) anchored) (line-ok i c .1) (line-ok i c .0)
+      let q = viewOf W i .queue in
+      ready (b .kind) (tagBits b) (b .words) q (length (W .store)) (arrayed i) (lineAt (b .workers) i)
+      (ordered (b .kind) (size (b .words) q) (q .anchor) (anchored i)) (line-ok i c .1) (line-ok i c .0)

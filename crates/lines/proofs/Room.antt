@@ -19,9 +19,8 @@ claims-are v q m f t e g =
     let i : taken q + nextLength q ≤ length m = leb-true _ _ (and-right _ _ t) in
     let j : off q + len q + 2 * len q ≤ length m = rw (f .0) at i in
     record {
-      all = f .0;
       from = rw (f .0) g;
       long = rw (f .0) e;
       inside = omega (arith, j, e, g);
-      listed = f .1 (leb-true _ _ (and-left _ _ t));
+      listed = let h = f .1 (leb-true _ _ (and-left _ _ t)) in omega (arith, h, f .0);
     }

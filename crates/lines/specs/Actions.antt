@@ -112,11 +112,10 @@ Lands v q n (StoreTail t) = ⊥
 
 -- a claimed range is the one that X1 claims, it lies in a store of n words, and its pair in the directory
 pub record Claimable (q : Queue) (n a z : ℕ) : Type 0 where
-  pub all : q .claimed ≡ q .published
   pub from : a ≡ taken q
   pub long : z ≡ nextLength q
   pub inside : a + z ≤ n
-  pub listed : q .published < 11
+  pub listed : q .claimed < 11
 
 -- the action can be done on the queue q and a store of n words; what ends an operation has an answer with an entry, and stores the
 -- anchor

@@ -1,6 +1,6 @@
 // What one line of figures 1, 2 and 3 does, as two pure functions: the line that its worker comes to (next_line), and what it does
 // beside, an action (decide): its claim, its stores and its answer. Landing the stores is another crate's.
-// Uses `model`, `tasks`, `anchors`, `figures` and `slots`. It is used by `machine`.
+// Uses `model`, `tasks`, `anchors`, `figures` and `slots`. It is used by `machine` and `owner`.
 ghost use mathlib.Core.Path.{_≡_};
 ghost use mathlib.Core.Bool.{true, false, not};
 ghost use Prim.Native.Nat.{ℕ, _-_, _*_, _^_, _≤_, _<_};

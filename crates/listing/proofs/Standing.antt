@@ -17,12 +17,11 @@ use Rattle.model.specs.World.{World, Outcome}
 use Rattle.model.specs.Limits.{validOf}
 use Rattle.model.specs.Calls.{lent, step, stepIn, stepOf}
 use Rattle.model.specs.Listing.{Program, playing, printed, respond, stepsOf, Response}
-use Rattle.theorems.specs.Reached.{Reached}
-use Rattle.theorems.proofs.Reached.{reached-call, reached-valid}
 use Rattle.state.specs.declared.Stop.the-variants.{Why}
 use Rattle.model.proofs.Tests.{if-true}
 use Rattle.machine.specs.declared.Made.{Made}
-use Rattle.machine.specs.Steps.{movedBy}
+use Rattle.machine.specs.Steps.{AtOnce, movedBy}
+use Rattle.machine.proofs.Stepping.{at-once}
 use Rattle.limits.proofs.Bounds.{bounds-of}
 use Rattle.text.specs.Numbers.{Placed}
 use Rattle.text.specs.Commands.{commandOf}
@@ -34,12 +33,12 @@ use Rattle.listing.specs.Listing.{untilNewline}
 use Rattle.listing.specs.Listing as spec
 use Rattle.replies.specs.Sessions.{worldOf, programOf, leftBy, AnsweredBy}
 use Rattle.replies.specs.Choices.{askedOf, RefusedAtOnce}
-use Rattle.listing.specs.Consuming.{Reachable, ConsumedBy}
+use Rattle.listing.specs.Consuming.{Live, Reachable, ConsumedBy}
 use Rattle.replies.proofs.Fronts.{lent-front, given-back}
 use Rattle.replies.proofs.Shows.{answer-most}
 use Rattle.replies.proofs.Replies.{played, program-live, left-on, played-as}
 use Rattle.listing.proofs.Consuming.{Yields, Onward, line-on, shows-next, consumed-on, consumed-over}
-use Rattle.listing.proofs.Reaching.{respond-reach}
+use Rattle.listing.proofs.Reaching.{live-call, live-valid, respond-reach}
 
 -- what `consume` keeps of a session in place
 abbrev pub sessionOf : Bool → ℕ → Bench → Session
@@ -118,26 +117,33 @@ steps-by s m l c i n p m′ l′ before at after e by =
     played-as same by
 
 -- while a bench is played it is reached, so within the limits
-pub reached-of : (s : Session) (m l : List ℕ) → s .live ≡ true → Reachable (programOf s m l) → Reached (worldOf s m l)
+pub reached-of : (s : Session) (m l : List ℕ) → s .live ≡ true → Reachable (programOf s m l) → Live (worldOf s m l)
 reached-of s m l v r = subst Reachable (program-live s m l v) r
 
 pub valid-of : (s : Session) (m l : List ℕ) → Reachable (programOf s m l) → s .live ≡ true → validOf (worldOf s m l) ≡ true
-valid-of s m l r v = reached-valid (reached-of s m l v r)
+valid-of s m l r v = live-valid (reached-of s m l v r)
+
+-- a worker's stores land at once, and none waits
+pub once-of : (b : Bench) (w : ℕ) (m l : List ℕ) (i : ℕ) → Live (lent b (take w m) l) → AtOnce (b .delayed) (b .waiting) i
+once-of b w m l i r = at-once (lent b (take w m) l) i (live-valid r) (λ e. r .prompt)
+
+pub none-of : (s : Session) (m l : List ℕ) → Reachable (programOf s m l) → s .live ≡ true → s .bench .waiting .count ≡ 0
+none-of s m l r v = once-of (s .bench) (s .long) m l 0 (reached-of s m l v r) .none refl .1
 
 pub crew-of : (s : Session) (m l : List ℕ) → Reachable (programOf s m l) → s .live ≡ true → s .bench .crew ≤ 8
 crew-of s m l r v = bounds-of (worldOf s m l) (valid-of s m l r v) .crew
 
-pub valid-front : (b : Bench) (w n : ℕ) (m l : List ℕ) → n ≡ min w (length m) → Reached (lent b (take w m) l) → validOf (lent b (take n m) l) ≡ true
-valid-front b w n m l e r = subst (λ (x : List ℕ). validOf (lent b x l) ≡ true) (sym (lent-front w n m e)) (reached-valid r)
+pub valid-front : (b : Bench) (w n : ℕ) (m l : List ℕ) → n ≡ min w (length m) → Live (lent b (take w m) l) → validOf (lent b (take n m) l) ≡ true
+valid-front b w n m l e r = subst (λ (x : List ℕ). validOf (lent b x l) ≡ true) (sym (lent-front w n m e)) (live-valid r)
 
 -- a step on the words that were lent, p as it leaves them
 pub stepped-front : (b : Bench) (w n : ℕ) (m l p l′ : List ℕ) (i k : ℕ) (x : Line) (d : Made) → n ≡ min w (length m) → length p ≡ length (take n m)
-    → Reached (lent b (take w m) l) → movedBy b k x d p l′ ≡ stepIn (lent b (take n m) l) i
+    → Live (lent b (take w m) l) → movedBy b k x d p l′ ≡ stepIn (lent b (take n m) l) i
     → movedBy b k x d (take w (p ++ drop n m)) l′ ≡ stepOf (lent b (take w m) l) i
 unfolding stepOf
 stepped-front b w n m l p l′ i k x d e f r o =
     ap (λ (y : List ℕ). movedBy b k x d y l′) (given-back w n m e p f) ∙ o ∙ ap (λ (y : List ℕ). stepIn (lent b y l) i) (lent-front w n m e)
-    ∙ sym (if-true _ (reached-valid r))
+    ∙ sym (if-true _ (live-valid r))
 
 -- consuming stops between two lines, the program not being over
 pub consumed-so-far : {P : Program} {buf m l out : List ℕ} {s : Session} {used wrote : ℕ} {b : Bool} → Standing P buf s m l out used wrote → b ≡ false → (wrote + 256 ≤ length out → spec.Open (drop used buf)) →
@@ -148,5 +154,5 @@ consumed-so-far {P} {buf} {m} {l} {out} {s} {used} {wrote} h e rest = (
 )
 
 -- a step leads on to what is reached
-pub reached-step : (W X : World) (i : ℕ) (a : Answer) → record { world = X; answer = a } ≡ stepOf W i → Reached W → Reached X
-reached-step W X i a e r = subst (λ (d : Outcome). Reached (d .world)) (sym e) (reached-call r (step i))
+pub reached-step : (W X : World) (i : ℕ) (a : Answer) → record { world = X; answer = a } ≡ stepOf W i → Live W → Live X
+reached-step W X i a e r = subst (λ (d : Outcome). Live (d .world)) (sym e) (live-call r (step i))

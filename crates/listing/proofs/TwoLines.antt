@@ -18,7 +18,7 @@ use Rattle.model.specs.Answers.{ends}
 use Rattle.model.specs.Lines.{Effect}
 use Rattle.model.specs.World.{World, Outcome, lineAt, isIdle, resting, refuse}
 use Rattle.model.specs.Limits.{validOf}
-use Rattle.model.specs.Calls.{stepOf, stepped, commit, noRoom, nextEffect}
+use Rattle.model.specs.Calls.{stepOf, stepped, commit, noRoom, crowded, nextEffect}
 use Rattle.model.specs.Listing.{Print, printed, printedBy, isRefused, response, showing, stepsOf}
 use Rattle.model.proofs.Attempts.{rests}
 use Rattle.replies.specs.Shown.{shownAll}
@@ -68,8 +68,9 @@ went W i =
     either (Went i) (validOf W) _ _
     (either (Went i) (ltb i (W .bench .crew)) _ _
     (either (Went i) (isIdle (lineAt (W .bench .workers) i)) _ _ (λ e. never e)
+    (either (Went i) (crowded W i (nextEffect W i)) _ _ (λ e. never e)
     (either (Went i) (noRoom W (nextEffect W i)) _ _ (λ e. never e)
-    (went-stepped W i (nextEffect W i) (rests _ _ _ _ _ i (lineAt (W .bench .workers) i)))))
+    (went-stepped W i (nextEffect W i) (rests _ _ _ _ _ i (lineAt (W .bench .workers) i))))))
     (λ e. never e))
     (λ e. never e)
 

@@ -4,6 +4,7 @@ use mathlib.Core.Bool.{false}
 use mathlib.Core.List.{List, _++_}
 use Prim.Native.Nat.{ℕ, _+_, _≤_}
 use lib.ListN.{length, take, drop}
+use Rattle.model.specs.World.{World}
 use Rattle.model.specs.Listing.{Program, waiting, playing, ended}
 use Rattle.theorems.specs.Reached.{Reached}
 use Rattle.replies.specs.Sessions.{leftBy}
@@ -11,10 +12,15 @@ use Rattle.listing.specs.declared.Consumed.{Consumed}
 use Rattle.listing.specs.Listing.{listingOf}
 use Rattle.listing.specs.Listing as lines
 
--- where lines can bring the program: it plays a bench that calls reach from an accepted fresh
+-- a world that the program plays: calls reach it from an accepted fresh, and its stores are not delayed
+pub record Live (W : World) : Type 0 where
+  pub reached : Reached W
+  pub prompt : W .bench .delayed ≡ false
+
+-- where lines can bring the program
 abbrev pub Reachable : Program → Type 0
 Reachable (waiting m l) = Unit {0}
-Reachable (playing W) = Reached W
+Reachable (playing W) = Live W
 Reachable ended = Unit {0}
 
 -- A buffer was consumed to a program at P: whatever bytes z come after it, the listing of all is what was written and then the listing of what is

@@ -78,7 +78,7 @@ copies-leave v q m k t u n = ap (λ (S : Shared). S .queue) (stores-write v q m 
 
 -- X1
 pub claims-land : (q : Queue) (m : List ℕ) (n a z : ℕ) → Claimable q n a z → claim (shared q m) ≡ shared (withArray q a z) (zeros m a z)
-claims-land q m n a z C = rw (C .from, C .long, C .all)
+claims-land q m n a z C = rw (C .from, C .long)
 
 -- a last line
 pub anchor-lands : (v : ℕ) (q : Queue) (m : List ℕ) (s : Store) → ofAnchor s ≡ true

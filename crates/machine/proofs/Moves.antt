@@ -1,27 +1,31 @@
 -- What carrying an action out comes to.
 use mathlib.Core.Bool.{Bool, true, false, not}
-use mathlib.Core.List.{List, [], _∷_}
+use mathlib.Core.List.{List, [], _∷_, _++_}
 use mathlib.Core.Path.{_≡_, refl, sym, ap, _∙_}
 use Prim.Native.Nat.{ℕ, zero, suc, _+_, _≤_}
+use native.Mathlib.Nat.{add-zero}
 use native.Mathlib.Omega.{arith}
 use lib.Dec.{leb, ltb}
-use lib.ListN.{length, getD, set, replicate}
+use lib.ListN.{length, getD, set, replicate, take, drop, take-append-drop}
 use borrow.Author.Tests.{leb-true, leb-false, ltb-false, lt-ltb, le-ltb}
 use Rattle.model.specs.declared.Anchor.{Anchor}
+use Rattle.model.specs.declared.Store.{Store}
 use Rattle.model.specs.declared.Store.the-variants.{StoreWord, StoreNote, StorePut, StoreOut, StoreHead, StoreTail}
 use Rattle.model.specs.declared.Line.{Line}
 use Rattle.model.specs.declared.Queue.{Queue}
+use Rattle.model.specs.declared.Pending.{Pending}
+use Rattle.model.specs.declared.Waiting.{Waiting}
 use Rattle.model.specs.declared.Bench.{Bench}
 use Rattle.model.specs.declared.Answer.{Answer}
 use Rattle.model.specs.declared.Refusal.the-variants.{LogFull}
 use Rattle.model.specs.Tests.{if_then_else_, _and_, _or_}
 use Rattle.model.specs.Memory.{setAll}
 use Rattle.model.specs.Answers.{ends, entryOf, entryLength, entryWords, logged}
-use Rattle.model.specs.Stores.{Shared, shared, anchored, publishing, landed, landedAll, claimedBy}
+use Rattle.model.specs.Stores.{Shared, shared, anchored, publishing, landed, landedAll, joined, claimedBy}
 use Rattle.model.specs.Lines.{Effect, goes, leftOf, holdsLink, failsCompare}
 use Rattle.model.specs.World.{World, Outcome, refuse, lineAt, isSteal1, isPast1}
-use Rattle.model.specs.Calls.{lent, raised, logFull, linkSet, relinked, restarted, commit}
-use Rattle.model.proofs.Tests.{fails, and-false}
+use Rattle.model.specs.Calls.{lent, raised, logFull, linkSet, relinked, restarted, joining, landing, stored, crowded, commit}
+use Rattle.model.proofs.Tests.{if-false, fails, and-false}
 use Rattle.anchors.specs.After.{afterStore}
 use Rattle.lines.specs.declared.Action.{Action}
 use Rattle.lines.specs.declared.Action.the-variants as action
@@ -108,15 +112,28 @@ pub record Leads (q : Queue) (i : ℕ) (from to : Line) (d : Action) : Type 0 wh
   pub rests : ends (answerBy d) ≡ true → isPast1 to ≡ false
   pub fails : failsBy d ≡ true → holdsLink q i ≡ true → isPast1 to ≡ true
 
--- a step of worker i that comes to the line x and answers a, committed with the counts n of restarts, the queue q and the store m
-abbrev counted : World → ℕ → Line → Answer → List ℕ → Queue → List ℕ → Outcome
-counted W i x a n q m =
+-- the effect E of worker i's line is whole once it is committed: no store of it joins the waiting line
+pub record Prompt (b : Bench) (i : ℕ) (E : Effect) : Type 0 where
+  pub few : b .waiting .count ≤ 8
+  pub none : joining (b .delayed) i (E .stores) ≡ []
+  pub all : landing (b .delayed) i (E .stores) ≡ E .stores
+
+-- none joins: the line stays as it is
+pub joined-none : (s : Waiting) → joined s [] ≡ s
+joined-none s =
+    ap (λ (n : ℕ). record { stores = take (s .count) (s .stores) ++ drop n (s .stores); count = n }) (add-zero (s .count))
+    ∙ ap (λ (l : List Pending). record { stores = l; count = s .count }) (take-append-drop (s .count) (s .stores))
+
+-- a step of worker i that comes to the line x and answers a, committed with the counts n of restarts, the queue q, the waiting
+-- line s and the store m
+abbrev counted : World → ℕ → Line → Answer → List ℕ → Queue → Waiting → List ℕ → Outcome
+counted W i x a n q s m =
     let b = W .bench in
     if ends a and logFull (b .words) (W .log) (b .written) then refuse W LogFull
     else record {
       world =
           lent
-          (benchOf (b .kind) (b .width) (b .words) (b .crew) q (if ends a then b .written + entryLength (b .words) else b .written) (b .used) n
+          (benchOf (b .kind) (b .width) (b .words) (b .crew) q (if ends a then b .written + entryLength (b .words) else b .written) (b .delayed) s (b .used) n
           (set (b .workers) i (record { line = x }))) m
           (logged (b .words) (W .log) (b .written) a);
       answer = a;
@@ -133,40 +150,50 @@ module _ (b : Bench) (i : ℕ) (from to : Line) (m l : List ℕ) (at : lineAt (b
       (ap (λ (x : Bool). landedAll (b .words) (claimedBy x (shared (b .queue) m)) (storesBy (b .words) d)) (D .claims)
       ∙ ap (landedAll (b .words) (claimedBy (E .claims) (shared (b .queue) m))) (D .stores))
 
+  -- the line has room, as none joins it
+  roomy : (E : Effect) → Prompt b i E → crowded (lent b m l) i E ≡ false
+  roomy E P =
+      ap (λ (s : List Store). ltb 8 (b .waiting .count + length s)) (P .none)
+      ∙ le-ltb 8 (b .waiting .count + 0) (let h = P .few in omega (arith, h))
+
   -- the line, by what it leaves of the shared words and answers
-  by-stores : (E : Effect) (d : Action) → Does (b .words) E d → E .line ≡ to
+  by-stores : (E : Effect) (d : Action) → Prompt b i E → Does (b .words) E d → E .line ≡ to
       → commit (lent b m l) i E
-      ≡ counted (lent b m l) i to (answerBy d) (restarted (b .kind) (b .queue) i (lineAt (b .workers) i) (b .restarts)) (relinked (left d .queue) i (lineAt (b .workers) i) to) (left d .store)
-  by-stores E d D e =
+      ≡ counted (lent b m l) i to (answerBy d) (restarted (b .kind) (b .queue) i (lineAt (b .workers) i) (b .restarts)) (relinked (left d .queue) i (lineAt (b .workers) i) to) (b .waiting) (left d .store)
+  by-stores E d P D e =
       let n = restarted (b .kind) (b .queue) i (lineAt (b .workers) i) (b .restarts) in
-      ap (λ (S : Shared). counted (lent b m l) i (E .line) (E .answer) n (relinked (S .queue) i (lineAt (b .workers) i) (E .line)) (S .store)) (left-is E d D)
-      ∙ ap (λ (a : Answer). counted (lent b m l) i (E .line) a n (relinked (left d .queue) i (lineAt (b .workers) i) (E .line)) (left d .store)) (sym (D .answer))
-      ∙ ap (λ (x : Line). counted (lent b m l) i x (answerBy d) n (relinked (left d .queue) i (lineAt (b .workers) i) x) (left d .store)) e
+      if-false _ (roomy E P)
+      ∙ ap (λ (s : Waiting). counted (lent b m l) i (E .line) (E .answer) n (relinked (stored (lent b m l) i E .queue) i (lineAt (b .workers) i) (E .line)) s (stored (lent b m l) i E .store))
+      (ap (joined (b .waiting)) (P .none) ∙ joined-none (b .waiting))
+      ∙ ap (λ (S : Shared). counted (lent b m l) i (E .line) (E .answer) n (relinked (S .queue) i (lineAt (b .workers) i) (E .line)) (b .waiting) (S .store))
+      (ap (landedAll (b .words) (claimedBy (E .claims) (shared (b .queue) m))) (P .all) ∙ left-is E d D)
+      ∙ ap (λ (a : Answer). counted (lent b m l) i (E .line) a n (relinked (left d .queue) i (lineAt (b .workers) i) (E .line)) (b .waiting) (left d .store)) (sym (D .answer))
+      ∙ ap (λ (x : Line). counted (lent b m l) i x (answerBy d) n (relinked (left d .queue) i (lineAt (b .workers) i) x) (b .waiting) (left d .store)) e
 
   -- the action counts a restart exactly if the compare fails
-  commits : (E : Effect) (d : Action) {p q : Queue} → Does (b .words) E d → E .line ≡ to → failsBy d ≡ failsCompare (b .kind) (b .queue) i from
+  commits : (E : Effect) (d : Action) {p q : Queue} → Prompt b i E → Does (b .words) E d → E .line ≡ to → failsBy d ≡ failsCompare (b .kind) (b .queue) i from
       → left d .queue ≡ p → relinked p i from to ≡ q
-      → commit (lent b m l) i E ≡ counted (lent b m l) i to (answerBy d) (if failsBy d then raised (b .restarts) i else b .restarts) q (left d .store)
-  commits E d {q = q} D e f p g =
-      by-stores E d D e
-      ∙ ap (λ (x : Bool). counted (lent b m l) i to (answerBy d) (if x then raised (b .restarts) i else b .restarts) (relinked (left d .queue) i (lineAt (b .workers) i) to) (left d .store))
+      → commit (lent b m l) i E ≡ counted (lent b m l) i to (answerBy d) (if failsBy d then raised (b .restarts) i else b .restarts) q (b .waiting) (left d .store)
+  commits E d {q = q} P D e f p g =
+      by-stores E d P D e
+      ∙ ap (λ (x : Bool). counted (lent b m l) i to (answerBy d) (if x then raised (b .restarts) i else b .restarts) (relinked (left d .queue) i (lineAt (b .workers) i) to) (b .waiting) (left d .store))
       (ap (failsCompare (b .kind) (b .queue) i) at ∙ sym f)
-      ∙ ap (λ (q : Queue). counted (lent b m l) i to (answerBy d) (if failsBy d then raised (b .restarts) i else b .restarts) q (left d .store))
+      ∙ ap (λ (q : Queue). counted (lent b m l) i to (answerBy d) (if failsBy d then raised (b .restarts) i else b .restarts) q (b .waiting) (left d .store))
       (ap (λ (y : Line). relinked (left d .queue) i y to) at ∙ ap (λ (x : Queue). relinked x i from to) p ∙ g)
 
   -- an action carried out is the line committed that it does
-  module _ (E : Effect) (e : E .line ≡ to) where
+  module _ (E : Effect) (P : Prompt b i E) (e : E .line ≡ to) where
     pub acted : (d : Action) (n : ℕ) → Does (b .words) E d → Doable (b .words) (b .queue) n d
         → failsBy d ≡ failsCompare (b .kind) (b .queue) i from → Leads (b .queue) i from to d
         → movedBy b i to (actedBy (b .words) (b .written) l (b .queue) d) (left d .store) (logAfter (b .words) (b .written) l d) ≡ commit (lent b m l) i E
     unfolding actedBy madeBy logAfter benchAfter answerAfter claimsBy storesBy landedAll answerBy failsBy Doable Lands if_then_else_ _and_
-    acted action.Nothing n D h f L = sym (commits E action.Nothing D e f refl (relink (b .queue) i from to (L .plain) (λ e. L .stays (L .held e) refl refl)))
-    acted action.Fails n D h f L = sym (commits E action.Fails D e f refl (relink (b .queue) i from to (L .plain) (L .fails refl)))
+    acted action.Nothing n D h f L = sym (commits E action.Nothing P D e f refl (relink (b .queue) i from to (L .plain) (λ e. L .stays (L .held e) refl refl)))
+    acted action.Fails n D h f L = sym (commits E action.Fails P D e f refl (relink (b .queue) i from to (L .plain) (L .fails refl)))
     acted (action.Stores (StoreWord k t j x)) n D h f L =
-        sym (commits E (action.Stores (StoreWord k t j x)) D e f refl (relink (b .queue) i from to (L .plain) (λ e. L .stays (L .held e) refl refl)))
+        sym (commits E (action.Stores (StoreWord k t j x)) P D e f refl (relink (b .queue) i from to (L .plain) (λ e. L .stays (L .held e) refl refl)))
     acted (action.Stores (StoreNote k)) n D h f L =
         sym
-        (commits E (action.Stores (StoreNote k)) D e f (ap (publishing (b .queue)) h)
+        (commits E (action.Stores (StoreNote k)) P D e f (ap (publishing (b .queue)) h)
         (relink (publishing (b .queue) (b .queue .published)) i from to (L .plain) (λ e. L .stays (L .held e) refl refl)))
     acted (action.Stores (StorePut a)) n D h f L = absurd h
     acted (action.Stores (StoreOut a)) n D h f L = absurd h
@@ -174,25 +201,25 @@ module _ (b : Bench) (i : ℕ) (from to : Line) (m l : List ℕ) (at : lineAt (b
     acted (action.Stores (StoreTail a)) n D h f L = absurd h
     acted (action.Copies k t u) n D h f L =
         sym
-        (commits E (action.Copies k t u) D e f (copies-leave (b .words) (b .queue) m k t u (b .words + 1))
+        (commits E (action.Copies k t u) P D e f (copies-leave (b .words) (b .queue) m k t u (b .words + 1))
         (relink (b .queue) i from to (L .plain) (λ e. L .stays (L .held e) refl refl)))
     acted (action.Claims a z) n D h f L =
         sym
-        (commits E (action.Claims a z) D e f (ap (λ (S : Shared). S .queue) (claims-land (b .queue) m n a z h))
+        (commits E (action.Claims a z) P D e f (ap (λ (S : Shared). S .queue) (claims-land (b .queue) m n a z h))
         (relink (withArray (b .queue) a z) i from to (L .plain) (λ e. L .stays (L .held e) refl refl)))
-    acted (action.Stops y) n D h f L = sym (commits E (action.Stops y) D e f refl (unlink (b .queue) i from to (L .rests h)) ∙ full (logFull (b .words) l (b .written)) refl)
+    acted (action.Stops y) n D h f L = sym (commits E (action.Stops y) P D e f refl (unlink (b .queue) i from to (L .rests h)) ∙ full (logFull (b .words) l (b .written)) refl)
       where
         full : (z : Bool) → logFull (b .words) l (b .written) ≡ z
-            → counted (lent b m l) i to y (b .restarts) (linkSet (b .queue) i false) m
+            → counted (lent b m l) i to y (b .restarts) (linkSet (b .queue) i false) (b .waiting) m
             ≡ movedBy b i to (if z then made.Refused LogFull else made.Stops y) m (if z then l else setAll l (b .written) (entryWords (b .words) (entryOf y)))
         full true q = rw (h, q)
         full false q = rw (h, q)
     acted (action.Ends s y) n D h f L =
         ap (λ (x : List ℕ). movedBy b i to (actedBy (b .words) (b .written) l (b .queue) (action.Ends s y)) x (logAfter (b .words) (b .written) l (action.Ends s y))) kept
         ∙ sym
-        (commits E (action.Ends s y) D e f (ap (λ (S : Shared). S .queue) lands)
+        (commits E (action.Ends s y) P D e f (ap (λ (S : Shared). S .queue) lands)
         (unlink (anchored (b .queue) a) i from to (L .rests (h .1)) ∙ link-kept (anchored (b .queue) a) i false (none-held 8 i))
-        ∙ ap (counted (lent b m l) i to y (b .restarts) (anchored (b .queue) a)) kept
+        ∙ ap (counted (lent b m l) i to y (b .restarts) (anchored (b .queue) a) (b .waiting)) kept
         ∙ full (logFull (b .words) l (b .written)) refl)
       where
         a : Anchor
@@ -205,16 +232,16 @@ module _ (b : Bench) (i : ℕ) (from to : Line) (m l : List ℕ) (at : lineAt (b
         kept = ap (λ (S : Shared). S .store) lands
 
         full : (z : Bool) → logFull (b .words) l (b .written) ≡ z
-            → counted (lent b m l) i to y (b .restarts) (anchored (b .queue) a) m
+            → counted (lent b m l) i to y (b .restarts) (anchored (b .queue) a) (b .waiting) m
             ≡ movedBy b i to (if z then made.Refused LogFull else made.Ends a y) m (if z then l else setAll l (b .written) (entryWords (b .words) (entryOf y)))
         full true q = rw (h .1, q)
         full false q = rw (h .1, q)
 
   -- and the line that links
-  pub linked-line : (b .queue .linked and isSteal1 from) ≡ true → failsCompare (b .kind) (b .queue) i from ≡ false → isPast1 to ≡ true
+  pub linked-line : Prompt b i (goes to) → (b .queue .linked and isSteal1 from) ≡ true → failsCompare (b .kind) (b .queue) i from ≡ false → isPast1 to ≡ true
       → movedBy b i to made.Links m l ≡ commit (lent b m l) i (goes to)
   unfolding benchAfter answerAfter claimsBy storesBy answerBy failsBy landedAll if_then_else_ _and_
-  linked-line e f p = sym (commits (goes to) action.Nothing (record { claims = refl; stores = refl; answer = refl }) refl (sym f) refl (link (b .queue) i from to e p))
+  linked-line P e f p = sym (commits (goes to) action.Nothing P (record { claims = refl; stores = refl; answer = refl }) refl (sym f) refl (link (b .queue) i from to e p))
 
 -- what ends an operation fits where its entry is logged
 logged-fits : (v : ℕ) (q : Queue) (k : ℕ) (l : List ℕ) (d : Made) → (k + entryLength v ≤ 4294967295 → Fits v q k d) → Fits v q k (if logFull v l k then made.Refused LogFull else d)

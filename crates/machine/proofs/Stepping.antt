@@ -1,13 +1,14 @@
 -- A step past the test of the limits, by how it goes.
-use mathlib.Core.Bool.{true, false, true≢false}
+use mathlib.Core.Bool.{Bool, true, false, true≢false}
 use mathlib.Core.List.{List, [], _∷_}
 use mathlib.Core.Path.{_≡_, refl, sym, ap, subst, _∙_}
-use Prim.Native.Nat.{ℕ, _<_}
+use Prim.Native.Nat.{ℕ, zero, suc, _<_}
 use native.Mathlib.Omega.{arith}
 use lib.ListN.{length}
 use borrow.Author.Tests.{lt-ltb}
 use denote.Enum.Declared.{tagOf}
 use types.Run.{OneOf, miss}
+use Rattle.model.specs.declared.Store.{Store}
 use Rattle.model.specs.declared.Line.{Line}
 use Rattle.model.specs.declared.Line.the-variants.{StealRead}
 use Rattle.model.specs.declared.Bench.{Bench}
@@ -20,36 +21,64 @@ use Rattle.model.specs.Answers.{ends}
 use Rattle.model.specs.Listing.{isRefused}
 use Rattle.model.specs.Tests.{_and_}
 use Rattle.model.specs.Lines.{Effect, goes, holdsLink, lineStep, failsCompare}
-use Rattle.model.specs.Stores.{shared}
+use Rattle.model.specs.Stores.{Shared, shared}
 use Rattle.model.specs.Limits.{validOf}
-use Rattle.model.specs.World.{World, Outcome, refuse, tagBits, lineAt, isIdle, isSteal1, isPast1}
-use Rattle.model.specs.Calls.{lent, raised, commit, stepIn}
+use Rattle.model.specs.World.{World, Outcome, refuse, memory, viewOf, tagBits, lineAt, isIdle, isSteal1, isPast1}
+use Rattle.model.specs.Calls.{lent, raised, joining, landing, commit, nextEffect, stepIn}
 use Rattle.model.proofs.Tests.{if-true, if-false, and-right}
 use Rattle.model.proofs.Attempts.{rests, stays, starts, only-first, idle-not, wins}
 use Rattle.lines.specs.declared.Action.{Action}
-use Rattle.lines.specs.Actions.{answerBy, failsBy, Does, Doable, Ready}
-use Rattle.lines.proofs.FromLimits.{narrow-of-valid, ground-of-valid, ready-of-valid, link-of-valid}
-use Rattle.limits.proofs.Bounds.{bounds-of}
+use Rattle.lines.specs.Actions.{answerBy, failsBy, Does, Doable, Ground, Ready}
+use Rattle.lines.proofs.Views.{reads-memory}
+use Rattle.lines.proofs.FromLimits.{narrow-of-valid, crew-of-valid, few-of-valid, none-of-valid, ground-of-valid, ready-of-valid, link-of-valid}
 use Rattle.state.specs.declared.Returned.{Returned}
 use Rattle.state.specs.Outcomes.{returned}
 use Rattle.machine.specs.declared.Made.{Made}
 use Rattle.machine.specs.declared.Made.the-variants as made
-use Rattle.machine.specs.Steps.{moves, benchAfter, answerAfter, movedBy, leftBy, actedBy, logAfter, Fits, Steppable}
+use Rattle.machine.specs.Steps.{AtOnce, moves, benchAfter, answerAfter, movedBy, leftBy, actedBy, logAfter, Fits, Steppable}
 use Rattle.machine.proofs.Made.{the-type}
-use Rattle.machine.proofs.Moves.{Leads, acted, linked-line}
+use Rattle.machine.proofs.Moves.{Leads, Prompt, acted, linked-line}
 
--- in a state within the limits every worker can be stepped; k is the place of worker i's record, if there is such a worker
-pub steppable : (W : World) (i k : ℕ) → validOf W ≡ true → (i < 8 → k ≡ i)
+-- in a state within the limits the stores of a thief land at once, and without the mode the owner's do
+pub at-once : (W : World) (i : ℕ) → validOf W ≡ true → (i ≡ 0 → W .bench .delayed ≡ false) → AtOnce (W .bench .delayed) (W .bench .waiting) i
+at-once W i v f = record { few = few-of-valid W v; none = λ e. (f e, none-of-valid W v (f e)) }
+
+none-join : (d : Bool) (i : ℕ) (s : List Store) → (i ≡ 0 → d ≡ false) → joining d i s ≡ []
+none-join true zero s f = absurd (true≢false (f refl))
+none-join true (suc i) s f = refl
+none-join false i s f = refl
+
+all-land : (d : Bool) (i : ℕ) (s : List Store) → (i ≡ 0 → d ≡ false) → landing d i s ≡ s
+all-land true zero s f = absurd (true≢false (f refl))
+all-land true (suc i) s f = refl
+all-land false i s f = refl
+
+prompt-of : (b : Bench) (i : ℕ) (E : Effect) → AtOnce (b .delayed) (b .waiting) i → Prompt b i E
+prompt-of b i E A = record {
+  few = A .few;
+  none = none-join (b .delayed) i (E .stores) (λ e. A .none e .0);
+  all = all-land (b .delayed) i (E .stores) (λ e. A .none e .0);
+}
+
+-- and what such a worker reads is memory
+sees-memory : (W : World) (i : ℕ) → AtOnce (W .bench .delayed) (W .bench .waiting) i → viewOf W i ≡ memory W
+sees-memory W zero A = reads-memory W (A .none refl .1)
+sees-memory W (suc i) A = refl
+
+-- it can be stepped; k is the place of worker i's record, if there is such a worker
+pub steppable : (W : World) (i k : ℕ) → validOf W ≡ true → AtOnce (W .bench .delayed) (W .bench .waiting) i → (i < 8 → k ≡ i)
     → Steppable (W .bench .kind) (W .bench .width) (W .bench .words) (W .bench .crew) (W .bench .queue) (length (W .store)) i (lineAt (W .bench .workers) k)
-steppable W i k v at = record {
+steppable W i k v once at = record {
   narrow = narrow-of-valid W v;
-  crew = bounds-of W v .crew;
-  ground = ground-of-valid W v;
+  crew = crew-of-valid W v .1;
+  ground = subst (λ (S : Shared). Ground (W .bench .words) (S .queue) (length (W .store))) (sees-memory W i once) (ground-of-valid W v i);
   ready = λ h.
       subst (λ (j : ℕ). Ready (W .bench .kind) (W .bench .words) (W .bench .queue) (length (W .store)) (lineAt (W .bench .workers) j))
-      (sym (at (omega (arith, h, bounds-of W v .crew)))) (ready-of-valid W v i h);
+      (sym (at (omega (arith, h, crew-of-valid W v .1))))
+      (subst (λ (S : Shared). Ready (W .bench .kind) (W .bench .words) (S .queue) (length (W .store)) (lineAt (W .bench .workers) i))
+      (sees-memory W i once) (ready-of-valid W v i h));
   held = λ h e.
-      let small : i < 8 = omega (arith, h, bounds-of W v .crew) in
+      let small : i < 8 = omega (arith, h, crew-of-valid W v .1) in
       let L = link-of-valid W v i small e in
       (L .0, subst (λ (j : ℕ). isPast1 (lineAt (W .bench .workers) j) ≡ true) (sym (at small)) (L .1));
 }
@@ -64,7 +93,7 @@ module _ (b : Bench) (i : ℕ) (y : Line) (m l : List ℕ) (own : lineAt (b .wor
   idle-worker f = sym (if-true _ (lt-ltb _ _ h) ∙ if-true _ (ap isIdle own ∙ f))
 
   -- the line is done: x is the line that follows, d the action; or it links
-  module _ (held : holdsLink (b .queue) i ≡ true → (b .queue .linked ≡ true) × (isPast1 y ≡ true)) (x : Line)
+  module _ (once : AtOnce (b .delayed) (b .waiting) i) (held : holdsLink (b .queue) i ≡ true → (b .queue .linked ≡ true) × (isPast1 y ≡ true)) (x : Line)
       (next : (w : ℕ) → x ≡ lineStep (b .kind) w (b .words) (b .queue) m i y .line) where
     leads : (d : Action) → (b .queue .linked and isSteal1 y) ≡ false
         → Does (b .words) (lineStep (b .kind) (tagBits b) (b .words) (b .queue) m i y) d
@@ -81,13 +110,19 @@ module _ (b : Bench) (i : ℕ) (y : Line) (m l : List ℕ) (own : lineAt (b .wor
         answered : answerBy d ≡ lineStep (b .kind) (tagBits b) (b .words) (b .queue) m i y .answer
         answered = does .answer
 
+    reads : commit (lent b m l) i (lineStep (b .kind) (tagBits b) (b .words) (b .queue) m i (lineAt (b .workers) i)) ≡ commit (lent b m l) i (nextEffect (lent b m l) i)
+    reads =
+        ap (λ (S : Shared). commit (lent b m l) i (lineStep (b .kind) (tagBits b) (b .words) (S .queue) (S .store) i (lineAt (b .workers) i)))
+        (sym (sees-memory (lent b m l) i once))
+
     pub line-done : (d : Action) → isIdle y ≡ false → (b .queue .linked and isSteal1 y) ≡ false → Doable (b .words) (b .queue) (length m) d
         → Does (b .words) (lineStep (b .kind) (tagBits b) (b .words) (b .queue) m i y) d
         → failsBy d ≡ failsCompare (b .kind) (b .queue) i y
         → movedBy b i x (actedBy (b .words) (b .written) l (b .queue) d) (leftBy (b .words) (shared (b .queue) m) d .store) (logAfter (b .words) (b .written) l d) ≡ stepIn (lent b m l) i
     line-done d f plain safe does fails =
-        acted b i y x m l own (lineStep (b .kind) (tagBits b) (b .words) (b .queue) m i y) (sym (next (tagBits b))) d (length m) does safe fails (leads d plain does fails)
+        acted b i y x m l own (lineStep (b .kind) (tagBits b) (b .words) (b .queue) m i y) (prompt-of b i _ once) (sym (next (tagBits b))) d (length m) does safe fails (leads d plain does fails)
         ∙ ap (λ (z : Line). commit (lent b m l) i (lineStep (b .kind) (tagBits b) (b .words) (b .queue) m i z)) (sym own)
+        ∙ reads
         ∙ sym (if-true _ (lt-ltb _ _ h) ∙ if-false _ (ap isIdle own ∙ f))
 
     pub line-links : (b .queue .linked and isSteal1 y) ≡ true → movedBy b i x made.Links m l ≡ stepIn (lent b m l) i
@@ -95,11 +130,12 @@ module _ (b : Bench) (i : ℕ) (y : Line) (m l : List ℕ) (own : lineAt (b .wor
     line-links e =
         let first : y ≡ StealRead = only-first y (and-right (b .queue .linked) _ e) in
         let effect : Line → Effect = lineStep (b .kind) (tagBits b) (b .words) (b .queue) m i in
-        linked-line b i y x m l own e (ap (failsCompare (b .kind) (b .queue) i) first)
+        linked-line b i y x m l own (prompt-of b i (goes x) once) e (ap (failsCompare (b .kind) (b .queue) i) first)
         (ap isPast1 (next (tagBits b) ∙ ap (λ (z : Line). effect z .line) first) ∙ starts (b .kind) (tagBits b) (b .words) (b .queue) m i)
         ∙ ap (commit (lent b m l) i)
         (ap goes (next (tagBits b) ∙ ap (λ (z : Line). effect z .line) first)
         ∙ sym (ap effect (own ∙ first)))
+        ∙ reads
         ∙ sym (if-true _ (lt-ltb _ _ h) ∙ if-false _ (ap isIdle (own ∙ first)))
 
 -- a step that is not refused, by the numbers of its cases, does not answer a refusal

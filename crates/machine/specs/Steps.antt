@@ -1,6 +1,6 @@
 -- What a step leaves of the state, and what it needs.
 use mathlib.Core.Path.{_≡_}
-use mathlib.Core.Bool.{true, false}
+use mathlib.Core.Bool.{Bool, true, false}
 use mathlib.Core.List.{List}
 use Prim.Native.Nat.{ℕ, _+_, _≤_, _<_}
 use lib.ListN.{set}
@@ -9,6 +9,7 @@ use Rattle.model.specs.declared.Store.{Store}
 use Rattle.model.specs.declared.Store.the-variants.{StoreWord, StoreNote, StorePut, StoreOut, StoreHead, StoreTail}
 use Rattle.model.specs.declared.Line.{Line}
 use Rattle.model.specs.declared.Queue.{Queue}
+use Rattle.model.specs.declared.Waiting.{Waiting}
 use Rattle.model.specs.declared.Worker.{Worker}
 use Rattle.model.specs.declared.Bench.{Bench}
 use Rattle.model.specs.declared.Refusal.the-variants.{LogFull}
@@ -28,25 +29,43 @@ use Rattle.lines.specs.Actions.{storesBy, claimsBy, Ground, Ready}
 use Rattle.machine.specs.declared.Made.{Made}
 use Rattle.machine.specs.declared.Made.the-variants as made
 
--- a state of what a step is handed, with u numbers used, the counts n of restarts and the records ws
-abbrev pub benchOf : Kind → ℕ → ℕ → ℕ → Queue → ℕ → ℕ → List ℕ → List Worker → Bench
-benchOf κ w v c q k u n ws =
-    record { kind = κ; width = w; words = v; crew = c; queue = q; used = u; restarts = n; written = k; workers = ws }
+-- a state of what a step is handed, with the mode d, the waiting line s, u numbers used, the counts n of restarts and the
+-- records ws
+abbrev pub benchOf : Kind → ℕ → ℕ → ℕ → Queue → ℕ → Bool → Waiting → ℕ → List ℕ → List Worker → Bench
+benchOf κ w v c q k d s u n ws =
+    record {
+      kind = κ;
+      width = w;
+      words = v;
+      delayed = d;
+      crew = c;
+      queue = q;
+      waiting = s;
+      used = u;
+      restarts = n;
+      written = k;
+      workers = ws;
+    }
+
+-- worker i's stores land at once: it is a thief, or the stores are not delayed, and so none waits that it would read
+pub record AtOnce (d : Bool) (s : Waiting) (i : ℕ) : Type 0 where
+  pub few : s .count ≤ 8
+  pub none : i ≡ 0 → (d ≡ false) × (s .count ≡ 0)
 
 -- the state with worker i at the line x, and another queue, other counts of restarts and another of words written
 abbrev pub moves : Bench → ℕ → Line → Queue → List ℕ → ℕ → Bench
 moves b i x q n k =
-    benchOf (b .kind) (b .width) (b .words) (b .crew) q k (b .used) n (set (b .workers) i (record { line = x }))
+    benchOf (b .kind) (b .width) (b .words) (b .crew) q k (b .delayed) (b .waiting) (b .used) n (set (b .workers) i (record { line = x }))
 
--- the queue with a pair claimed behind the published ones
+-- the queue with one pair more claimed
 abbrev pub withArray : Queue → ℕ → ℕ → Queue
 withArray q a z =
     record {
       linked = q .linked;
       anchor = q .anchor;
-      arrays = set (q .arrays) (q .published) (record { offset = a; length = z });
+      arrays = set (q .arrays) (q .claimed) (record { offset = a; length = z });
       published = q .published;
-      claimed = q .published + 1;
+      claimed = q .claimed + 1;
       initial = q .initial;
       links = q .links;
     }
@@ -120,7 +139,7 @@ Fits v q k made.Nothing = Unit {0}
 Fits v q k (made.Refused r) = Unit {0}
 Fits v q k made.Fails = Unit {0}
 Fits v q k made.Links = Unit {0}
-Fits v q k (made.Claims a z) = q .published < 11
+Fits v q k (made.Claims a z) = q .claimed < 11
 Fits v q k made.Publishes = q .published ≤ 11
 Fits v q k (made.Stops y) = (k + entryLength v ≤ 4294967295) × (ends y ≡ true)
 Fits v q k (made.Ends a y) = (k + entryLength v ≤ 4294967295) × (ends y ≡ true)

@@ -1,13 +1,15 @@
-// A step past the test of the limits. `step_in` is handed what a step reads of the state, writes the store and the log, and answers
-// what the step leaves of the state: the line that its worker is at, and what it did beside. A caller that keeps its bench in a
-// local can so replace the one record that most steps change; `settled` has the other steps.
-// Uses `model`, `answers`, `stages`, `anchors`, `slots`, `lines`, `limits`, `memory` and `state`. It is used by `queues` and
+// A step past the test of the limits, of a thief, or of the owner while its stores are not delayed. `step_in` is handed what a step
+// reads of the state, writes the store and the log, and answers what the step leaves of the state: the line that its worker is at,
+// and what it did beside. A caller that keeps its bench in a local can so replace the one record that most steps change; `settled`
+// has the other steps.
+// Uses `model`, `answers`, `stages`, `anchors`, `slots`, `lines`, `memory` and `state`. It is used by `owner`, `queues` and
 // `listing`.
 ghost use mathlib.Core.Path.{_≡_};
-ghost use mathlib.Core.Bool.{not};
+ghost use mathlib.Core.Bool.{Bool, not};
 ghost use mathlib.Core.List.{List};
 ghost use Prim.Native.Nat.{ℕ, _≤_, _<_};
 ghost use lib.ListN.{length};
+ghost use Rattle.model.specs.declared.Waiting.{Waiting};
 ghost use Rattle.model.specs.declared.Worker.{Worker};
 ghost use Rattle.model.specs.Tests.{_and_};
 ghost use Rattle.model.specs.Stores.{shared, landed};
@@ -17,6 +19,7 @@ ghost use Rattle.slots.specs.Bounds.{Wide};
 ghost use Rattle.lines.specs.Actions.{Lands, Doable};
 ghost use Rattle.machine.specs.Steps.{
   benchOf,
+  AtOnce,
   moves,
   withArray,
   benchAfter,
@@ -104,7 +107,7 @@ fn land(words: u32, queue: Queue, landing: Store, store: &mut [u32]) -> Made
 }
 
 // Carries an action out: its stores land at once.
-fn act(
+pub fn act(
     words: u32,
     written: u32,
     queue: Queue,
@@ -166,7 +169,8 @@ fn links(linked: bool, line: Line) -> bool
     stages::stage(line) == 4
 }
 
-// A step of a worker that is at `line`, past the test of the limits: refusals 6 and 8, then the line, committed or refused 11.
+// A step of a worker that is at `line`, reads memory and whose stores land at once, past the test of the limits: refusals 6 and 8,
+// then the line, committed or refused 11.
 pub fn step_in(
     kind: Kind,
     width: u32,
@@ -183,9 +187,9 @@ pub fn step_in(
     ensures { λ r. ⌜ Fits words queue written (r .made) ⌝ }
     ensures { λ r.
         ⌜
-        ((u k : ℕ) (n : List ℕ) (ws : List Worker) → (worker < 8 → k ≡ worker) → lineAt ws k ≡ line
-        → movedBy (benchOf kind width words crew queue written u n ws) k (r .line) (r .made) (now (store .exit)) (now (log .exit))
-        ≡ stepIn (lent (benchOf kind width words crew queue written u n ws) (now (store .entry)) (now (log .entry))) worker)
+        ((d : Bool) (s : Waiting) (u k : ℕ) (n : List ℕ) (ws : List Worker) → AtOnce d s worker → (worker < 8 → k ≡ worker) → lineAt ws k ≡ line
+        → movedBy (benchOf kind width words crew queue written d s u n ws) k (r .line) (r .made) (now (store .exit)) (now (log .exit))
+        ≡ stepIn (lent (benchOf kind width words crew queue written d s u n ws) (now (store .entry)) (now (log .entry))) worker)
         ⌝ }
 {
     if crew <= worker {
@@ -215,16 +219,16 @@ pub fn step_in(
     Moved { line: to, made }
 }
 
-// X1: a pair behind the published ones.
+// X1: a pair behind the claimed ones.
 fn with_array(queue: Queue, offset: u32, length: u32) -> Queue
-    requires { ⌜ queue .published < 11 ⌝ }
+    requires { ⌜ queue .claimed < 11 ⌝ }
     ensures { λ r. ⌜ r ≡ withArray queue offset length ⌝ }
 {
-    let published = queue.published;
-    let place = published as usize;
+    let claimed = queue.claimed;
+    let place = claimed as usize;
     let mut next = queue;
     next.arrays[place] = Region { offset, length };
-    next.claimed = published + 1;
+    next.claimed = claimed + 1;
     next
 }
 
@@ -286,7 +290,7 @@ pub fn settled(bench: Bench, place: usize, line: Line, made: Made) -> Returned
             }
         }
         Made::Publishes => {
-            let current = state::publish(queue);
+            let current = state::publish(queue, queue.published);
             Returned {
                 bench: replaced(bench, place, line, current, written),
                 answer: Answer::GoesOn,

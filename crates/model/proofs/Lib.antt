@@ -11,3 +11,4 @@ pub mod Below
 pub mod Masks
 pub mod Attempts
 pub mod Landing
+pub mod Youngest

@@ -2,8 +2,8 @@
 use mathlib.Core.Path.{_≡_, refl}
 use mathlib.Core.Bool.{Bool, true, false}
 use mathlib.Core.List.{List, [], _∷_, _++_, map}
-use Prim.Native.Nat.{ℕ, _/_}
-use lib.ListN.{replicate}
+use Prim.Native.Nat.{ℕ, _-_, _/_}
+use lib.ListN.{length, replicate}
 use Rattle.model.specs.declared.Kind.{Kind}
 use Rattle.model.specs.declared.Kind.the-variants.{Lifo, Fifo, Deque}
 use Rattle.model.specs.declared.Anchor.{Anchor}
@@ -32,13 +32,17 @@ use Rattle.model.specs.declared.Line.the-variants.{
   StealNext,
   StealCompare,
 }
+use Rattle.model.specs.declared.Store.{Store}
+use Rattle.model.specs.declared.Store.the-variants.{StoreWord, StoreNote, StorePut, StoreOut, StoreHead, StoreTail}
+use Rattle.model.specs.declared.Waiting.{Waiting}
 use Rattle.model.specs.declared.Region.{Region}
 use Rattle.model.specs.declared.Queue.{Queue}
 use Rattle.model.specs.declared.Worker.{Worker}
 use Rattle.model.specs.Tests.{if_then_else_, _and_, _or_}
-use Rattle.model.specs.Memory.{nowhere, offsetAt, lengthAt, sizeAt}
+use Rattle.model.specs.Memory.{nowhere, setWord, offsetAt, lengthAt, sizeAt}
 use Rattle.model.specs.Tasks.{task, payload, noTask, wordIn, gathered}
 use Rattle.model.specs.Figures.{anchor}
+use Rattle.model.specs.Stores.{pending, nonePending, landedAll}
 use Rattle.model.specs.World.{World, resting}
 use Rattle.model.specs.Limits.{validOf}
 use Rattle.model.proofs.Runs.{one}
@@ -55,18 +59,24 @@ abbrev plain : ℕ → Anchor → List Region → ℕ → ℕ → Queue
 plain z a d p c =
     record { linked = false; anchor = a; arrays = d; published = p; claimed = c; initial = z; links = replicate 8 false }
 
--- all that the limits look at: payload words, kind, tag width, crew, the queue, the numbers used, the log's length, the workers, and
--- the lengths of store and log
-abbrev stateOf : ℕ → Kind → ℕ → ℕ → Queue → ℕ → ℕ → List Worker → ℕ → ℕ → World
-stateOf v κ w n q u e l ms ls =
+-- so many stores wait
+abbrev line : ℕ → List Store → Waiting
+line n s = record { stores = map pending s ++ replicate (8 - length s) nonePending; count = n }
+
+-- all that the limits look at: the mode, the waiting line, payload words, kind, tag width, crew, the queue, the numbers used, the
+-- log's length, the workers, and the lengths of store and log
+abbrev stateWith : Bool → Waiting → ℕ → Kind → ℕ → ℕ → Queue → ℕ → ℕ → List Worker → ℕ → ℕ → World
+stateWith d s v κ w n q u e l ms ls =
     record {
       bench =
           record {
             kind = κ;
             width = w;
             words = v;
+            delayed = d;
             crew = n;
             queue = q;
+            waiting = s;
             used = u;
             restarts = replicate 8 0;
             written = e;
@@ -75,6 +85,9 @@ stateOf v κ w n q u e l ms ls =
       store = replicate ms 0;
       log = replicate ls 0;
     }
+
+abbrev stateOf : ℕ → Kind → ℕ → ℕ → Queue → ℕ → ℕ → List Worker → ℕ → ℕ → World
+stateOf v κ w n q u e l ms ls = stateWith false (line 0 []) v κ w n q u e l ms ls
 
 -- one payload word, and the size that is kept is the first array's
 abbrev state : Kind → ℕ → ℕ → Anchor → List Region → ℕ → ℕ → ℕ → ℕ → List Worker → ℕ → ℕ → World
@@ -130,6 +143,10 @@ marked κ x a y z e o t =
 
 abbrev holding : Kind → Bool → Anchor → Bool → Bool → Line → Line → World
 holding κ x a y z o t = marked κ x a y z false o t
+
+-- stores that wait; in memory p of the two claimed arrays are published
+abbrev delayed : Kind → Anchor → ℕ → List Store → Line → Line → World
+delayed κ a p s o t = stateWith true (line (length s) s) 1 κ 2 2 (plain 2 a two p 2) 9 0 (at o t Idle) 12 8
 
 -- fresh's ranges, the directory, the log's length, the anchor, put numbers, workers outside the crew
 abbrev still : Kind → ℕ → ℕ → Anchor → ℕ → ℕ → World
@@ -208,6 +225,16 @@ admitted =
     ∷ holding Lifo true (anchor 0 2 0) false true Idle (StealTest (anchor 0 2 0))
     ∷ holding Deque true (anchor 5 2 0) false true Idle (StealCompare (anchor 5 2 0) 6 (task 1 (one 7)))
     ∷ holding Lifo true (anchor 0 1 0) false false Idle (StealTest (anchor 0 2 0))
+    -- eight stores wait; each at the edge of its limit: words of an array, a note, an anchor in the array that the owner reads
+    ∷ delayed Lifo (anchor 0 0 0) 2 (replicate 7 (StoreWord 1 3 0 65535) ++ StoreWord 0 1 1 4294967295 ∷ []) Idle Idle
+    ∷ delayed Lifo (anchor 0 2 0) 1 (StoreNote 1 ∷ StorePut (anchor 0 4 3) ∷ []) Idle Idle
+    ∷ delayed Deque (anchor 0 2 0) 1 (StoreNote 1 ∷ StoreOut (anchor 2047 4 3) ∷ []) Idle Idle
+    ∷ delayed Fifo (anchor 0 2 0) 1 (StoreNote 1 ∷ StoreTail 3 ∷ StoreTail 4 ∷ StoreHead 4 ∷ []) Idle Idle
+    -- what the owner read is limited by the array that it reads: an array whose note waits counts as published
+    ∷ delayed Lifo (anchor 0 2 0) 1 (StoreNote 1 ∷ []) (PutTest (task 1 (one 7)) (anchor 0 4 0)) (StealTest (anchor 0 2 0))
+    ∷ delayed Lifo (anchor 0 0 0) 1 [] (Note (task 1 (one 7))) Idle
+    -- without the mode none waits
+    ∷ stateWith false (line 0 []) 1 Lifo 2 2 (plain 2 (anchor 0 0 0) two 2 2) 9 0 (at Idle Idle Idle) 12 8
     ∷ []
 
 abbrev foreign : List World
@@ -359,8 +386,38 @@ foreign =
     ∷ holding Fifo true (anchor 0 0 0) false false Idle Idle
     ∷ holding Lifo true (anchor 0 0 1) false false Idle Idle
     ∷ holding Lifo true (anchor 0 0 0) false false (TakeTest (anchor 0 0 1)) Idle
+    -- nine wait, or one without the mode
+    ∷ stateWith true (line 9 []) 1 Lifo 2 2 (plain 2 (anchor 0 0 0) two 2 2) 9 0 (at Idle Idle Idle) 12 8
+    ∷ stateWith false (line 1 []) 1 Lifo 2 2 (plain 2 (anchor 0 0 0) two 2 2) 9 0 (at Idle Idle Idle) 12 8
+    -- a word of no array, no slot, no word, a put number above 65,535
+    ∷ delayed Lifo (anchor 0 0 0) 2 (StoreWord 2 0 0 0 ∷ []) Idle Idle
+    ∷ delayed Lifo (anchor 0 0 0) 2 (StoreWord 0 2 0 0 ∷ []) Idle Idle
+    ∷ delayed Lifo (anchor 0 0 0) 2 (StoreWord 0 0 2 0 ∷ []) Idle Idle
+    ∷ delayed Lifo (anchor 0 0 0) 2 (StoreWord 0 0 0 65536 ∷ []) Idle Idle
+    -- a note of no array or of the unpublished one; an older array than the one in memory
+    ∷ delayed Lifo (anchor 0 0 0) 2 (StoreNote 2 ∷ []) Idle Idle
+    ∷ delayed Lifo (anchor 0 0 0) 1 (StoreNote 1 ∷ StoreNote 0 ∷ []) (Note (task 1 (one 7))) Idle
+    ∷ delayed Lifo (anchor 0 0 0) 2 (StoreNote 0 ∷ []) (Note (task 1 (one 7))) Idle
+    -- an anchor of another kind's form, or out of its ranges
+    ∷ delayed Fifo (anchor 0 0 0) 2 (StorePut (anchor 0 0 0) ∷ []) Idle Idle
+    ∷ delayed Lifo (anchor 0 0 0) 2 (StoreHead 0 ∷ []) Idle Idle
+    ∷ delayed Deque (anchor 0 0 0) 2 (StoreTail 0 ∷ []) Idle Idle
+    ∷ delayed Lifo (anchor 0 0 0) 2 (StorePut (anchor 0 5 0) ∷ StoreOut (anchor 0 0 0) ∷ []) Idle Idle
+    ∷ delayed Lifo (anchor 0 0 0) 2 (StoreOut (anchor 0 0 4) ∷ StoreOut (anchor 0 0 0) ∷ []) Idle Idle
+    ∷ delayed Deque (anchor 0 0 0) 2 (StoreOut (anchor 2048 0 0) ∷ StoreOut (anchor 0 0 0) ∷ []) Idle Idle
+    ∷ delayed Fifo (anchor 0 2 0) 2 (StoreHead 3 ∷ StoreHead 2 ∷ []) Idle Idle
+    ∷ delayed Fifo (anchor 0 2 0) 2 (StoreTail 65536 ∷ StoreTail 2 ∷ []) Idle Idle
+    -- the queue's limits for memory with the thieves' array, and for what the owner reads
+    ∷ delayed Lifo (anchor 0 3 0) 1 (StoreNote 1 ∷ []) Idle Idle
+    ∷ delayed Fifo (anchor 0 0 0) 2 (StoreTail 5 ∷ []) Idle Idle
+    ∷ delayed Lifo (anchor 0 2 0) 1 (StoreNote 1 ∷ []) Idle (StealTest (anchor 0 3 0))
+    -- a thief's noted array is one that thieves have been able to read
+    ∷ delayed Deque (anchor 0 2 0) 1 (StoreNote 1 ∷ []) Idle (StealWord (anchor 0 2 0) 1 noTask 0)
+    -- an array whose note waits is not claimed and unpublished
+    ∷ delayed Lifo (anchor 0 0 0) 1 (StoreNote 1 ∷ []) (Note (task 1 (one 7))) Idle
+    ∷ delayed Lifo (anchor 0 0 0) 1 [] Idle Idle
     ∷ []
 
 pub limits : map validOf (admitted ++ foreign) ≡ map (λ W. true) admitted ++ map (λ W. false) foreign
-unfolding validOf offsetAt lengthAt sizeAt if_then_else_ _and_ _or_ gathered wordIn
+unfolding validOf landedAll setWord offsetAt lengthAt sizeAt if_then_else_ _and_ _or_ gathered wordIn
 limits = refl

@@ -77,7 +77,7 @@ mistakes =
     -- `step I M` stops at the first refusal: the thief's second step of five is refused, and no third is tried
     ∷ (lines (queue 1 1 1 2 2 ∷ BeginSteal 1 ∷ Steps 1 1 ∷ Steps 1 5 ∷ End ∷ []) shows prints (E 1 ∷ R 8 ∷ T 0 0 0 0 0 0 ∷ []))
     -- a refused step changes nothing: the end of a put with 3 words left in the log is refused as often as it is tried
-    ∷ (calls 1 1 2 1 1 4 7 (begin 0 (Put (one 7)) ∷ replicate 5 (step 0) ++ begin 0 (Put (one 8)) ∷ replicate 6 (step 0))
+    ∷ (calls 1 1 2 1 1 false 4 7 (begin 0 (Put (one 7)) ∷ replicate 5 (step 0) ++ begin 0 (Put (one 8)) ∷ replicate 6 (step 0))
     shows answers
     (Accepted ∷ Numbered 1 ∷ replicate 4 GoesOn ++ Finished 0 (task 1 (one 7)) ∷ Numbered 2 ∷ replicate 4 GoesOn ++ Refused LogFull ∷ Refused LogFull ∷ []))
     -- FULL only where X1 says so: 5 words do not hold a second array, 6 do (P5)
@@ -96,7 +96,7 @@ mistakes-shut-out = refl
 
 -- a queue, linked or not, with this anchor
 abbrev at : Bool → Anchor → Queue
-at x a = anchored (blank Lifo x 1 1 2 1 .queue) a
+at x a = anchored (blank Lifo x 1 1 2 1 false .queue) a
 
 -- the counts of restarts: worker 1's compare fails, at the ceiling and one below it, and the other counts stay; a compare that
 -- succeeds; X4; in a linked queue a compare without its link, with the anchor as it was read, and one with it
@@ -116,14 +116,16 @@ counter = refl
 -- a bench with these counts, in a crew of two
 abbrev tallied : List ℕ → World
 tallied ns =
-    let b = blank Lifo false 1 1 2 1 in
+    let b = blank Lifo false 1 1 2 1 false in
     lent
     (record {
       kind = b .kind;
       width = b .width;
       words = b .words;
+      delayed = b .delayed;
       crew = b .crew;
       queue = b .queue;
+      waiting = b .waiting;
       used = b .used;
       restarts = ns;
       written = b .written;
@@ -134,11 +136,11 @@ tallied ns =
 -- what `T` shows is the sum of all eight, the largest one past 32 bits
 pub summed : map (λ (ns : List ℕ). countsOf (tallied ns) .restarts) (eight 4 ∷ replicate 8 4294967295 ∷ (0 ∷ 0 ∷ 0 ∷ 0 ∷ 0 ∷ 0 ∷ 0 ∷ 7 ∷ []) ∷ [])
     ≡ (4294967308 ∷ 34359738360 ∷ 7 ∷ [])
-unfolding countsOf countBelow sumBelow
+unfolding countsOf countBelow sumBelow landedAll
 summed = refl
 
 -- a worker's own count; 6 outside the crew; 12 of no bench, before 6
 pub asked : map (whoOf (tallied (eight 4))) (0 ∷ 1 ∷ 2 ∷ []) ++ map (whoOf (lent noBench [] [])) (0 ∷ 8 ∷ [])
     ≡ (tally.Counted 9 ∷ tally.Counted 4 ∷ tally.Refused NoSuchWorker ∷ tally.Refused ForeignState ∷ tally.Refused ForeignState ∷ [])
-unfolding whoOf validOf offsetAt lengthAt sizeAt if_then_else_ _and_ _or_
+unfolding whoOf validOf landedAll offsetAt lengthAt sizeAt if_then_else_ _and_ _or_
 asked = refl

@@ -1,4 +1,5 @@
 -- Runs as rows of a table: what is played, and what it shows.
+use mathlib.Core.Bool.{Bool}
 use mathlib.Core.List.{List, [], _∷_, map}
 use Prim.Native.Nat.{ℕ}
 use lib.ListN.{replicate}
@@ -8,15 +9,15 @@ use Rattle.model.specs.declared.Command.{Command}
 use Rattle.model.specs.declared.Command.the-variants.{Open, BeginPut}
 use Rattle.model.specs.Tasks.{payload}
 use Rattle.model.specs.World.{Outcome}
-use Rattle.model.specs.Calls.{freshOf, setup, Call}
+use Rattle.model.specs.Calls.{freshOf, setupIn, Call}
 use Rattle.model.specs.Run.{played}
 use Rattle.model.specs.Listing.{Print, H, listing}
 
--- commands of the program; or calls of the library after a fresh with a kind, width, size, workers, payload words, and so many
--- words of store and of log
+-- commands of the program; or calls of the library after a fresh with a kind, width, size, workers, payload words, stores delayed
+-- or not, and so many words of store and of log
 pub data Run : Type 0 where
   lines : List Command → Run
-  calls : ℕ → ℕ → ℕ → ℕ → ℕ → ℕ → ℕ → List Call → Run
+  calls : ℕ → ℕ → ℕ → ℕ → ℕ → Bool → ℕ → ℕ → List Call → Run
 
 -- what the program prints; what the calls answer, fresh's answer first
 pub data Shown : Type 0 where
@@ -36,7 +37,7 @@ answersFrom d cs = d .answer ∷ map (λ p. p .answer) (played (d .world) cs)
 
 unfoldable pub show : Run → Shown
 show (lines l) = prints (listing l)
-show (calls k w c n v s e cs) = answers (answersFrom (freshOf (setup k w c n v) (replicate s 0) (replicate e 0)) cs)
+show (calls k w c n v d s e cs) = answers (answersFrom (freshOf (setupIn k w c n v d) (replicate s 0) (replicate e 0)) cs)
 
 -- one payload word: a payload, `queue` without a sixth number, `put`, and what `H` shows
 abbrev pub one : ℕ → Payload

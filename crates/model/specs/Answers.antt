@@ -22,6 +22,8 @@ use Rattle.model.specs.declared.Refusal.the-variants.{
   BadLine,
   PayloadWords,
   NoLink,
+  WaitingFull,
+  NoneWaiting,
 }
 use Rattle.model.specs.declared.Answer.{Answer}
 use Rattle.model.specs.declared.Answer.the-variants.{
@@ -55,6 +57,8 @@ numberOf ForeignState = 12
 numberOf BadLine = 13
 numberOf PayloadWords = 16
 numberOf NoLink = 17
+numberOf WaitingFull = 18
+numberOf NoneWaiting = 19
 
 -- an entry of the log
 pub record Entry : Type 0 where

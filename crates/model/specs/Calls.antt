@@ -1,7 +1,7 @@
 -- The calls: fresh, begin, step, a link that fails, who, and the log's front.
 use mathlib.Core.Bool.{Bool, true, false}
-use mathlib.Core.List.{List, _∷_}
-use Prim.Native.Nat.{ℕ, _+_, _*_}
+use mathlib.Core.List.{List, [], _∷_}
+use Prim.Native.Nat.{ℕ, zero, suc, _+_, _*_}
 use lib.Dec.{eqb, ltb, leb}
 use lib.ListN.{length, getD, set, replicate, take}
 use Rattle.model.specs.declared.Kind.{Kind}
@@ -9,6 +9,8 @@ use Rattle.model.specs.declared.Kind.the-variants.{Lifo, Fifo, Deque}
 use Rattle.model.specs.declared.Line.{Line}
 use Rattle.model.specs.declared.Line.the-variants.{PutRead, TakeRead, StealRead}
 use Rattle.model.specs.declared.Queue.{Queue}
+use Rattle.model.specs.declared.Store.{Store}
+use Rattle.model.specs.declared.Waiting.{Waiting}
 use Rattle.model.specs.declared.Bench.{Bench}
 use Rattle.model.specs.declared.Setup.{Setup}
 use Rattle.model.specs.declared.Operation.{Operation}
@@ -28,6 +30,8 @@ use Rattle.model.specs.declared.Refusal.the-variants.{
   ForeignState,
   PayloadWords,
   NoLink,
+  WaitingFull,
+  NoneWaiting,
 }
 use Rattle.model.specs.declared.Answer.{Answer}
 use Rattle.model.specs.declared.Answer.the-variants.{Accepted, Numbered}
@@ -38,18 +42,19 @@ use Rattle.model.specs.Tasks.{task, firstWords}
 use Rattle.model.specs.Memory.{zeros, nowhere}
 use Rattle.model.specs.Answers.{ends, logged, entryLength}
 use Rattle.model.specs.Figures.{anchor}
-use Rattle.model.specs.Stores.{Shared}
-use Rattle.model.specs.Lines.{Effect, leftOf, lineStep, holdsLink, failsCompare}
-use Rattle.model.specs.World.{World, Outcome, refuse, requeued, memory, tagBits, resting, lineAt, isIdle, isSteal1, isPast1}
+use Rattle.model.specs.Stores.{Shared, shared, landed, landedAll, nonePending, joined, oldest, oneLess, claimedBy}
+use Rattle.model.specs.Lines.{Effect, lineStep, holdsLink, failsCompare}
+use Rattle.model.specs.World.{World, Outcome, refuse, remembered, memory, viewOf, tagBits, resting, lineAt, isIdle, isSteal1, isPast1}
 use Rattle.model.specs.Limits.{isSize, widthOk, crewOk, wordsOk, validOf}
 
 -- FRESH. A bench with no operation open, an array of c tasks of v payload words, and all counters 0
-abbrev pub blank : Kind → Bool → ℕ → ℕ → ℕ → ℕ → Bench
-blank κ x w c n v =
+abbrev pub blank : Kind → Bool → ℕ → ℕ → ℕ → ℕ → Bool → Bench
+blank κ x w c n v d =
     record {
       kind = κ;
       width = w;
       words = v;
+      delayed = d;
       crew = n;
       queue =
           record {
@@ -61,6 +66,7 @@ blank κ x w c n v =
             initial = c;
             links = replicate 8 false;
           };
+      waiting = record { stores = replicate 8 nonePending; count = 0 };
       used = 0;
       restarts = replicate 8 0;
       written = 0;
@@ -69,7 +75,7 @@ blank κ x w c n v =
 
 -- what stands for no bench: a crew of 0, which every call refuses 12
 abbrev pub noBench : Bench
-noBench = blank Lifo false 0 0 0 0
+noBench = blank Lifo false 0 0 0 0 false
 
 abbrev pub lent : Bench → List ℕ → List ℕ → World
 lent b m l = record { bench = b; store = m; log = l }
@@ -92,13 +98,16 @@ freshOf s m l =
     else unless leb ((s .words + 1) * s .size) (length m) then refuse (lent noBench m l) ShortStore
     else record {
       world =
-          lent (blank (kindOf (s .kind)) (linkedOf (s .kind)) (s .width) (s .size) (s .crew) (s .words)) (zeros m 0 ((s .words + 1) * s .size)) l;
+          lent (blank (kindOf (s .kind)) (linkedOf (s .kind)) (s .width) (s .size) (s .crew) (s .words) (s .delayed)) (zeros m 0 ((s .words + 1) * s .size)) l;
       answer = Accepted;
     }
 
--- kind k, tag width w, first size c, n workers, v payload words
+-- kind k, tag width w, first size c, n workers, v payload words, the stores delayed or not
+abbrev pub setupIn : ℕ → ℕ → ℕ → ℕ → ℕ → Bool → Setup
+setupIn k w c n v d = record { kind = k; width = w; size = c; crew = n; words = v; delayed = d }
+
 abbrev pub setup : ℕ → ℕ → ℕ → ℕ → ℕ → Setup
-setup k w c n v = record { kind = k; width = w; size = c; crew = n; words = v }
+setup k w c n v = setupIn k w c n v false
 
 -- BEGIN. The owner, worker 0, puts and takes; a thief steals
 abbrev pub rightHand : ℕ → Operation → Bool
@@ -138,8 +147,10 @@ begun W i op =
                   kind = W .bench .kind;
                   width = W .bench .width;
                   words = W .bench .words;
+                  delayed = W .bench .delayed;
                   crew = W .bench .crew;
                   queue = W .bench .queue;
+                  waiting = W .bench .waiting;
                   used = usedBy op (W .bench .used);
                   restarts = W .bench .restarts;
                   written = W .bench .written;
@@ -196,11 +207,24 @@ linkSet q i x =
 abbrev pub relinked : Queue → ℕ → Line → Line → Queue
 relinked q i l l' = linkSet q i (isPast1 l' and ((q .linked and isSteal1 l) or holdsLink q i))
 
--- what a line that does E leaves of the shared words
-abbrev pub stored : World → Effect → Shared
-stored W E = leftOf (W .bench .words) (memory W) E
+-- of a step's stores: the owner's join the waiting line, in that mode; all others reach memory at once, and so does X1's claim
+abbrev pub joining : Bool → ℕ → List Store → List Store
+joining true zero s = s
+joining true (suc i) s = []
+joining false i s = []
 
--- worker i's line does E
+abbrev pub landing : Bool → ℕ → List Store → List Store
+landing true zero s = []
+landing true (suc i) s = s
+landing false i s = s
+
+abbrev pub stored : World → ℕ → Effect → Shared
+stored W i E = landedAll (W .bench .words) (claimedBy (E .claims) (memory W)) (landing (W .bench .delayed) i (E .stores))
+
+abbrev pub lineAfter : World → ℕ → Effect → Waiting
+lineAfter W i E = joined (W .bench .waiting) (joining (W .bench .delayed) i (E .stores))
+
+-- worker i's line left E
 abbrev pub stepped : World → ℕ → Effect → Outcome
 stepped W i E =
     record {
@@ -211,8 +235,10 @@ stepped W i E =
                   kind = W .bench .kind;
                   width = W .bench .width;
                   words = W .bench .words;
+                  delayed = W .bench .delayed;
                   crew = W .bench .crew;
-                  queue = relinked (stored W E .queue) i (lineAt (W .bench .workers) i) (E .line);
+                  queue = relinked (stored W i E .queue) i (lineAt (W .bench .workers) i) (E .line);
+                  waiting = lineAfter W i E;
                   used = W .bench .used;
                   restarts =
                       restarted (W .bench .kind) (W .bench .queue) i (lineAt (W .bench .workers) i)
@@ -220,7 +246,7 @@ stepped W i E =
                   written = if ends (E .answer) then W .bench .written + entryLength (W .bench .words) else W .bench .written;
                   workers = set (W .bench .workers) i (record { line = E .line });
                 };
-            store = stored W E .store;
+            store = stored W i E .store;
             log = logged (W .bench .words) (W .log) (W .bench .written) (E .answer);
           };
       answer = E .answer;
@@ -234,14 +260,22 @@ logFull v l n = ltb (length l) (n + entryLength v) or ltb 4294967295 (n + entryL
 abbrev pub noRoom : World → Effect → Bool
 noRoom W E = ends (E .answer) and logFull (W .bench .words) (W .log) (W .bench .written)
 
+-- the step's stores would make more than 8 waiting
+abbrev pub crowded : World → ℕ → Effect → Bool
+crowded W i E = ltb 8 (lineAfter W i E .count)
+
 abbrev pub commit : World → ℕ → Effect → Outcome
-commit W i E = if noRoom W E then refuse W LogFull else stepped W i E
+commit W i E =
+    if crowded W i E then refuse W WaitingFull
+    else if noRoom W E then refuse W LogFull
+    else stepped W i E
 
 abbrev pub nextEffect : World → ℕ → Effect
 nextEffect W i =
-    lineStep (W .bench .kind) (tagBits (W .bench)) (W .bench .words) (W .bench .queue) (W .store) i (lineAt (W .bench .workers) i)
+    let S = viewOf W i in
+    lineStep (W .bench .kind) (tagBits (W .bench)) (W .bench .words) (S .queue) (S .store) i (lineAt (W .bench .workers) i)
 
--- past the test of the limits: refusals 6, 8, 11
+-- past the test of the limits: refusals 6, 8, 18, 11
 abbrev pub stepIn : World → ℕ → Outcome
 stepIn W i =
     unless ltb i (W .bench .crew) then refuse W NoSuchWorker
@@ -258,7 +292,17 @@ dropLinkOf W i =
     unless validOf W then refuse W ForeignState
     else unless ltb i (W .bench .crew) then refuse W NoSuchWorker
     else unless holdsLink (W .bench .queue) i then refuse W NoLink
-    else record { world = requeued W (linkSet (W .bench .queue) i false); answer = Accepted }
+    else record { world = remembered W (shared (linkSet (W .bench .queue) i false) (W .store)) (W .bench .waiting); answer = Accepted }
+
+-- DRAIN. The event that puts the oldest waiting store to its place in memory: refusals 12, 19
+abbrev pub drained : World → World
+drained W = remembered W (landed (W .bench .words) (memory W) (oldest (W .bench .waiting))) (oneLess (W .bench .waiting))
+
+unfoldable pub drainOf : World → Outcome
+drainOf W =
+    unless validOf W then refuse W ForeignState
+    else unless ltb 0 (W .bench .waiting .count) then refuse W NoneWaiting
+    else record { world = drained W; answer = Accepted }
 
 -- WHO. Worker i's restarts: refusals 12, 6. It changes nothing, so there is no world in its answer
 unfoldable pub whoOf : World → ℕ → Tally
@@ -276,8 +320,10 @@ pub data Call : Type 0 where
   begin : ℕ → Operation → Call
   step : ℕ → Call
   dropLink : ℕ → Call
+  drain : Call
 
 abbrev pub callOf : World → Call → Outcome
 callOf W (begin i op) = beginOf W i op
 callOf W (step i) = stepOf W i
 callOf W (dropLink i) = dropLinkOf W i
+callOf W drain = drainOf W

@@ -1,6 +1,6 @@
 -- The state limits of refusal 12, in document 01's order.
 use mathlib.Core.Bool.{Bool, true, false, not}
-use mathlib.Core.List.{List}
+use mathlib.Core.List.{List, [], _∷_}
 use Prim.Native.Nat.{ℕ, zero, suc, _+_, _-_, _*_, _^_}
 use lib.Dec.{eqb, ltb, leb}
 use lib.ListN.{length, getD}
@@ -33,6 +33,9 @@ use Rattle.model.specs.declared.Line.the-variants.{
   StealNext,
   StealCompare,
 }
+use Rattle.model.specs.declared.Store.{Store}
+use Rattle.model.specs.declared.Store.the-variants.{StoreWord, StoreNote, StorePut, StoreOut, StoreHead, StoreTail}
+use Rattle.model.specs.declared.Waiting.{Waiting}
 use Rattle.model.specs.declared.Region.{Region}
 use Rattle.model.specs.declared.Queue.{Queue}
 use Rattle.model.specs.declared.Worker.{Worker}
@@ -41,9 +44,9 @@ use Rattle.model.specs.Tests.{if_then_else_, _and_, _or_}
 use Rattle.model.specs.Tasks.{noneFrom}
 use Rattle.model.specs.Memory.{offsetAt, lengthAt, sizeAt}
 use Rattle.model.specs.Figures.{anchor, isSame}
-use Rattle.model.specs.Stores.{taken}
+use Rattle.model.specs.Stores.{inLine, taken}
 use Rattle.model.specs.Lines.{size}
-use Rattle.model.specs.World.{World, tagBits, lineAt, isIdle, isPast1, isExpanding, isOwners, isThiefs}
+use Rattle.model.specs.World.{World, ownersView, tagBits, lineAt, isIdle, isPast1, isExpanding, isOwners, isThiefs}
 
 -- a power of two from 1 to 2^e; sizes go up to 2^10 = 1,024
 abbrev pub isSize : ℕ → ℕ → Bool
@@ -74,13 +77,14 @@ tidy v l (suc (suc k)) =
     and eqb (offsetAt l (suc k)) (offsetAt l k + lengthAt l k)
     and eqb (lengthAt l (suc k)) (2 * lengthAt l k) and leb (2 * sizeAt v l k) 1024
 
--- it fits the store, an array is claimed and unpublished exactly while the owner, at line o, is at X2 to X4, and the size that is
--- kept is the first array's
-abbrev pub directoryOk : ℕ → Queue → List ℕ → Line → Bool
-directoryOk v q m o =
+-- it fits the store; of its arrays p are published, those whose note waits counted, and one more is claimed exactly while the
+-- owner, at line o, is at X2 to X4; and the size that is kept is the first array's
+abbrev pub directoryOk : ℕ → Queue → ℕ → List ℕ → Line → Bool
+directoryOk v q p m o =
     ltb 0 (q .published)
+    and leb (q .published) p
     and leb (q .claimed) 11
-    and eqb (q .claimed) (if isExpanding o then q .published + 1 else q .published)
+    and eqb (q .claimed) (if isExpanding o then p + 1 else p)
     and tidy v (q .arrays) (q .claimed)
     and leb (taken q) (length m) and eqb (q .initial) (sizeAt v (q .arrays) 0)
 
@@ -151,7 +155,7 @@ numberOk n = leb n 65535
 abbrev pub taskOk : ℕ → Task → Bool
 taskOk n t = numberOk (t .number) and noneFrom n t
 
--- what a worker at the line has read
+-- what a worker at the line has read; q is the queue as it reads it
 abbrev pub lineOk : Kind → ℕ → ℕ → Queue → Line → Bool
 lineOk κ w v q Idle = true
 lineOk κ w v q (PutRead t) = taskOk (v + 1) t
@@ -221,22 +225,49 @@ thiefOk κ w v q l = isThiefs l and lineOk κ w v q l
 abbrev pub thievesOk : Kind → ℕ → ℕ → Queue → ℕ → List Worker → ℕ → Bool
 thievesOk κ w v q n l zero = true
 thievesOk κ w v q n l (suc k) =
-    thievesOk κ w v q n l k and (if ltb (suc k) n then thiefOk κ w v q (lineAt l (suc k)) else isIdle (lineAt l (suc k)))
+    thievesOk κ w v q n l k
+    and (if ltb (suc k) n then thiefOk κ w v q (lineAt l (suc k)) else isIdle (lineAt l (suc k)))
 
-abbrev pub benchOk : Bench → List ℕ → List ℕ → Bool
-benchOk b m l =
-    kindOk (b .kind) (b .queue .linked)
+-- a waiting store's place and value; q is the queue as the owner reads it
+abbrev pub hasAnchor : Kind → Bool
+hasAnchor Lifo = true
+hasAnchor Fifo = false
+hasAnchor Deque = true
+
+abbrev pub storeOk : Kind → ℕ → ℕ → Queue → Store → Bool
+storeOk κ w v q (StoreWord k t j x) =
+    ltb k (q .claimed) and ltb t (sizeAt v (q .arrays) k) and leb j v and (ltb 0 j or numberOk x)
+storeOk κ w v q (StoreNote k) = ltb k (q .published)
+storeOk κ w v q (StorePut a) = hasAnchor κ and readOk κ w (size v q) a
+storeOk κ w v q (StoreOut a) = hasAnchor κ and readOk κ w (size v q) a
+storeOk κ w v q (StoreHead h) = headOk κ h and leb h (q .anchor .count)
+storeOk κ w v q (StoreTail t) = headOk κ t
+
+abbrev pub storesOk : Kind → ℕ → ℕ → Queue → List Store → Bool
+storesOk κ w v q [] = true
+storesOk κ w v q (s ∷ l) = storeOk κ w v q s and storesOk κ w v q l
+
+-- at most 8 wait, and none without the mode
+abbrev pub waitingOk : Kind → ℕ → ℕ → Queue → Bool → Waiting → Bool
+waitingOk κ w v q d l = leb (l .count) (if d then 8 else 0) and storesOk κ w v q (inLine l)
+
+-- q is the queue in memory, p as the owner reads it
+abbrev pub benchOk : Bench → Queue → Queue → List ℕ → List ℕ → Bool
+benchOk b q p m l =
+    kindOk (b .kind) (q .linked)
     and widthOk (b .width)
     and wordsOk (b .words)
     and crewOk (b .crew)
-    and directoryOk (b .words) (b .queue) m (lineAt (b .workers) 0)
+    and directoryOk (b .words) q (p .published) m (lineAt (b .workers) 0)
     and leb (b .written) (length l)
-    and anchorOk (b .kind) (tagBits b) (size (b .words) (b .queue)) (b .queue .anchor)
+    and anchorOk (b .kind) (tagBits b) (size (b .words) q) (q .anchor)
+    and anchorOk (b .kind) (tagBits b) (size (b .words) p) (p .anchor)
     and numberOk (b .used)
-    and linksOk (b .kind) (b .queue) (b .workers) 8
-    and ownerOk (b .kind) (tagBits b) (b .words) (b .queue) (lineAt (b .workers) 0)
-    and thievesOk (b .kind) (tagBits b) (b .words) (b .queue) (b .crew) (b .workers) 7
+    and waitingOk (b .kind) (tagBits b) (b .words) p (b .delayed) (b .waiting)
+    and linksOk (b .kind) q (b .workers) 8
+    and ownerOk (b .kind) (tagBits b) (b .words) p (lineAt (b .workers) 0)
+    and thievesOk (b .kind) (tagBits b) (b .words) q (b .crew) (b .workers) 7
 
 -- the state, with the lengths of its lent memory, is no foreign one
 unfoldable pub validOf : World → Bool
-validOf W = benchOk (W .bench) (W .store) (W .log)
+validOf W = benchOk (W .bench) (W .bench .queue) (ownersView W .queue) (W .store) (W .log)

@@ -1,12 +1,14 @@
--- The shared words, and the stores that change them.
+-- The shared words, the stores that change them, and the stores that wait.
 use mathlib.Core.Bool.{Bool, true, false}
-use mathlib.Core.List.{List, [], _∷_}
+use mathlib.Core.List.{List, [], _∷_, _++_, map}
 use Prim.Native.Nat.{ℕ, _+_, _-_, _*_}
-use lib.ListN.{set, replicate}
+use lib.ListN.{length, getD, set, replicate, take, drop}
 use Rattle.model.specs.declared.Anchor.{Anchor}
 use Rattle.model.specs.declared.Queue.{Queue}
 use Rattle.model.specs.declared.Store.{Store}
 use Rattle.model.specs.declared.Store.the-variants.{StoreWord, StoreNote, StorePut, StoreOut, StoreHead, StoreTail}
+use Rattle.model.specs.declared.Pending.{Pending}
+use Rattle.model.specs.declared.Waiting.{Waiting}
 use Rattle.model.specs.Memory.{setWord, zeros, offsetAt, lengthAt}
 use Rattle.model.specs.Figures.{anchor}
 
@@ -59,6 +61,29 @@ landed v S (StoreTail t) =
 unfoldable pub landedAll : ℕ → Shared → List Store → Shared
 landedAll v S [] = S
 landedAll v S (x ∷ xs) = landedAll v (landed v S x) xs
+
+-- THE WAITING LINE. Its stores, oldest first; stores join its end; the oldest leaves it
+abbrev pub pending : Store → Pending
+pending s = record { store = s }
+
+abbrev pub nonePending : Pending
+nonePending = pending (StoreWord 0 0 0 0)
+
+abbrev pub inLine : Waiting → List Store
+inLine l = map (λ p. p .store) (take (l .count) (l .stores))
+
+abbrev pub joined : Waiting → List Store → Waiting
+joined l s =
+    record {
+      stores = take (l .count) (l .stores) ++ (map pending s ++ drop (l .count + length s) (l .stores));
+      count = l .count + length s;
+    }
+
+abbrev pub oldest : Waiting → Store
+oldest l = getD (l .stores) 0 nonePending .store
+
+abbrev pub oneLess : Waiting → Waiting
+oneLess l = record { stores = drop 1 (l .stores) ++ nonePending ∷ []; count = l .count - 1 }
 
 -- the words that the directory takes, claimed ones included: the first free word
 abbrev pub taken : Queue → ℕ

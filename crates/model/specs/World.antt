@@ -1,7 +1,7 @@
 -- A bench with the memory lent to it, and what a call leaves and answers.
 use mathlib.Core.Bool.{Bool}
 use mathlib.Core.List.{List}
-use Prim.Native.Nat.{ℕ}
+use Prim.Native.Nat.{ℕ, zero, suc}
 use lib.Dec.{eqb, ltb}
 use lib.ListN.{getD}
 use Rattle.model.specs.declared.Line.{Line}
@@ -29,14 +29,14 @@ use Rattle.model.specs.declared.Line.the-variants.{
   StealNext,
   StealCompare,
 }
-use Rattle.model.specs.declared.Queue.{Queue}
+use Rattle.model.specs.declared.Waiting.{Waiting}
 use Rattle.model.specs.declared.Worker.{Worker}
 use Rattle.model.specs.declared.Bench.{Bench}
 use Rattle.model.specs.declared.Refusal.{Refusal}
 use Rattle.model.specs.declared.Answer.{Answer}
 use Rattle.model.specs.declared.Answer.the-variants.{Refused}
 use Rattle.model.specs.Tests.{if_then_else_, _or_}
-use Rattle.model.specs.Stores.{Shared, shared}
+use Rattle.model.specs.Stores.{Shared, shared, landedAll, inLine}
 
 pub record World : Type 0 where
   pub bench : Bench
@@ -51,29 +51,38 @@ pub record Outcome : Type 0 where
 abbrev pub refuse : World → Refusal → Outcome
 refuse W r = record { world = W; answer = Refused r }
 
--- the same with another queue
-abbrev pub requeued : World → Queue → World
-requeued W q =
+-- the same with other shared words and another waiting line
+abbrev pub remembered : World → Shared → Waiting → World
+remembered W S l =
     record {
       bench =
           record {
             kind = W .bench .kind;
             width = W .bench .width;
             words = W .bench .words;
+            delayed = W .bench .delayed;
             crew = W .bench .crew;
-            queue = q;
+            queue = S .queue;
+            waiting = l;
             used = W .bench .used;
             restarts = W .bench .restarts;
             written = W .bench .written;
             workers = W .bench .workers;
           };
-      store = W .store;
+      store = S .store;
       log = W .log;
     }
 
--- its shared words
+-- what a worker reads: thieves memory, the owner its own youngest waiting store to a place before memory
 abbrev pub memory : World → Shared
 memory W = shared (W .bench .queue) (W .store)
+
+abbrev pub ownersView : World → Shared
+ownersView W = landedAll (W .bench .words) (memory W) (inLine (W .bench .waiting))
+
+abbrev pub viewOf : World → ℕ → Shared
+viewOf W zero = ownersView W
+viewOf W (suc i) = memory W
 
 -- the tag's bits: kinds 4 and 5 have no tag, and theirs stays 0
 abbrev pub tagBits : Bench → ℕ

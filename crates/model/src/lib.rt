@@ -189,14 +189,28 @@ pub struct Queue {
     pub links: [bool; 8],
 }
 
-// The bench's state. `width` is the tag's, `words` counts the payload words of a task, `crew` the workers, `used` the put numbers
-// given out, `restarts` each worker's compares that failed (the field's retries); `written` is the log's length, in words.
+// A place in the owner's waiting line. (Code can't read an array of enums in a struct, but one of structs.)
+pub struct Pending {
+    pub store: Store,
+}
+
+// The owner's waiting line: the first `count` stores wait, the oldest first.
+pub struct Waiting {
+    pub stores: [Pending; 8],
+    pub count: u32,
+}
+
+// The bench's state. `width` is the tag's, `words` counts the payload words of a task; with `delayed` the owner's stores wait before
+// they reach memory; `crew` counts the workers, `used` the put numbers given out, `restarts` each worker's compares that failed (the
+// field's retries); `written` is the log's length, in words.
 pub struct Bench {
     pub kind: Kind,
     pub width: u32,
     pub words: u32,
+    pub delayed: bool,
     pub crew: u32,
     pub queue: Queue,
+    pub waiting: Waiting,
     pub used: u32,
     pub restarts: [u32; 8],
     pub written: u32,
@@ -204,13 +218,15 @@ pub struct Bench {
 }
 
 // What fresh is told: the kind's number (1 LIFO, 2 FIFO, 3 double-ended; 4 and 5 are 1 and 3, linked), the tag's width in bits, the
-// size of the first array in tasks, how many workers there are, and how many payload words a task has. It may be told any numbers.
+// size of the first array in tasks, how many workers there are, how many payload words a task has, and whether the owner's stores
+// are delayed. It may be told any numbers.
 pub struct Setup {
     pub kind: u32,
     pub width: u32,
     pub size: u32,
     pub crew: u32,
     pub words: u32,
+    pub delayed: bool,
 }
 
 // What a begin gives a worker to do.
@@ -237,6 +253,8 @@ pub enum Refusal {
     BadLine,
     PayloadWords,
     NoLink,
+    WaitingFull,
+    NoneWaiting,
 }
 
 // What a call answers: a fresh, a begin or an event is accepted (a put with its number); a step goes on, or ends its operation with an

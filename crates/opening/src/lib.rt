@@ -64,6 +64,7 @@ pub fn fresh(setup: Setup, store: &mut [u32]) -> Returned
             size,
             crew,
             words,
+            setup.delayed,
         ),
         answer: Answer::Accepted,
     }

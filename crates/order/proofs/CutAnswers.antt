@@ -13,15 +13,14 @@ use Rattle.model.specs.declared.Operation.the-variants.{Put, Take, Steal}
 use Rattle.model.specs.Tests.{if_then_else_}
 use Rattle.model.specs.Tasks.{noTask, wordIn, gathered, firstWords}
 use Rattle.model.specs.Figures.{isEmpty}
-use Rattle.model.specs.Lines.{succeeds}
+use Rattle.model.specs.Lines.{Effect, fits, succeeds, lineStep}
 use Rattle.model.specs.World.{World, Outcome, lineAt}
 use Rattle.model.specs.Calls.{beginAnswer, Call, callOf}
 use Rattle.model.specs.Run.{played}
-use Rattle.theorems.proofs.Effects.{Left, fits, lineLeft, nextLeft}
 use Rattle.theorems.specs.Demand3.{FromFresh}
 use Rattle.theorems.proofs.Links.{Held}
 use Rattle.theorems.proofs.Valid.{Whole}
-use Rattle.theorems.proofs.Cases.{call-cases}
+use Rattle.theorems.proofs.Cases.{effectOf, call-cases}
 use Rattle.theorems.proofs.WholeRun.{call-whole}
 use Rattle.theorems.proofs.SoundRun.{call-like}
 use Rattle.theorems.proofs.Fresh.{fresh-started}
@@ -37,13 +36,13 @@ none-cut (suc (suc (suc zero))) = refl
 none-cut (suc (suc (suc (suc zero)))) = refl
 none-cut (suc (suc (suc (suc (suc n))))) = refl
 
-either : (ω : ℕ) (x : Bool) (E E′ : Left) → Cut ω (E .answer) → Cut ω (E′ .answer) → Cut ω ((if x then E else E′) .answer)
+either : (ω : ℕ) (x : Bool) (E E′ : Effect) → Cut ω (E .answer) → Cut ω (E′ .answer) → Cut ω ((if x then E else E′) .answer)
 unfolding if_then_else_
 either ω true E E′ p q = p
 either ω false E E′ p q = q
 
-line-cut : (κ : Kind) (w ω : ℕ) (q : Queue) (m : List ℕ) (i low τ : ℕ) (l : Line) → Held κ w ω q low τ l → Cut ω (lineLeft κ w ω q m i l .answer)
-unfolding lineLeft
+line-cut : (κ : Kind) (w ω : ℕ) (q : Queue) (m : List ℕ) (i low τ : ℕ) (l : Line) → Held κ w ω q low τ l → Cut ω (lineStep κ w ω q m i l .answer)
+unfolding lineStep
 line-cut κ w ω q m i low τ Idle s = none-cut (ω + 1)
 line-cut κ w ω q m i low τ (PutRead t) s = none-cut (ω + 1)
 line-cut κ w ω q m i low τ (PutTail t h) s = none-cut (ω + 1)
@@ -78,17 +77,17 @@ begin-cut ω Steal u = none-cut (ω + 1)
 
 call-cut : (W : World) → Whole W → (c : Call) → Cut (W .bench .words) (callOf W c .answer)
 call-cut W H c =
-    call-cases (λ (D : Outcome). Cut (W .bench .words) (D .answer)) W (λ r l. none-cut _) (λ i op B. begin-cut _ op (W .bench .used)) (λ i M. step-cut i) (λ i. none-cut _) c
+    call-cases (λ (D : Outcome). Cut (W .bench .words) (D .answer)) W (λ r l. none-cut _) (λ i op B. begin-cut _ op (W .bench .used)) (λ i M. step-cut i) (λ i. none-cut _) (λ some. none-cut _) c
   where
-    step-cut : (i : ℕ) → Cut (W .bench .words) (nextLeft W i .answer)
-    step-cut zero = line-cut _ _ _ _ _ 0 _ _ (lineAt (W .bench .workers) 0) (inl (H .shape .own))
+    step-cut : (i : ℕ) → Cut (W .bench .words) (effectOf W i .answer)
+    step-cut zero = line-cut _ _ _ _ _ 0 _ _ (lineAt (W .bench .workers) 0) (inl (H .shape .own .shape))
     step-cut (suc k) = line-cut _ _ _ _ _ (suc k) 0 _ (lineAt (W .bench .workers) (suc k)) (inr (H .shape .th k))
 
 run-cut : (ω : ℕ) (cs : List Call) (W : World) → W .bench .words ≡ ω → Whole W → AllCut ω (played W cs)
 unfolding played
 run-cut ω [] W e H = tt
 run-cut ω (c ∷ cs) W e H =
-    (subst (λ (v : ℕ). Cut v (callOf W c .answer)) e (call-cut W H c), run-cut ω cs (callOf W c .world) (call-like W c .2 ∙ e) (call-whole H c))
+    (subst (λ (v : ℕ). Cut v (callOf W c .answer)) e (call-cut W H c), run-cut ω cs (callOf W c .world) (call-like W c .words ∙ e) (call-whole H c))
 
 pub answers-cut : FromFresh (λ W. (cs : List Call) → AllCut (W .bench .words) (played W cs))
 answers-cut s m l e cs = run-cut _ cs _ refl (fresh-started s m l e .whole)

@@ -24,15 +24,14 @@ use Rattle.model.specs.Tasks.{task}
 use Rattle.model.proofs.Tasks.{first-number}
 use Rattle.model.specs.Answers.{entryOf}
 use Rattle.model.specs.Figures.{isFull, isEmpty, putRead, takeRead, stealRead, note, stealLast}
-use Rattle.model.specs.Lines.{size, succeeds, copyOn, putOn, takeOn, stealOn}
+use Rattle.model.specs.Lines.{Effect, size, fits, succeeds, copyOn, putOn, takeOn, stealOn, lineStep}
 use Rattle.model.specs.World.{World, Outcome, tagBits, lineAt}
 use Rattle.model.specs.Calls.{usedBy, firstLine, beginAnswer, begun, freshOf, Call, callOf}
 use Rattle.model.specs.Run.{Played, played}
-use Rattle.theorems.proofs.Effects.{Left, fits, lineLeft, leftBy, nextLeft}
 use Rattle.theorems.specs.Demand3.{At, finishes, FromFresh}
 use Rattle.theorems.proofs.Shape.{ThiefShape}
 use Rattle.theorems.proofs.Valid.{thieves, Whole}
-use Rattle.theorems.proofs.Cases.{MayBegin, MayStep, call-cases}
+use Rattle.theorems.proofs.Cases.{effectOf, MayBegin, MayStep, stepTo, call-cases}
 use Rattle.theorems.proofs.WholeRun.{idle-is, line-same, line-other, not-thief, not-owner, in-crew, call-whole}
 use Rattle.theorems.proofs.Fresh.{Started, fresh-started}
 
@@ -86,13 +85,13 @@ Goes u o v o′ a = Within v o′ × Next (openPut o (suc u)) (openPut o′ (suc
 
 -- A LINE keeps its put open, or ends it
 module _ (u : ℕ) where
-  abbrev Leaves : Line → Left → Type 0
+  abbrev Leaves : Line → Effect → Type 0
   Leaves o E = Goes u o u (E .line) (E .answer)
 
   same-put : (o o′ : Line) → Within u o → ((d : ℕ) → openPut o′ d ≡ openPut o d) → Goes u o u o′ GoesOn
   same-put o o′ l e = omega (arith, e u, e (suc u))
 
-  either : (o : Line) (x : Bool) (E E′ : Left) → Leaves o E → Leaves o E′ → Leaves o (if x then E else E′)
+  either : (o : Line) (x : Bool) (E E′ : Effect) → Leaves o E → Leaves o E′ → Leaves o (if x then E else E′)
   unfolding if_then_else_
   either o true E E′ a b = a
   either o false E E′ a b = b
@@ -127,8 +126,8 @@ steal-lasts Lifo r t d = refl
 steal-lasts Fifo r t d = refl
 steal-lasts Deque r t d = refl
 
-line-leaves : (u : ℕ) (κ : Kind) (w ω : ℕ) (q : Queue) (m : List ℕ) (i : ℕ) (o : Line) → Within u o → Leaves u o (lineLeft κ w ω q m i o)
-unfolding lineLeft
+line-leaves : (u : ℕ) (κ : Kind) (w ω : ℕ) (q : Queue) (m : List ℕ) (i : ℕ) (o : Line) → Within u o → Leaves u o (lineStep κ w ω q m i o)
+unfolding lineStep
 line-leaves u κ w ω q m i Idle l = omega arith
 line-leaves u κ w ω q m i (PutRead t) l = same-put u (PutRead t) (putRead κ (q .anchor) t) l (put-reads κ (q .anchor) t)
 line-leaves u κ w ω q m i (PutTail t h) l = omega arith
@@ -228,23 +227,24 @@ module _ {W : World} (H : Whole W) (J : OpenUsed W) where
   begun-moves (suc k) Steal B = thief-moves k StealRead Accepted (omega arith)
 
   line-of : (i : ℕ) → Within (W .bench .used) (lineAt (W .bench .workers) i)
-      → Leaves (W .bench .used) (lineAt (W .bench .workers) i) (nextLeft W i)
-  line-of i l = line-leaves (W .bench .used) (W .bench .kind) (tagBits (W .bench)) (W .bench .words) (W .bench .queue) (W .store) i (lineAt (W .bench .workers) i) l
+      → Leaves (W .bench .used) (lineAt (W .bench .workers) i) (effectOf W i)
+  line-of zero l = line-leaves (W .bench .used) (W .bench .kind) (tagBits (W .bench)) (W .bench .words) _ _ 0 (lineAt (W .bench .workers) 0) l
+  line-of (suc k) l = line-leaves (W .bench .used) (W .bench .kind) (tagBits (W .bench)) (W .bench .words) (W .bench .queue) (W .store) (suc k) (lineAt (W .bench .workers) (suc k)) l
 
-  thief-ends-none : (k z : ℕ) → Next z z (nextLeft W (suc k) .answer)
+  thief-ends-none : (k z : ℕ) → Next z z (effectOf W (suc k) .answer)
   thief-ends-none k z =
       let θ = thieves (W .bench .workers) k in
       let e = thief-open _ _ _ _ _ θ (H .shape .th k) in
       let L = line-of (suc k) (omega (arith, e (W .bench .used), e (suc (W .bench .used)))) in
-      ends-none (openPut θ (suc (W .bench .used))) (openPut (nextLeft W (suc k) .line) (suc (W .bench .used))) z (nextLeft W (suc k) .answer)
+      ends-none (openPut θ (suc (W .bench .used))) (openPut (effectOf W (suc k) .line) (suc (W .bench .used))) z (effectOf W (suc k) .answer)
       (omega (arith, e (suc (W .bench .used)), L .0)) (L .1)
 
-  stepped-moves : (i : ℕ) → MayStep W i → Moves W (leftBy W i (nextLeft W i))
-  stepped-moves zero M = own-moves (W .bench .used) (nextLeft W 0 .line) (nextLeft W 0 .answer) (M .member) (line-of 0 J)
-  stepped-moves (suc k) M = thief-moves k (nextLeft W (suc k) .line) (nextLeft W (suc k) .answer) (thief-ends-none k)
+  stepped-moves : (i : ℕ) → MayStep W i → Moves W (stepTo W i)
+  stepped-moves zero M = own-moves (W .bench .used) (effectOf W 0 .line) (effectOf W 0 .answer) (M .member) (line-of 0 J)
+  stepped-moves (suc k) M = thief-moves k (effectOf W (suc k) .line) (effectOf W (suc k) .answer) (thief-ends-none k)
 
   pub call-moves : (c : Call) → Moves W (callOf W c)
-  call-moves c = call-cases (Moves W) W (λ r l. (J, omega arith)) begun-moves stepped-moves (λ i. (J, omega arith)) c
+  call-moves c = call-cases (Moves W) W (λ r l. (J, omega arith)) begun-moves stepped-moves (λ i. (J, omega arith)) (λ some. (J, omega arith)) c
 
 -- A LIST. What ends a put ends the next one, and the next number only rises
 pub next-rises : (x y : ℕ) (a : Answer) → Next x y a → finishes a + x ≤ y

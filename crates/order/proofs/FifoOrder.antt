@@ -10,6 +10,7 @@ use Rattle.model.specs.declared.Setup.{Setup}
 use Rattle.model.specs.declared.Kind.{Kind}
 use Rattle.model.specs.declared.Kind.the-variants.{Fifo}
 use Rattle.model.specs.declared.Task.{Task}
+use Rattle.model.specs.declared.Store.{Store}
 use Rattle.model.specs.Tests.{if_then_else_, _or_}
 use Rattle.model.specs.World.{World, tagBits}
 use Rattle.model.specs.declared.Answer.the-variants.{Accepted}
@@ -17,7 +18,7 @@ use Rattle.model.specs.Calls.{freshOf, kindOf, Call, callOf}
 use Rattle.model.specs.Run.{Played, played, after}
 use Rattle.theorems.specs.Demand3.{At, HandsOut}
 use Rattle.order.specs.Order.{Gives, InOrder, FifoInOrder, LogInOrder, FifoLogInOrder}
-use Rattle.theorems.proofs.Events.{Event, quiet, line-1, finished-put, handed-out, failed-compare, found-empty, began-put, found-full, History, Premise, PremiseAt, GoodHistory}
+use Rattle.theorems.proofs.Events.{Event, quiet, line-1, finished-put, handed-out, failed-compare, found-empty, began-put, found-full, waiting-put, drained, History, Premise, PremiseAt, GoodHistory}
 use Rattle.theorems.proofs.Window.{View}
 use Rattle.theorems.proofs.Order.{Given, InTurn, Rises, Order}
 use Rattle.theorems.proofs.Places.{EventAt, rev, said-rev, mem-rev, at-mem}
@@ -26,7 +27,7 @@ use Rattle.theorems.proofs.Fresh.{Started, fresh-runs, fresh-started, fresh-is}
 use Rattle.order.proofs.LogFront.{log-is-answers}
 use Rattle.order.proofs.CutAnswers.{answers-cut, words-le}
 use Rattle.order.proofs.LogOrder.{log-in-order}
-use Rattle.theorems.proofs.Translate.{at-map, from-ev, out-ev, ev-out}
+use Rattle.theorems.proofs.Translate.{at-map, at-true, True, from-ev, out-ev, ev-out}
 
 -- FIFO has no premise
 no-premise-at : (w : ℕ) (h : History) (e : Event) → PremiseAt Fifo w e h
@@ -39,6 +40,8 @@ no-premise-at w h (failed-compare j) = λ m. tt
 no-premise-at w h (found-empty j) = tt
 no-premise-at w h (began-put t) = tt
 no-premise-at w h (found-full t) = tt
+no-premise-at w h (waiting-put t y) = tt
+no-premise-at w h drained = tt
 
 no-premise : (w : ℕ) (h : History) → Premise Fifo w h
 no-premise w [] = tt
@@ -55,10 +58,11 @@ event-the [] j s a = absurd a
 event-the (x ∷ T) zero s a = ap event-at a
 event-the (x ∷ T) (suc j) s a = event-the T j s a
 
-gives-event : (T : List Played) (j n : ℕ) → At T j (Gives n) → (i : ℕ) × (t : Task) × EventAt (events T) j (handed-out i t) × (t .number ≡ n)
-gives-event T j n a =
-    let (s, (i, t, q, e), x) = at-the T j (Gives n) a in
-    let (k, p) = out-ev t s (i, q) in
+gives-event : (cs : List Call) (W : World) (j n : ℕ) → At (played W cs) j (Gives n) → (i : ℕ) × (t : Task) × EventAt (events (played W cs)) j (handed-out i t) × (t .number ≡ n)
+gives-event cs W j n a =
+    let T = played W cs in
+    let (s, (r, (i, t, q, e)), x) = at-the T j (λ s. True s × Gives n s) (at-true cs W j (Gives n) (λ s. True s × Gives n s) (λ s r g. (r, g)) a) in
+    let (k, p) = out-ev t s r (i, q) in
     (k, t, subst (EventAt (events T) j) p (event-the T j s x), e)
 
 event-gives : (T : List Played) (j n i : ℕ) (t : Task) → t .number ≡ n → EventAt (events T) j (handed-out i t) → At T j (Gives n)
@@ -67,14 +71,17 @@ event-gives T j n i t e a =
     (at-map T j (λ s. event-at s ≡ handed-out i t) (HandsOut t) (ev-out i t) (from-ev T j (handed-out i t) a))
 
 -- a list whose history rises is in order
-in-order : (T : List Played) → Rises (rev (events T) []) → InOrder T
-in-order T R j k m n F G l = go (said-rev InTurn Rises (λ e h G. G) (events T) [] k (handed-out (b .0) (b .1)) (b .2) R)
+in-order : (cs : List Call) (W : World) → Rises (rev (events (played W cs)) []) → InOrder (played W cs)
+in-order cs W R j k m n F G l = go (said-rev InTurn Rises (λ e h G. G) (events (played W cs)) [] k (handed-out (b .0) (b .1)) (b .2) R)
   where
+    T : List Played
+    T = played W cs
+
     a : (i : ℕ) × (t : Task) × EventAt (events T) j (handed-out i t) × (t .number ≡ m)
-    a = gives-event T j m (F .here)
+    a = gives-event cs W j m (F .here)
 
     b : (i : ℕ) × (t : Task) × EventAt (events T) k (handed-out i t) × (t .number ≡ n)
-    b = gives-event T k n (G .here)
+    b = gives-event cs W k n (G .here)
 
     again : Given (b .1 .number) (rev (take k (events T)) []) → ⊥
     again (i, t, d, q) = place (mem-rev (events T) [] k (handed-out i t) d)
@@ -91,13 +98,13 @@ in-order T R j k m n F G l = go (said-rev InTurn Rises (λ e h G. G) (events T) 
 kind-kept : (cs : List Call) (W : World) → after W cs .bench .kind ≡ W .bench .kind
 unfolding after
 kind-kept [] W = refl
-kind-kept (c ∷ cs) W = kind-kept cs (callOf W c .world) ∙ call-like W c .0
+kind-kept (c ∷ cs) W = kind-kept cs (callOf W c .world) ∙ call-like W c .kind
 
-rises-of : (κ : Kind) (v : View) (lo : ℕ) (h : History) → κ ≡ Fifo → Order κ v lo h → Rises h
-rises-of κ v lo h e O = subst (λ (x : Kind). Order x v lo h) e O .rises
+rises-of : (κ : Kind) (v : View) (a : ℕ) (ss : List Store) (h : History) → κ ≡ Fifo → Order κ v a ss h → Rises h
+rises-of κ v a ss h e O = subst (λ (x : Kind). Order x v a ss h) e O .climb .rises
 
 fifo-run : (s : Setup) (m l : List ℕ) → freshOf s m l .answer ≡ Accepted → kindOf (s .kind) ≡ Fifo → (cs : List Call) → InOrder (played (freshOf s m l .world) cs)
-fifo-run s m l e second cs = in-order (played U cs) (rises-of _ _ _ _ kind (R .0 .order))
+fifo-run s m l e second cs = in-order cs U (rises-of _ _ _ _ _ kind (R .0 .order))
   where
     U : World
     U = freshOf s m l .world
@@ -111,9 +118,9 @@ fifo-run s m l e second cs = in-order (played U cs) (rises-of _ _ _ _ kind (R .0
     kind : after U cs .bench .kind ≡ Fifo
     kind = kind-kept cs U ∙ fifo
 
-    R : InvOf (after U cs) (rev (events (played U cs)) []) × GoodHistory (rev (events (played U cs)) [])
+    R : InvOf (after U cs) (rev (events (played U cs)) []) × GoodHistory (U .bench .delayed) (rev (events (played U cs)) [])
     R =
-        run-kept Fifo (tagBits (U .bench)) cs U [] (subst (λ (κ : Kind). Runs κ (tagBits (U .bench)) U []) fifo (fresh-runs U F))
+        run-kept Fifo (tagBits (U .bench)) (U .bench .delayed) cs U [] (subst (λ (κ : Kind). Runs κ (tagBits (U .bench)) (U .bench .delayed) U []) fifo (fresh-runs U F))
         (no-premise (tagBits (U .bench)) (rev (events (played U cs)) []))
 
 pub fifo-in-order : FifoInOrder

@@ -67,7 +67,7 @@ module _ (W : World) where
 pub words-kept : (cs : List Call) (W : World) → after W cs .bench .words ≡ W .bench .words
 unfolding after
 words-kept [] W = refl
-words-kept (c ∷ cs) W = words-kept cs (callOf W c .world) ∙ call-like W c .2
+words-kept (c ∷ cs) W = words-kept cs (callOf W c .world) ∙ call-like W c .words
 
 pub entries-many : FromFresh (λ W. (cs : List Call) → count (played W cs) ≡ entriesIn (after W cs))
 entries-many s m l e cs =

@@ -20,10 +20,9 @@ use Rattle.model.specs.World.{World, Outcome}
 use Rattle.model.specs.Calls.{beginAnswer, logFull, frontOf, kindOf, linkedOf, Call, callOf}
 use Rattle.model.specs.Run.{played, after}
 use Rattle.model.proofs.Tests.{or-false}
-use Rattle.theorems.proofs.Effects.{nextLeft}
 use Rattle.theorems.specs.Demand3.{FromFresh}
 use Rattle.order.specs.Order.{entries, logFront, LogIsAnswers}
-use Rattle.theorems.proofs.Cases.{call-cases}
+use Rattle.theorems.proofs.Cases.{effectOf, call-cases}
 use Rattle.theorems.proofs.WholeRun.{whole-run}
 use Rattle.theorems.proofs.SoundRun.{call-like}
 use Rattle.order.proofs.Entries.{words-long}
@@ -83,7 +82,7 @@ call-adds : (W : World) → W .bench .words ≤ 4 → W .bench .written ≤ leng
 call-adds W g h c =
     call-cases (Adds W) W (λ r l. (h, adds-none (W .bench .words) front (Refused r) refl))
     (λ i op B. (h, adds-none (W .bench .words) front (beginAnswer op (W .bench .used)) (begin-ends-none op (W .bench .used))))
-    (λ i M. step-adds (W .bench .words) (W .log) (W .bench .written) (nextLeft W i .answer) (ends (nextLeft W i .answer)) g h (M .room)) (λ i. (h, adds-none (W .bench .words) front Accepted refl)) c
+    (λ i M. step-adds (W .bench .words) (W .log) (W .bench .written) (effectOf W i .answer) (ends (effectOf W i .answer)) g h (M .room)) (λ i. (h, adds-none (W .bench .words) front Accepted refl)) (λ some. (h, adds-none (W .bench .words) front Accepted refl)) c
   where
     front : List ℕ
     front = take (W .bench .written) (W .log)
@@ -95,7 +94,7 @@ unfolding played after frontOf
 front-grows ω [] W e g h = sym (append-nil (take (W .bench .written) (W .log)))
 front-grows ω (c ∷ cs) W e g h =
     let A = call-adds W (omega arith) h c in
-    front-grows ω cs (callOf W c .world) (call-like W c .2 ∙ e) g (A .0) ∙ ap (λ (r : List ℕ). r ++ entries ω (played (callOf W c .world) cs)) (A .1)
+    front-grows ω cs (callOf W c .world) (call-like W c .words ∙ e) g (A .0) ∙ ap (λ (r : List ℕ). r ++ entries ω (played (callOf W c .world) cs)) (A .1)
     ∙ ap (λ (v : ℕ). take (W .bench .written) (W .log) ++ words v (callOf W c .answer) ++ entries ω (played (callOf W c .world) cs)) e
     ∙ append-assoc (take (W .bench .written) (W .log)) (words ω (callOf W c .answer)) (entries ω (played (callOf W c .world) cs))
 
@@ -105,7 +104,7 @@ log-is-answers s m l e =
     let F = fresh-is s m l e in
     subst (λ (W : World). (cs : List Call) → logFront (after W cs) ≡ entries (W .bench .words) (played W cs))
     (sym (F .0))
-    (λ cs. front-grows (s .words) cs (start (kindOf (s .kind)) (linkedOf (s .kind)) (s .width) (s .size) (s .crew) (s .words) m l) refl (F .1 .words .1) (omega arith))
+    (λ cs. front-grows (s .words) cs (start (kindOf (s .kind)) (linkedOf (s .kind)) (s .width) (s .size) (s .crew) (s .words) (s .delayed) m l) refl (F .1 .words .1) (omega arith))
 
 -- which lies in the log, so that the front has as many words as are written
 pub written-is : FromFresh (λ W. (cs : List Call) → after W cs .bench .written ≡ length (entries (W .bench .words) (played W cs)))

@@ -6,7 +6,7 @@ use mathlib.Core.List.{List}
 use Prim.Native.Nat.{ℕ, _<_}
 use lib.Dec.{eqb}
 use Rattle.model.specs.declared.Task.{Task}
-use Rattle.model.specs.Tests.{_and_, _or_}
+use Rattle.model.specs.Tests.{_and_}
 use Rattle.model.specs.Answers.{Entry}
 use Rattle.model.specs.World.{World}
 use Rattle.model.specs.Calls.{freshOf}

@@ -76,6 +76,7 @@ fn main() {
         size: 4,
         crew: 8,
         words: 1,
+        delayed: false,
     };
     let mut last = Bench::fresh(setup, &mut store);
     last = put(last.bench, &mut store, &mut log);

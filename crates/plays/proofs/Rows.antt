@@ -1,5 +1,6 @@
 -- The definitions tried by computation: lists of words, what they say, and what the calls that they say answer.
 use mathlib.Core.Path.{_≡_, refl}
+use mathlib.Core.Bool.{true}
 use mathlib.Core.List.{List, [], _∷_}
 use Prim.Native.Nat.{ℕ, zero, suc}
 use lib.ListN.{replicate}
@@ -11,7 +12,7 @@ use Rattle.model.specs.Stores.{landedAll}
 use Rattle.model.specs.Lines.{lineStep}
 use Rattle.model.specs.World.{World}
 use Rattle.model.specs.Limits.{validOf}
-use Rattle.model.specs.Calls.{freshOf, setup, beginOf, stepOf, begin, step, dropLink}
+use Rattle.model.specs.Calls.{freshOf, setup, setupIn, beginOf, stepOf, drainOf, begin, step, dropLink, drain}
 use Rattle.model.specs.Run.{played, after}
 use Rattle.plays.specs.Words.{callsFrom, allAsWords}
 
@@ -23,8 +24,8 @@ abbrev answer : ℕ → ℕ → ℕ → ℕ → List ℕ → List ℕ
 answer k i n p rest = k ∷ i ∷ n ∷ p ∷ 0 ∷ 0 ∷ 0 ∷ rest
 
 -- Calls: a word that is no operation is a step, a payload is looked at in a put alone, and words past the last whole call say nothing
-said : callsFrom (1 ∷ 0 ∷ 65 ∷ 66 ∷ 67 ∷ 68 ∷ call 2 4 9 (call 3 5 9 (call 0 6 9 (call 4 7 9 (call 5 8 9 (1 ∷ 0 ∷ 1 ∷ 2 ∷ 3 ∷ [])))))) 6
-    ≡ begin 0 (Put (payload 65 66 67 68)) ∷ begin 4 Take ∷ begin 5 Steal ∷ step 6 ∷ dropLink 7 ∷ step 8 ∷ []
+said : callsFrom (1 ∷ 0 ∷ 65 ∷ 66 ∷ 67 ∷ 68 ∷ call 2 4 9 (call 3 5 9 (call 0 6 9 (call 4 7 9 (call 5 8 9 (call 6 9 9 (1 ∷ 0 ∷ 1 ∷ 2 ∷ 3 ∷ []))))))) 7
+    ≡ begin 0 (Put (payload 65 66 67 68)) ∷ begin 4 Take ∷ begin 5 Steal ∷ step 6 ∷ dropLink 7 ∷ drain ∷ step 9 ∷ []
 unfolding callsFrom if_then_else_
 said = refl
 
@@ -80,3 +81,10 @@ row-wide : allAsWords (played (freshOf (setup 1 1 1 1 3) (replicate 4 0) (replic
     ≡ answer 0 2 1 0 (goesOn 6 (1 ∷ 0 ∷ 1 ∷ 7 ∷ 8 ∷ 9 ∷ 0 ∷ []))
 unfolding callsFrom allAsWords played freshOf beginOf stepOf validOf lineStep landedAll zeros wordAt setWord offsetAt lengthAt sizeAt if_then_else_ _and_ _or_ wordIn withWord gathered
 row-wide = refl
+
+-- with delayed stores: the words of a finished put drain one by one, and a fourth drain finds none waiting
+row-drained : allAsWords (played (freshOf (setupIn 1 1 1 1 1 true) (replicate 2 0) (replicate 4 0) .world)
+    (callsFrom (call 1 0 7 (steps 5 0 (call 5 0 0 (call 5 0 0 (call 5 0 0 (call 5 0 0 [])))))) 10))
+    ≡ answer 0 2 1 0 (goesOn 4 (answer 1 0 1 7 (answer 0 1 0 0 (answer 0 1 0 0 (answer 0 1 0 0 (answer 0 3 19 0 []))))))
+unfolding callsFrom allAsWords played freshOf beginOf stepOf drainOf validOf lineStep landedAll zeros wordAt setWord offsetAt lengthAt sizeAt if_then_else_ _and_ _or_ wordIn withWord gathered
+row-drained = refl

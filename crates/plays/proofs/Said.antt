@@ -4,7 +4,7 @@ use Prim.Native.Nat.{ℕ}
 use borrow.Author.Tests.{eq-eqb, ne-eqb}
 use Rattle.model.specs.declared.Payload.{Payload}
 use Rattle.model.specs.declared.Operation.the-variants.{Put, Take, Steal}
-use Rattle.model.specs.Calls.{begin, step, dropLink}
+use Rattle.model.specs.Calls.{begin, step, dropLink, drain}
 use Rattle.model.proofs.Tests.{if-true, if-false}
 use Rattle.plays.specs.Words.{callBy}
 
@@ -21,6 +21,11 @@ module _ (o i : ℕ) (p : Payload) where
   pub says-drop : (o ≡ 1 → ⊥) → (o ≡ 2 → ⊥) → (o ≡ 3 → ⊥) → o ≡ 4 → callBy o i p ≡ dropLink i
   says-drop n m k e = if-false _ (ne-eqb o 1 n) ∙ if-false _ (ne-eqb o 2 m) ∙ if-false _ (ne-eqb o 3 k) ∙ if-true _ (eq-eqb o 4 e)
 
-  pub says-step : (o ≡ 1 → ⊥) → (o ≡ 2 → ⊥) → (o ≡ 3 → ⊥) → (o ≡ 4 → ⊥) → callBy o i p ≡ step i
-  says-step n m k j =
-      if-false _ (ne-eqb o 1 n) ∙ if-false _ (ne-eqb o 2 m) ∙ if-false _ (ne-eqb o 3 k) ∙ if-false _ (ne-eqb o 4 j)
+  module _ (n : o ≡ 1 → ⊥) (m : o ≡ 2 → ⊥) (k : o ≡ 3 → ⊥) (j : o ≡ 4 → ⊥) where
+    pub says-drain : o ≡ 5 → callBy o i p ≡ drain
+    says-drain e =
+        if-false _ (ne-eqb o 1 n) ∙ if-false _ (ne-eqb o 2 m) ∙ if-false _ (ne-eqb o 3 k) ∙ if-false _ (ne-eqb o 4 j) ∙ if-true _ (eq-eqb o 5 e)
+
+    pub says-step : (o ≡ 5 → ⊥) → callBy o i p ≡ step i
+    says-step h =
+        if-false _ (ne-eqb o 1 n) ∙ if-false _ (ne-eqb o 2 m) ∙ if-false _ (ne-eqb o 3 k) ∙ if-false _ (ne-eqb o 4 j) ∙ if-false _ (ne-eqb o 5 h)

@@ -10,20 +10,21 @@ use Rattle.model.specs.declared.Answer.the-variants.{Accepted, Numbered, GoesOn
 use Rattle.model.specs.Tests.{if_then_else_}
 use Rattle.model.specs.Tasks.{payload}
 use Rattle.model.specs.Answers.{numberOf, entryOf, entryWords}
-use Rattle.model.specs.Calls.{Call, begin, step, dropLink}
+use Rattle.model.specs.Calls.{Call, begin, step, dropLink, drain}
 use Rattle.model.specs.Run.{Played}
 
 -- CALLS. How many words one has: operation, worker, and a payload of four words
 abbrev pub callWords : ℕ
 callWords = 6
 
--- operation 1 is put, 2 take, 3 steal, 4 a link that fails, and any other number a step; the payload is a put's
+-- operation 1 is put, 2 take, 3 steal, 4 a link that fails, 5 a drain, and any other number a step; the payload is a put's
 abbrev pub callBy : ℕ → ℕ → Payload → Call
 callBy o i p =
     if eqb o 1 then begin i (Put p)
     else if eqb o 2 then begin i Take
     else if eqb o 3 then begin i Steal
     else if eqb o 4 then dropLink i
+    else if eqb o 5 then drain
     else step i
 
 -- call k of the words s; the first n calls

@@ -27,7 +27,7 @@ pub struct Ended {
     pub made: usize,
 }
 
-// Operation 1 is put, 2 take, 3 steal, 4 a link that fails, and any other number a step.
+// Operation 1 is put, 2 take, 3 steal, 4 a link that fails, 5 a drain, and any other number a step.
 fn call(
     bench: Bench,
     operation: u32,
@@ -53,6 +53,9 @@ fn call(
     }
     if operation == 4 {
         return bench.drop_link(worker, store, log);
+    }
+    if operation == 5 {
+        return bench.drain(store, log);
     }
     bench.step(worker, store, log)
 }

@@ -21,6 +21,7 @@ use Rattle.model.specs.declared.Answer.the-variants.{Accepted, Numbered, GoesOn
 use Rattle.model.specs.declared.Refusal.{Refusal}
 use Rattle.model.specs.Tests.{if_then_else_, _and_, _or_}
 use Rattle.model.specs.Lines.{lineStep}
+use Rattle.model.specs.Stores.{landedAll}
 use Rattle.model.specs.World.{World, Outcome, lineAt}
 use Rattle.model.specs.Calls.{logFull, freshOf, setup, Call, begin, step, callOf}
 use Rattle.model.specs.Tasks.{payload, task, wordIn, gathered, firstWords}
@@ -36,6 +37,7 @@ use Rattle.theorems.proofs.Valid.{Whole}
 use Rattle.theorems.proofs.WholeRun.{call-whole, whole-run}
 use Rattle.theorems.proofs.Words.{set-all-length}
 use Rattle.theorems.proofs.Fresh.{start, fresh-whole}
+use Rattle.theorems.proofs.AsBefore.{as-before}
 use Rattle.theorems.proofs.Translate.{at-map}
 use Rattle.order.proofs.FrontEntries.{words-kept}
 use Rattle.premise.proofs.Rounds.{
@@ -162,7 +164,7 @@ no-tasks deque h g = refl
 
 module _ (κ : Tagged) (v : Wide) (w : ℕ) (m l : List ℕ) (low : 0 < w) (high : w ≤ 15) (slot : many v + 1 ≤ length m) (long : 2 * entryLength (many v) * (2 ^ w + 1) ≤ length l) where
   abbrev B : World
-  B = start (theKind κ) false w 1 2 (many v) m l
+  B = start (theKind κ) false w 1 2 (many v) false m l
 
   abbrev rest : List ℕ
   rest = drop (many v + 1) m
@@ -171,9 +173,9 @@ module _ (κ : Tagged) (v : Wide) (w : ℕ) (m l : List ℕ) (low : 0 < w) (high
   abbrev d : ℕ
   d = entryLength (many v)
 
-  H : Whole (start (theKind κ) false w 1 2 (many v) m l)
+  H : Whole (start (theKind κ) false w 1 2 (many v) false m l)
   unfolding if_then_else_ _or_
-  H = fresh-whole (theKind κ) false w 1 2 (many v) m l (record { width = (low, omega arith); test = refl; crew = (omega arith, omega arith); words = many-in v; room = omega (arith, slot) }) (tagged-kind κ)
+  H = fresh-whole (theKind κ) false w 1 2 (many v) false m l (record { width = (low, omega arith); test = refl; crew = (omega arith, omega arith); words = many-in v; room = omega (arith, slot) }) (tagged-kind κ)
 
   few : 2 ^ w ≤ 32768
   few = omega (arith, pow-mono high)
@@ -188,7 +190,7 @@ module _ (κ : Tagged) (v : Wide) (w : ℕ) (m l : List ℕ) (low : 0 < w) (high
   room-for : (lg : List ℕ) (wr j : ℕ) → length lg ≡ length l → wr ≡ d * j → suc j ≤ 2 * (2 ^ w + 1) → logFull (many v) lg wr ≡ false
   room-for lg wr j e q h = has-room (many v) lg wr (omega (arith, e, q, fits (suc j) h .0)) (omega (arith, q, fits (suc j) h .1))
 
-  blank-is : start (theKind κ) false w 1 2 (many v) m l ≡ here κ v w (anchor 0 0 0) 0 0 Idle Idle (holding v 0 0 rest) l
+  blank-is : start (theKind κ) false w 1 2 (many v) false m l ≡ here κ v w (anchor 0 0 0) 0 0 Idle Idle (holding v 0 0 rest) l
   blank-is = ap (λ (s : List ℕ). here κ v w (anchor 0 0 0) 0 0 Idle Idle s l) (emptied v m)
 
   abbrev g0 : ℕ
@@ -423,7 +425,8 @@ module _ (κ : Tagged) (v : Wide) (w : ℕ) (m l : List ℕ) (low : 0 < w) (high
 
   counted : puts (between (length begun1) (length (prefix (2 ^ w))) T) ≡ 2 ^ w
   counted =
-      total-is (between (length begun1) (length (prefix (2 ^ w))) T)
+      as-before (tightList v κ w) B H refl .counted (length begun1) (length (prefix (2 ^ w)))
+      ∙ total-is (between (length begun1) (length (prefix (2 ^ w))) T)
       ∙ ap total
       (answers-take (drop (suc (length begun1)) T) (length (prefix (2 ^ w)) - suc (length begun1))
       ∙ ap (take (length (prefix (2 ^ w)) - suc (length begun1)))
@@ -517,12 +520,13 @@ module _ (κ : Tagged) (v : Wide) (w : ℕ) (m l : List ℕ) (low : 0 < w) (high
       (omega arith, tt))
 
   gone : Stands (after B (tightList v κ w)) lostTask → ⊥
+  unfolding landedAll
   gone s = absurd (none (subst (λ (U : World). Stands U lostTask) all-after s))
     where
       none : Stands emptied-at lostTask → ⊥
       none (i, l, a) = omega (arith, no-tasks κ (h2 κ) g0)
 
-  pub loses : Loses (start (theKind κ) false w 1 2 (many v) m l) (tightList v κ w) (2 ^ w)
+  pub loses : Loses (start (theKind κ) false w 1 2 (many v) false m l) (tightList v κ w) (2 ^ w)
   loses =
       record {
         thief = 1;
@@ -549,7 +553,7 @@ tagged k (inl e) = (lifo, e)
 tagged k (inr e) = (deque, e)
 
 accepted : (κ : Tagged) (v : Wide) (w : ℕ) (m l : List ℕ) → 0 < w → w ≤ 15 → many v + 1 ≤ length m
-    → freshOf (setup (number κ) w 1 2 (many v)) m l ≡ record { world = start (theKind κ) false w 1 2 (many v) m l; answer = Accepted }
+    → freshOf (setup (number κ) w 1 2 (many v)) m l ≡ record { world = start (theKind κ) false w 1 2 (many v) false m l; answer = Accepted }
 unfolding freshOf _and_ if_then_else_ _or_
 accepted lifo v w m l a b c =
     rw (lt-ltb 0 w a, le-leb w 16 (omega arith), lt-ltb 0 (many v) (many-in v .0), le-leb (many v) 4 (many-in v .1), le-leb ((many v + 1) * 1) (length m) (omega (arith, c)))

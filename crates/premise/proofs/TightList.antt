@@ -11,10 +11,11 @@ use Rattle.model.specs.declared.Answer.{Answer}
 use Rattle.model.specs.declared.Answer.the-variants.{Accepted, Numbered, GoesOn, Finished, HandedOut, Empty, Full, Refused}
 use Rattle.model.specs.declared.Task.{Task}
 use Rattle.model.specs.World.{World, Outcome, lineAt}
-use Rattle.model.specs.Calls.{Call, begin, step, dropLink, callOf}
+use Rattle.model.specs.Calls.{Call, begin, step, dropLink, drain, callOf}
 use Rattle.model.proofs.Tests.{and-left, and-right}
 use Rattle.model.specs.Run.{Played, played, after}
-use Rattle.theorems.specs.Demand3.{At, HandsOut, Line1, finishes, puts}
+use Rattle.theorems.specs.Demand3.{At, HandsOut, Line1, finishes}
+use Rattle.theorems.specs.AsBefore.{finished}
 use Rattle.theorems.proofs.Valid.{Whole}
 use Rattle.theorems.proofs.WholeRun.{call-whole}
 use Rattle.theorems.proofs.Events.{is-line-1}
@@ -49,6 +50,7 @@ abbrev pub OwnOnly : List Call → Type 0
 OwnOnly [] = Unit {0}
 OwnOnly (begin i op ∷ cs) = OwnOnly cs
 OwnOnly (dropLink i ∷ cs) = ⊥
+OwnOnly (drain ∷ cs) = ⊥
 OwnOnly (step zero ∷ cs) = OwnOnly cs
 OwnOnly (step (suc i) ∷ cs) = ⊥
 
@@ -56,6 +58,7 @@ pub own-append : (xs ys : List Call) → OwnOnly xs → OwnOnly ys → OwnOnly (
 own-append [] ys a b = b
 own-append (begin i op ∷ xs) ys a b = own-append xs ys a b
 own-append (dropLink i ∷ xs) ys a b = absurd a
+own-append (drain ∷ xs) ys a b = absurd a
 own-append (step zero ∷ xs) ys a b = own-append xs ys a b
 own-append (step (suc i) ∷ xs) ys a b = absurd a
 
@@ -66,6 +69,7 @@ no-thief (begin i op ∷ xs) ys U zero o l a = let z : _≡_ {A = ℕ} 0 1 = cc 
 no-thief (step zero ∷ xs) ys U zero o l a = let z : _≡_ {A = ℕ} 0 1 = cc in omega arith
 no-thief (step (suc i) ∷ xs) ys U k o l a = absurd o
 no-thief (dropLink i ∷ xs) ys U k o l a = absurd o
+no-thief (drain ∷ xs) ys U k o l a = absurd o
 no-thief (begin i op ∷ xs) ys U (suc k) o l a = no-thief xs ys (callOf U (begin i op) .world) k o (omega arith) a
 no-thief (step zero ∷ xs) ys U (suc k) o l a = no-thief xs ys (callOf U (step 0) .world) k o (omega arith) a
 
@@ -83,7 +87,7 @@ abbrev pub total : List Answer → ℕ
 total [] = 0
 total (a ∷ l) = total l + finishes a
 
-pub total-is : (T : List Played) → puts T ≡ total (answers T)
+pub total-is : (T : List Played) → finished T ≡ total (answers T)
 total-is [] = refl
 total-is (s ∷ T) = omega (arith, total-is T)
 

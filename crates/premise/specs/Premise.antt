@@ -23,8 +23,8 @@ LinkedKinds =
 abbrev pub WidestTag : Type 0
 WidestTag = FromFresh (λ W. W .bench .width ≡ 16 → (cs : List Call) → Demand3 W cs)
 
--- At every other width the premise is tight. The list loses a finished put's task, with d puts finished between a steal
--- attempt's line 1 and its compare
+-- At every other width the premise is tight. The list loses a finished put's task, with d puts that come to memory between a
+-- steal attempt's line 1 and its compare
 pub record Loses (W : World) (cs : List Call) (d : ℕ) : Type 0 where
   pub thief : ℕ
   pub line1 : ℕ
@@ -39,8 +39,8 @@ pub record Loses (W : World) (cs : List Call) (d : ℕ) : Type 0 where
   pub not-handed-out : (k : ℕ) → Out (played W cs) k task → ⊥
   pub not-standing : Stands (after W cs) task → ⊥
 
--- for LIFO and double-ended, kinds 1 and 3, each width and each count v of payload words there is such a list with exactly 2^w puts
--- in one attempt, of a bench with one slot and one thief
+-- for LIFO and double-ended, kinds 1 and 3, each width and each count v of payload words there is such a list with exactly 2^w
+-- puts in one attempt, of a bench with one slot and one thief, whose stores are not delayed
 abbrev pub Tight : Type 0
 Tight =
     (k w v : ℕ) (store log : List ℕ) → (k ≡ 1) ⊎ (k ≡ 3) → 0 < w → w ≤ 15 → 0 < v → v ≤ 4 → v + 1 ≤ length store

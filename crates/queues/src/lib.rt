@@ -2,14 +2,16 @@
 // a time in the order that the caller chooses. A bench is a value; each call takes it and hands the
 // next one back, beside the store and the log that the caller lends. A call may be handed any state,
 // any numbers and any memory: it is refused where document 01 says so, and then changes nothing.
-// Uses `model`, `answers`, `stages`, `limits`, `memory`, `state`, `opening`, `events` and `machine`. It is used by `plays`, `calls`,
-// `exercise` and `pace`.
+// Uses `model`, `answers`, `stages`, `limits`, `memory`, `state`, `opening`, `events`, `machine` and `owner`. It is used by
+// `plays`, `calls`, `exercise` and `pace`.
 ghost use mathlib.Core.Path.{_≡_};
 ghost use mathlib.Core.List.{List};
 ghost use Prim.Native.Nat.{ℕ};
+ghost use lib.Dec.{eqb};
 ghost use Rattle.model.specs.declared.Answer.the-variants.{Refused};
 ghost use Rattle.model.specs.Answers.{numberOf, entryOf};
-ghost use Rattle.model.specs.Calls.{lent, freshOf, beginOf, stepOf, dropLinkOf, whoOf, frontOf};
+ghost use Rattle.model.specs.Tests.{_and_};
+ghost use Rattle.model.specs.Calls.{lent, freshOf, beginOf, stepOf, dropLinkOf, drainOf, whoOf, frontOf};
 ghost use Rattle.answers.specs.Entries.{asDefined};
 ghost use Rattle.queues.specs.Left.{left};
 use answers::Entry;
@@ -68,6 +70,16 @@ fn refused(bench: Bench, why: Refusal) -> Reply
     }
 }
 
+// The step is the owner's, and its stores are delayed.
+fn delays(delayed: bool, worker: u32) -> bool
+    ensures { λ r. ⌜ r ≡ (delayed and eqb worker 0) ⌝ }
+{
+    if delayed {
+        return worker == 0;
+    }
+    false
+}
+
 impl Bench {
     // A bench as it is told, on a store whose first words it zeroes. A refused fresh makes no bench: what it hands back has no
     // crew, and every call refuses it.
@@ -91,6 +103,9 @@ impl Bench {
         let mut next = self.state;
         if !limits::valid(next, store, log) {
             return refused(self, Refusal::ForeignState);
+        }
+        if delays(next.delayed, worker) {
+            return reply_of(owner::step(next, store, log));
         }
         let i = machine::place_of(worker);
         let own = next.workers[i];
@@ -137,6 +152,13 @@ impl Bench {
         ensures { λ r. ⌜ left r (now (store .entry)) (now (log .entry)) ≡ dropLinkOf (lent (self .state) (now (store .entry)) (now (log .entry))) worker ⌝ }
     {
         reply_of(events::drop_link(self.state, worker, store, log))
+    }
+
+    // The oldest of the owner's waiting stores reaches its place in memory.
+    pub fn drain(self, store: &mut [u32], log: &[u32]) -> Reply
+        ensures { λ r. ⌜ left r (now (store .exit)) (now (log .entry)) ≡ drainOf (lent (self .state) (now (store .entry)) (now (log .entry))) ⌝ }
+    {
+        reply_of(events::drain(self.state, store, log))
     }
 
     // A worker's restarts: its compares that failed. Nothing changes.

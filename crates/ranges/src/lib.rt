@@ -1,11 +1,12 @@
-// 'Values in these ranges': the limits on the anchor, and on what a worker at a line has read. A foreign state holds any 32-bit
-// values, so a sum of two of them is worked out in 64 bits.
+// 'Values in these ranges': the limits on the anchor, on what a worker at a line has read, and on a waiting store. A foreign
+// state holds any 32-bit values, so a sum of two of them is worked out in 64 bits.
 // Uses `model` and `tasks`. It is used by `limits`.
 ghost use mathlib.Core.Path.{_≡_};
 ghost use Prim.Native.Nat.{ℕ, _+_, _≤_, _<_};
 ghost use lib.Dec.{ltb, leb};
 ghost use Rattle.model.specs.declared.Queue.{Queue};
-ghost use Rattle.model.specs.Tests.{_and_};
+ghost use Rattle.model.specs.Tests.{_and_, _or_};
+ghost use Rattle.model.specs.Memory.{sizeAt};
 ghost use Rattle.model.specs.Lines.{size};
 ghost use Rattle.model.specs.Limits.{
   readOk,
@@ -22,12 +23,15 @@ ghost use Rattle.model.specs.Limits.{
   numberOk,
   taskOk,
   lineOk,
+  hasAnchor,
+  storeOk,
 };
-ghost use Rattle.ranges.specs.Doubles.{Doubles};
+ghost use Rattle.ranges.specs.Doubles.{Doubled, Doubles};
 use model::Anchor;
 use model::Kind;
 use model::Line;
 use model::Queue;
+use model::Store;
 use model::Task;
 
 pub fn number_ok(number: u32) -> bool
@@ -315,5 +319,77 @@ pub fn line_ok(
             let holds = both(next_ok(kind, next), task_ok(all, task));
             past_empty(kind, width, tasks, read, holds)
         }
+    }
+}
+
+fn has_anchor(kind: Kind) -> bool
+    ensures { λ r. ⌜ r ≡ hasAnchor kind ⌝ }
+{
+    match kind {
+        Kind::Lifo => true,
+        Kind::Fifo => false,
+        Kind::Deque => true,
+    }
+}
+
+// A task's word 0 is a put number; the words behind it are any.
+fn value_ok(word: u32, value: u32) -> bool
+    ensures { λ r. ⌜ r ≡ (ltb 0 word or numberOk value) ⌝ }
+{
+    if 0 < word {
+        return true;
+    }
+    number_ok(value)
+}
+
+// A waiting word: its array is claimed, and has the slot.
+fn word_ok(
+    words: u32,
+    claimed: u32,
+    first: u32,
+    place: u32,
+    slot: u32,
+    word: u32,
+    value: u32,
+) -> bool
+    requires { ⌜ claimed ≤ 11 ⌝ }
+    ensures { λ r. ⌜ ((q : Queue) → q .claimed ≡ claimed → Doubled words (q .arrays) claimed first → r ≡ (ltb place (q .claimed) and ltb slot (sizeAt words (q .arrays) place) and leb word words and (ltb 0 word or numberOk value))) ⌝ }
+{
+    if claimed <= place {
+        return false;
+    }
+    let tasks = first << place;
+    both(slot < tasks, both(word <= words, value_ok(word, value)))
+}
+
+// A waiting store's place and value. The owner reads a queue with `published` arrays of the `claimed` ones, `tasks` slots in the
+// current one, and `count` in its anchor.
+pub fn store_ok(
+    kind: Kind,
+    width: u32,
+    words: u32,
+    published: u32,
+    claimed: u32,
+    first: u32,
+    tasks: u32,
+    count: u32,
+    waiting: Store,
+) -> bool
+    requires { ⌜ width ≤ 16 ⌝ }
+    requires { ⌜ claimed ≤ 11 ⌝ }
+    ensures { λ r. ⌜ ((q : Queue) → q .published ≡ published → q .claimed ≡ claimed → q .anchor .count ≡ count → Doubled words (q .arrays) claimed first → tasks ≡ size words q → r ≡ storeOk kind width words q waiting) ⌝ }
+{
+    match waiting {
+        Store::StoreWord {
+            place,
+            slot,
+            word,
+            value,
+        } => word_ok(words, claimed, first, place, slot, word, value),
+        Store::StoreNote { place } => place < published,
+        Store::StorePut { value } => both(has_anchor(kind), read_ok(kind, width, tasks, value)),
+        Store::StoreOut { value } => both(has_anchor(kind), read_ok(kind, width, tasks, value)),
+        Store::StoreHead { value } => both(head_ok(kind, value), value <= count),
+        Store::StoreTail { value } => head_ok(kind, value),
     }
 }

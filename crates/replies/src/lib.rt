@@ -79,6 +79,7 @@ pub fn start() -> Session
         size: 0,
         crew: 0,
         words: 0,
+        delayed: false,
     };
     let made = opening::fresh(nothing, &mut none);
     let bench = made.bench;
@@ -306,6 +307,7 @@ fn who(
 // `end`: the six counts.
 fn total(session: Session, store: &[u32], log: &[u32], out: &mut [u8], at: usize) -> Answered
     requires { ⌜ at + 256 ≤ length (now out) ⌝ }
+    requires { ⌜ session .bench .waiting .count ≡ 0 ⌝ }
     ensures { λ r.
         ⌜
         AnsweredBy (response ended (totals (countsOf (worldOf session (now (store .entry)) (now (log .entry)))) ∷ []))
@@ -358,12 +360,14 @@ fn play_waiting(
         return refuse(session, out, at);
     };
     let crew = workers;
+    let delayed = false;
     let setup = Setup {
         kind,
         width,
         size,
         crew,
         words,
+        delayed,
     };
     open_queue(session, setup, long, store, out, at)
 }
@@ -379,6 +383,7 @@ fn play_live(
 ) -> Answered
     requires { ⌜ (at + 256 ≤ length (now out)) × (session .live ≡ true) ⌝ }
     requires { ⌜ askedOf true command ≡ Other ⌝ }
+    requires { ⌜ session .bench .waiting .count ≡ 0 ⌝ }
     ensures { λ r.
         ⌜
         AnsweredBy (respond (playing (worldOf session (now (store .entry)) (now (log .entry)))) command)
@@ -402,7 +407,8 @@ fn play_live(
     }
 }
 
-// Plays a line that does not ask for steps, with its text put into the output from `at` on.
+// Plays a line that does not ask for steps, with its text put into the output from `at` on. No store waits: the program's benches
+// have no delayed stores.
 pub fn play(
     session: Session,
     command: Command,
@@ -413,6 +419,7 @@ pub fn play(
 ) -> Answered
     requires { ⌜ at + 256 ≤ length (now out) ⌝ }
     requires { ⌜ askedOf (session .live) command ≡ Other ⌝ }
+    requires { ⌜ (session .live ≡ true → session .bench .waiting .count ≡ 0) ⌝ }
     ensures { λ r.
         ⌜
         AnsweredBy (respond (programOf session (now (store .entry)) (now (log .entry))) command)

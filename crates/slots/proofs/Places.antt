@@ -25,7 +25,7 @@ pub slot-few : {s : ℕ} (κ : Kind) (v : ℕ) (q : Queue) (k i : ℕ) → Slott
 slot-few κ v q k i S f = omega (arith, slot-is κ v q k i S f, S .2, S .0 .1)
 
 -- a word of slot s lies before the end of an array of z tasks
-in-array : (v s z b n j : ℕ) → s < z → j ≤ v → b + (v + 1) * z ≤ n → b + (v + 1) * s + j < n
+pub in-array : (v s z b n j : ℕ) → s < z → j ≤ v → b + (v + 1) * z ≤ n → b + (v + 1) * s + j < n
 in-array v s z b n j h i l = omega (arith, step (v + 1))
   where
     step : (m : ℕ) → m * s + m ≤ m * z

@@ -1,11 +1,12 @@
 // What a call hands back, and the pieces of a bench that the calls put together: a state made anew or with one worker's record
-// replaced, and the queue with another anchor, with its claimed array published, or with a link set or cleared. Each is a
+// replaced, and the queue with another anchor, with a claimed array published, or with a link set or cleared. Each is a
 // definition's short name, as code.
-// Uses `model`. It is used by `opening`, `events`, `machine`, `queues`, `replies` and `listing`.
+// Uses `model`. It is used by `waiting`, `opening`, `events`, `machine`, `owner`, `queues`, `replies` and
+// `listing`.
 ghost use mathlib.Core.Path.{_≡_};
 ghost use Prim.Native.Nat.{_≤_, _<_};
 ghost use Rattle.model.specs.declared.Answer.the-variants.{Refused};
-ghost use Rattle.model.specs.Stores.{anchored, publishing};
+ghost use Rattle.model.specs.Stores.{anchored, publishing, nonePending};
 ghost use Rattle.model.specs.Calls.{blank, noBench, linkSet};
 ghost use Rattle.state.specs.Pieces.{opened};
 use model::Anchor;
@@ -13,9 +14,12 @@ use model::Answer;
 use model::Bench;
 use model::Kind;
 use model::Line;
+use model::Pending;
 use model::Queue;
 use model::Refusal;
 use model::Region;
+use model::Store;
+use model::Waiting;
 use model::Worker;
 
 // What a call hands back: the next state, and the answer.
@@ -41,13 +45,35 @@ pub fn refused(bench: Bench, why: Refusal) -> Returned
     }
 }
 
+// A place of the waiting line in which no store waits.
+pub fn none_pending() -> Pending
+    ensures { λ r. ⌜ r ≡ nonePending ⌝ }
+{
+    let store = Store::StoreWord {
+        place: 0,
+        slot: 0,
+        word: 0,
+        value: 0,
+    };
+    Pending { store }
+}
+
 // A state with no operation open, over one array of `size` tasks of `words` payload words.
-pub fn made(kind: Kind, linked: bool, width: u32, size: u32, crew: u32, words: u32) -> Bench
+pub fn made(
+    kind: Kind,
+    linked: bool,
+    width: u32,
+    size: u32,
+    crew: u32,
+    words: u32,
+    delayed: bool,
+) -> Bench
     requires { ⌜ size ≤ 1024 ⌝ }
     requires { ⌜ words ≤ 4 ⌝ }
-    ensures { λ r. ⌜ r ≡ blank kind linked width size crew words ⌝ }
+    ensures { λ r. ⌜ r ≡ blank kind linked width size crew words delayed ⌝ }
 {
     let long = (words + 1) * size;
+    let none = none_pending();
     let mut arrays = [Region {
         offset: 0,
         length: 0,
@@ -60,6 +86,7 @@ pub fn made(kind: Kind, linked: bool, width: u32, size: u32, crew: u32, words: u
         kind: kind,
         width: width,
         words: words,
+        delayed: delayed,
         crew: crew,
         queue: Queue {
             linked: linked,
@@ -74,6 +101,10 @@ pub fn made(kind: Kind, linked: bool, width: u32, size: u32, crew: u32, words: u
             initial: size,
             links: [false; 8],
         },
+        waiting: Waiting {
+            stores: [none; 8],
+            count: 0,
+        },
         used: 0,
         restarts: [0; 8],
         written: 0,
@@ -85,7 +116,7 @@ pub fn made(kind: Kind, linked: bool, width: u32, size: u32, crew: u32, words: u
 pub fn none() -> Bench
     ensures { λ r. ⌜ r ≡ noBench ⌝ }
 {
-    made(Kind::Lifo, false, 0, 0, 0, 0)
+    made(Kind::Lifo, false, 0, 0, 0, 0, false)
 }
 
 // A worker gets its first line.
@@ -99,13 +130,13 @@ pub fn opens(bench: Bench, worker: usize, used: u32, line: Line) -> Bench
     next
 }
 
-// X4: the claimed array becomes current.
-pub fn publish(queue: Queue) -> Queue
-    requires { ⌜ queue .published ≤ 11 ⌝ }
-    ensures { λ r. ⌜ r ≡ publishing queue (queue .published) ⌝ }
+// X4's note: the array at `place` of the directory becomes current.
+pub fn publish(queue: Queue, place: u32) -> Queue
+    requires { ⌜ place ≤ 11 ⌝ }
+    ensures { λ r. ⌜ r ≡ publishing queue place ⌝ }
 {
     let mut next = queue;
-    next.published = queue.published + 1;
+    next.published = place + 1;
     next
 }
 

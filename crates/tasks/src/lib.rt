@@ -1,6 +1,6 @@
 // The words of a task: one of them read or replaced, those that a put does not use cut off, those past the known ones tested for
 // 0.
-// Uses `model`. It is used by `answers`, `ranges`, `slots`, `lines` and `opening`.
+// Uses `model`. It is used by `answers`, `ranges`, `slots`, `lines`, `owner` and `opening`.
 ghost use mathlib.Core.Path.{_≡_};
 ghost use Prim.Native.Nat.{_+_, _≤_, _<_};
 ghost use lib.Dec.{eqb, ltb};

@@ -1,24 +1,26 @@
 -- A call's outcome: a refusal, which leaves all as it was, or what the call does once every test is passed.
-use mathlib.Core.Path.{_≡_, refl, sym, ap, subst}
+use mathlib.Core.Path.{_≡_, refl, sym, _∙_, ap, subst}
 use mathlib.Core.Bool.{Bool, true, false}
 use mathlib.Core.Logic.{_≢_}
-use Prim.Native.Nat.{ℕ, _<_}
+use mathlib.Core.List.{List, [], _∷_}
+use Prim.Native.Nat.{ℕ, zero, suc, _+_, _<_}
 use native.Mathlib.Omega.{arith}
 use lib.Dec.{ltb}
+use lib.ListN.{set}
 use borrow.Author.Tests.{ltb-true}
+use Rattle.model.specs.declared.Queue.{Queue}
 use Rattle.model.specs.declared.Operation.{Operation}
 use Rattle.model.specs.declared.Refusal.{Refusal}
-use Rattle.model.specs.declared.Refusal.the-variants.{NoSuchWorker, BusyWorker, IdleWorker, WrongHand, NumbersSpent, LogFull, ForeignState, NoLink}
-use Rattle.model.specs.declared.Answer.{Answer}
+use Rattle.model.specs.declared.Refusal.the-variants.{NoSuchWorker, BusyWorker, IdleWorker, WrongHand, NumbersSpent, LogFull, ForeignState, NoLink, WaitingFull, NoneWaiting}
 use Rattle.model.specs.declared.Answer.the-variants.{Accepted}
-use Rattle.model.specs.Tests.{if_then_else_, _and_}
-use Rattle.model.specs.Answers.{numberOf, ends}
-use Rattle.model.specs.Lines.{holdsLink}
-use Rattle.model.specs.World.{World, Outcome, refuse, requeued, lineAt, isIdle}
+use Rattle.model.specs.Tests.{if_then_else_}
+use Rattle.model.specs.Answers.{numberOf, ends, logged, entryLength}
+use Rattle.model.specs.Stores.{Shared, shared, landedAll, inLine, oldest, oneLess}
+use Rattle.model.specs.Lines.{Effect, lineStep, holdsLink}
+use Rattle.model.specs.World.{World, Outcome, refuse, remembered, tagBits, lineAt, isIdle}
 use Rattle.model.specs.Limits.{validOf}
-use Rattle.model.specs.Calls.{rightHand, numbersLeft, begun, beginOf, logFull, noRoom, nextEffect, stepOf, linkSet, dropLinkOf, Call, begin, step, dropLink, callOf}
-use Rattle.theorems.proofs.Effects.{nextLeft, leftBy}
-use Rattle.theorems.proofs.LandedLines.{effect-same, step-same}
+use Rattle.model.specs.Calls.{rightHand, numbersLeft, begun, beginOf, restarted, relinked, landing, stored, lineAfter, stepped, crowded, noRoom, nextEffect, stepOf, linkSet, dropLinkOf, drained, drainOf, Call, begin, step, dropLink, drain, callOf}
+use Rattle.theorems.proofs.Folds.{laid, words, wordsOf, landed-one, landed-is, arraysAfter, queueAfter, storeAfter, claimed-is}
 
 -- a property of both branches
 pub pick : (P : Outcome → Type 0) (x : Bool) (D D′ : Outcome) → (x ≡ true → P D) → (x ≡ false → P D′) → P (if x then D else D′)
@@ -32,7 +34,74 @@ Lawful W r = r ≡ ForeignState → validOf W ≡ false
 
 -- what the event leaves
 abbrev pub dropped : World → ℕ → World
-dropped W i = requeued W (linkSet (W .bench .queue) i false)
+dropped W i = remembered W (shared (linkSet (W .bench .queue) i false) (W .store)) (W .bench .waiting)
+
+-- what worker i's line does, on what it reads
+abbrev pub effectOf : World → ℕ → Effect
+effectOf W zero =
+    let ss = inLine (W .bench .waiting) in
+    let q = W .bench .queue in
+    lineStep (W .bench .kind) (tagBits (W .bench)) (W .bench .words) (laid ss q) (words (W .bench .words) (q .arrays) ss (W .store)) 0 (lineAt (W .bench .workers) 0)
+effectOf W (suc i) =
+    lineStep (W .bench .kind) (tagBits (W .bench)) (W .bench .words) (W .bench .queue) (W .store) (suc i) (lineAt (W .bench .workers) (suc i))
+
+effect-is : (W : World) (i : ℕ) → nextEffect W i ≡ effectOf W i
+effect-is W zero =
+    ap (λ (S : Shared). lineStep (W .bench .kind) (tagBits (W .bench)) (W .bench .words) (S .queue) (S .store) 0 (lineAt (W .bench .workers) 0))
+    (landed-is (W .bench .words) (W .bench .queue) (W .store) (inLine (W .bench .waiting)))
+effect-is W (suc i) = refl
+
+-- memory after it, and the world
+abbrev pub queueThen : World → ℕ → Effect → Queue
+queueThen W i E = laid (landing (W .bench .delayed) i (E .stores)) (queueAfter (E .claims) (W .bench .queue))
+
+abbrev pub storeThen : World → ℕ → Effect → List ℕ
+storeThen W i E =
+    words (W .bench .words) (arraysAfter (E .claims) (W .bench .queue)) (landing (W .bench .delayed) i (E .stores)) (storeAfter (E .claims) (W .bench .queue) (W .store))
+
+stored-is : (W : World) (i : ℕ) (E : Effect) → stored W i E ≡ shared (queueThen W i E) (storeThen W i E)
+stored-is W i E =
+    ap (λ (S : Shared). landedAll (W .bench .words) S (landing (W .bench .delayed) i (E .stores))) (claimed-is (E .claims) (W .bench .queue) (W .store))
+    ∙ landed-is (W .bench .words) (queueAfter (E .claims) (W .bench .queue)) (storeAfter (E .claims) (W .bench .queue) (W .store)) (landing (W .bench .delayed) i (E .stores))
+
+abbrev pub worldWith : World → ℕ → Effect → Shared → World
+worldWith W i E S =
+    record {
+      bench =
+          record {
+            kind = W .bench .kind;
+            width = W .bench .width;
+            words = W .bench .words;
+            delayed = W .bench .delayed;
+            crew = W .bench .crew;
+            queue = relinked (S .queue) i (lineAt (W .bench .workers) i) (E .line);
+            waiting = lineAfter W i E;
+            used = W .bench .used;
+            restarts = restarted (W .bench .kind) (W .bench .queue) i (lineAt (W .bench .workers) i) (W .bench .restarts);
+            written = if ends (E .answer) then W .bench .written + entryLength (W .bench .words) else W .bench .written;
+            workers = set (W .bench .workers) i (record { line = E .line });
+          };
+      store = S .store;
+      log = logged (W .bench .words) (W .log) (W .bench .written) (E .answer);
+    }
+
+abbrev pub stepTo : World → ℕ → Outcome
+stepTo W i = record { world = worldWith W i (effectOf W i) (shared (queueThen W i (effectOf W i)) (storeThen W i (effectOf W i))); answer = effectOf W i .answer }
+
+pub stepped-is : (W : World) (i : ℕ) → stepped W i (nextEffect W i) ≡ stepTo W i
+stepped-is W i =
+    ap (stepped W i) (effect-is W i)
+    ∙ ap (λ (S : Shared). record { world = worldWith W i (effectOf W i) S; answer = effectOf W i .answer }) (stored-is W i (effectOf W i))
+
+-- a drain
+abbrev pub drainTo : World → World
+drainTo W =
+    remembered W
+    (shared (laid (oldest (W .bench .waiting) ∷ []) (W .bench .queue)) (wordsOf (W .bench .words) (W .bench .queue .arrays) (oldest (W .bench .waiting)) (W .store)))
+    (oneLess (W .bench .waiting))
+
+drained-is : (W : World) → drained W ≡ drainTo W
+drained-is W = ap (λ (S : Shared). remembered W S (oneLess (W .bench .waiting))) (landed-one (W .bench .words) (W .bench .queue) (W .store) (oldest (W .bench .waiting)))
 
 -- a begin passed its tests; a step did
 pub record MayBegin (W : World) (i : ℕ) (op : Operation) : Type 0 where
@@ -44,7 +113,8 @@ pub record MayBegin (W : World) (i : ℕ) (op : Operation) : Type 0 where
 pub record MayStep (W : World) (i : ℕ) : Type 0 where
   pub member : i < W .bench .crew
   pub busy : isIdle (lineAt (W .bench .workers) i) ≡ false
-  pub room : (ends (nextLeft W i .answer) and logFull (W .bench .words) (W .log) (W .bench .written)) ≡ false
+  pub line : crowded W i (effectOf W i) ≡ false
+  pub room : noRoom W (effectOf W i) ≡ false
 
 module _ (P : Outcome → Type 0) (W : World) (refused : (r : Refusal) → Lawful W r → P (refuse W r)) where
   other : (r : Refusal) → numberOf r ≢ 12 → P (refuse W r)
@@ -67,21 +137,20 @@ module _ (P : Outcome → Type 0) (W : World) (refused : (r : Refusal) → Lawfu
       (λ u. other NoSuchWorker (omega arith)))
       foreign
 
-  pub step-cases : (i : ℕ) → (MayStep W i → P (leftBy W i (nextLeft W i))) → P (stepOf W i)
+  pub step-cases : (i : ℕ) → (MayStep W i → P (stepTo W i)) → P (stepOf W i)
   unfolding stepOf
   step-cases i f =
       pick P (validOf W) _ _
       (λ v. pick P (ltb i (W .bench .crew)) _ _
       (λ u. pick P (isIdle (lineAt (W .bench .workers) i)) _ _ (λ e. other IdleWorker (omega arith))
-      (λ e. pick P (noRoom W (nextEffect W i)) _ _ (λ n. other LogFull (omega arith))
-      (λ n.
-      let l = ltb-true i (W .bench .crew) u in
-      subst P (sym (step-same W v i l))
-      (f (record {
-        member = l;
+      (λ e. pick P (crowded W i (nextEffect W i)) _ _ (λ n. other WaitingFull (omega arith))
+      (λ k. pick P (noRoom W (nextEffect W i)) _ _ (λ n. other LogFull (omega arith))
+      (λ n. subst P (sym (stepped-is W i)) (f (record {
+        member = ltb-true i (W .bench .crew) u;
         busy = e;
-        room = subst (λ (a : Answer). (ends a and logFull (W .bench .words) (W .log) (W .bench .written)) ≡ false) (effect-same W v i l .answer) n;
-      })))))
+        line = subst (λ (E : Effect). crowded W i E ≡ false) (effect-is W i) k;
+        room = subst (λ (E : Effect). noRoom W E ≡ false) (effect-is W i) n;
+      }))))))
       (λ u. other NoSuchWorker (omega arith)))
       foreign
 
@@ -94,8 +163,17 @@ module _ (P : Outcome → Type 0) (W : World) (refused : (r : Refusal) → Lawfu
       (λ u. other NoSuchWorker (omega arith)))
       foreign
 
-  pub call-cases : ((i : ℕ) (op : Operation) → MayBegin W i op → P (begun W i op)) → ((i : ℕ) → MayStep W i → P (leftBy W i (nextLeft W i)))
-      → ((i : ℕ) → P (record { world = dropped W i; answer = Accepted })) → (c : Call) → P (callOf W c)
-  call-cases b s d (begin i op) = begin-cases i op (b i op)
-  call-cases b s d (step i) = step-cases i (s i)
-  call-cases b s d (dropLink i) = drop-cases i (d i)
+  pub drain-cases : (0 < W .bench .waiting .count → P (record { world = drainTo W; answer = Accepted })) → P (drainOf W)
+  unfolding drainOf
+  drain-cases f =
+      pick P (validOf W) _ _
+      (λ v. pick P (ltb 0 (W .bench .waiting .count)) _ _ (λ u. subst (λ (U : World). P (record { world = U; answer = Accepted })) (sym (drained-is W)) (f (ltb-true 0 (W .bench .waiting .count) u))) (λ u. other NoneWaiting (omega arith)))
+      foreign
+
+  pub call-cases : ((i : ℕ) (op : Operation) → MayBegin W i op → P (begun W i op)) → ((i : ℕ) → MayStep W i → P (stepTo W i))
+      → ((i : ℕ) → P (record { world = dropped W i; answer = Accepted })) → (0 < W .bench .waiting .count → P (record { world = drainTo W; answer = Accepted }))
+      → (c : Call) → P (callOf W c)
+  call-cases b s d x (begin i op) = begin-cases i op (b i op)
+  call-cases b s d x (step i) = step-cases i (s i)
+  call-cases b s d x (dropLink i) = drop-cases i (d i)
+  call-cases b s d x drain = drain-cases x

@@ -2,7 +2,7 @@
 use mathlib.Core.Path.{_≡_, refl, sym, _∙_, ap, subst}
 use mathlib.Core.Bool.{Bool, true, false}
 use mathlib.Core.Logic.{_≢_, _⊎_, inl, inr}
-use mathlib.Core.List.{List, _++_}
+use mathlib.Core.List.{List, [], _∷_, _++_}
 use Prim.Native.Nat.{ℕ, zero, suc, _+_, _-_, _*_, _/_, _^_, _≤_, _<_}
 use native.Mathlib.Omega.{arith}
 use lib.Dec.{eqb, leb}
@@ -13,16 +13,17 @@ use borrow.Author.Tests.{eq-eqb, le-leb}
 use Rattle.model.specs.declared.Region.{Region}
 use Rattle.model.specs.declared.Queue.{Queue}
 use Rattle.model.specs.declared.Anchor.{Anchor}
-use Rattle.model.specs.Tests.{_and_, _or_}
+use Rattle.model.specs.declared.Store.the-variants.{StoreNote}
+use Rattle.model.specs.Tests.{_and_}
 use Rattle.model.proofs.Tests.{and-both}
 use Rattle.model.specs.Memory.{wordAt, setWord, zeros, nowhere, offsetAt, lengthAt, sizeAt}
+use Rattle.model.specs.Stores.{taken, nextLength, claiming}
 use Rattle.model.specs.Lines.{size}
 use Rattle.model.specs.Limits.{isSize, tidy}
 use Rattle.model.proofs.Directory.{Size, tidy-last, tidy-front, tidy-start, tidy-long, tidy-twice, tidy-size}
-use Rattle.model.specs.Stores.{anchored, taken}
-use Rattle.theorems.proofs.Effects.{off, len, claiming, publishing}
 use Rattle.theorems.proofs.Remainders.{le-or-lt}
-use Rattle.theorems.proofs.Words.{earlier-slot, first-apart, zeros-low, zeros-length, set-place, set-here}
+use Rattle.theorems.proofs.Folds.{laid}
+use Rattle.theorems.proofs.Words.{off, len, earlier-slot, first-apart, zeros-low, zeros-length, set-place, set-here}
 
 pub both : (a b : Bool) → a and b ≡ true → (a ≡ true) × (b ≡ true)
 unfolding _and_
@@ -124,7 +125,7 @@ module _ {ω : ℕ} {q : Queue} {m : List ℕ} (A : Arrays ω q m) where
       go (inr a) = omega arith
 
 -- a word is written
-set-word : (m : List ℕ) (a i x : ℕ) → x ≤ 65535 → getD m a 0 ≤ 65535 → getD (set m i x) a 0 ≤ 65535
+pub set-word : (m : List ℕ) (a i x : ℕ) → x ≤ 65535 → getD m a 0 ≤ 65535 → getD (set m i x) a 0 ≤ 65535
 set-word m a i x hx ha = go (le-or-lt a i) (le-or-lt i a) (le-or-lt (length m) i)
   where
     other : a ≢ i → getD (set m i x) a 0 ≤ 65535
@@ -163,9 +164,10 @@ numbers-zeros ω m t n g N a h = go (le-or-lt t ((ω + 1) * a))
     go (inl l) = rw (zeros-new m t n ((ω + 1) * a) l h g) (omega arith)
     go (inr l) = rw (zeros-low m t n ((ω + 1) * a) l g) (N a l)
 
--- another anchor
-pub arrays-anchor : {ω : ℕ} {q : Queue} {m : List ℕ} (a : Anchor) → Arrays ω q m → Arrays ω (anchored q a) m
-arrays-anchor a A =
+-- another anchor, other links
+pub arrays-anchor : {ω : ℕ} {q : Queue} {m : List ℕ} (a : Anchor) (ls : List Bool) → Arrays ω q m
+    → Arrays ω (record { linked = q .linked; anchor = a; arrays = q .arrays; published = q .published; claimed = q .claimed; initial = q .initial; links = ls }) m
+arrays-anchor a ls A =
     record {
       some = A .some;
       below = A .below;
@@ -193,55 +195,59 @@ arrays-store {ω} {q} {m} m′ A e N =
       numbers = N;
     }
 
--- X1
-pub arrays-claim : {ω : ℕ} {q : Queue} {m : List ℕ} → Arrays ω q m → q .claimed ≡ q .published → 2 * size ω q ≤ 1024 → off q + len q + 2 * len q ≤ length m
-    → Arrays ω (claiming q) (zeros m (off q + len q) (2 * len q))
-arrays-claim {ω} {q} {m} A e small room =
+-- X1: q is the queue in memory
+pub arrays-claim : {ω : ℕ} {q : Queue} {m : List ℕ} → Arrays ω q m → q .claimed < 11 → 2 * sizeAt ω (q .arrays) (q .claimed - 1) ≤ 1024 → taken q + nextLength q ≤ length m
+    → Arrays ω (claiming q) (zeros m (taken q) (nextLength q))
+arrays-claim {ω} {q} {m} A n11 small room =
     record {
       some = A .some;
-      below = omega arith;
+      below = omega (arith, A .below);
       few = omega (arith, n11);
-      slots = length-set (q .arrays) (q .published) _ ∙ A .slots;
+      slots = length-set (q .arrays) (q .claimed) _ ∙ A .slots;
       tidied = tidied′;
-      kept = A .kept ∙ sym (set-place ω (q .arrays) (q .published) 0 (off q + len q) (2 * len q) (omega (arith, A .some)) .2);
-      power = rw (last .2) (A .power);
-      room = subst (λ (x : ℕ). x ≤ length (zeros m (off q + len q) (2 * len q))) (sym top) (omega (arith, zeros-length m (off q + len q) (2 * len q) room));
-      numbers = subst (Numbers ω (zeros m (off q + len q) (2 * len q))) (sym top) (numbers-zeros ω m (off q + len q) (2 * len q) (omega (arith, room)) (subst (Numbers ω m) (ap (λ (x : ℕ). offsetAt (q .arrays) (x - 1) + lengthAt (q .arrays) (x - 1)) e) (A .numbers)));
+      kept = A .kept ∙ sym (set-place ω (q .arrays) (q .claimed) 0 (taken q) (nextLength q) (omega (arith, pos)) .2);
+      power = rw (now′ .2) (A .power);
+      room = subst (λ (x : ℕ). x ≤ length (zeros m (taken q) (nextLength q))) (sym top) (omega (arith, zeros-length m (taken q) (nextLength q) room));
+      numbers = subst (Numbers ω (zeros m (taken q) (nextLength q))) (sym top) (numbers-zeros ω m (taken q) (nextLength q) (omega (arith, room)) (A .numbers));
     }
   where
-    n11 : q .published < 11
-    n11 = roomy A small
-
     l′ : List Region
-    l′ = set (q .arrays) (q .published) (record { offset = off q + len q; length = 2 * len q })
+    l′ = set (q .arrays) (q .claimed) (record { offset = taken q; length = nextLength q })
 
-    new : (offsetAt l′ (q .published) ≡ off q + len q) × (lengthAt l′ (q .published) ≡ 2 * len q) × (sizeAt ω l′ (q .published) ≡ 2 * size ω q)
-    new = set-here ω (q .arrays) (q .published) (off q + len q) (2 * size ω q) (2 * len q) (omega (arith, n11, A .slots)) (omega (arith, long A))
+    pos : 0 < q .claimed
+    pos = omega (arith, A .some, A .below)
 
-    last : (offsetAt l′ (q .published - 1) ≡ off q) × (lengthAt l′ (q .published - 1) ≡ len q) × (sizeAt ω l′ (q .published - 1) ≡ size ω q)
-    last = set-place ω (q .arrays) (q .published) (q .published - 1) (off q + len q) (2 * len q) (omega (arith, A .some))
+    long′ : lengthAt (q .arrays) (q .claimed - 1) ≡ (ω + 1) * sizeAt ω (q .arrays) (q .claimed - 1)
+    long′ = tidy-long ω (q .arrays) (q .claimed - 1) (tidy-front ω (q .arrays) (q .claimed) (q .claimed - 1) (A .tidied) (omega (arith, pos)))
 
-    pred : q .published + 1 - 1 ≡ q .published
+    new : (offsetAt l′ (q .claimed) ≡ taken q) × (lengthAt l′ (q .claimed) ≡ nextLength q) × (sizeAt ω l′ (q .claimed) ≡ 2 * sizeAt ω (q .arrays) (q .claimed - 1))
+    new = set-here ω (q .arrays) (q .claimed) (taken q) (2 * sizeAt ω (q .arrays) (q .claimed - 1)) (nextLength q) (omega (arith, n11, A .slots)) (omega (arith, long′))
+
+    last : (offsetAt l′ (q .claimed - 1) ≡ offsetAt (q .arrays) (q .claimed - 1)) × (lengthAt l′ (q .claimed - 1) ≡ lengthAt (q .arrays) (q .claimed - 1)) × (sizeAt ω l′ (q .claimed - 1) ≡ sizeAt ω (q .arrays) (q .claimed - 1))
+    last = set-place ω (q .arrays) (q .claimed) (q .claimed - 1) (taken q) (nextLength q) (omega (arith, pos))
+
+    now′ : (offsetAt l′ (q .published - 1) ≡ off q) × (lengthAt l′ (q .published - 1) ≡ len q) × (sizeAt ω l′ (q .published - 1) ≡ size ω q)
+    now′ = set-place ω (q .arrays) (q .claimed) (q .published - 1) (taken q) (nextLength q) (omega (arith, A .some, A .below))
+
+    pred : q .claimed + 1 - 1 ≡ q .claimed
     pred = omega arith
 
-    top : taken (claiming q) ≡ off q + len q + 2 * len q
+    top : taken (claiming q) ≡ taken q + nextLength q
     top = ap (λ (x : ℕ). offsetAt l′ x + lengthAt l′ x) pred ∙ omega (arith, new .0, new .1)
 
-    old : tidy ω l′ (q .published) ≡ true
-    old =
-        tidy-ext ω (q .arrays) l′ (q .published) (λ k h. getD-set-other (q .arrays) (q .published) k _ nowhere (omega arith))
-        ∙ subst (λ (x : ℕ). tidy ω (q .arrays) x ≡ true) e (A .tidied)
+    old : tidy ω l′ (q .claimed) ≡ true
+    old = tidy-ext ω (q .arrays) l′ (q .claimed) (λ k h. getD-set-other (q .arrays) (q .claimed) k _ nowhere (omega arith)) ∙ A .tidied
 
-    more : (k : ℕ) → suc k ≡ q .published → tidy ω l′ (suc (suc k)) ≡ true
+    more : (k : ℕ) → suc k ≡ q .claimed → tidy ω l′ (suc (suc k)) ≡ true
     more k h =
         and-both (tidy ω l′ (suc k)) _ (subst (λ (x : ℕ). tidy ω l′ x ≡ true) (sym h) old)
         (and-both (eqb (offsetAt l′ (suc k)) (offsetAt l′ k + lengthAt l′ k)) _ (eq-eqb _ _ place)
         (and-both (eqb (lengthAt l′ (suc k)) (2 * lengthAt l′ k)) _ (eq-eqb _ _ longer) (le-leb _ _ small′)))
       where
-        k-is : k ≡ q .published - 1
+        k-is : k ≡ q .claimed - 1
         k-is = omega arith
 
-        ck : lengthAt l′ k ≡ len q
+        ck : lengthAt l′ k ≡ lengthAt (q .arrays) (q .claimed - 1)
         ck = ap (lengthAt l′) k-is ∙ last .1
 
         place : offsetAt l′ (suc k) ≡ offsetAt l′ k + lengthAt l′ k
@@ -253,12 +259,13 @@ arrays-claim {ω} {q} {m} A e small room =
         small′ : 2 * sizeAt ω l′ k ≤ 1024
         small′ = omega (arith, ap (sizeAt ω l′) k-is, last .2, small)
 
-    tidied′ : tidy ω l′ (q .published + 1) ≡ true
-    tidied′ = subst (λ (x : ℕ). tidy ω l′ x ≡ true) {x = suc (suc (q .published - 1))} {y = q .published + 1} (omega (arith, A .some)) (more (q .published - 1) (omega (arith, A .some)))
+    tidied′ : tidy ω l′ (q .claimed + 1) ≡ true
+    tidied′ = subst (λ (x : ℕ). tidy ω l′ x ≡ true) {x = suc (suc (q .claimed - 1))} {y = q .claimed + 1} (omega (arith, pos)) (more (q .claimed - 1) (omega (arith, pos)))
 
--- X4
-pub arrays-publish : {ω : ℕ} {q : Queue} {m : List ℕ} → Arrays ω q m → q .claimed ≡ q .published + 1 → Arrays ω (publishing q) m × (size ω (publishing q) ≡ 2 * size ω q)
-arrays-publish {ω} {q} {m} A e = (
+-- X4: the next array becomes current
+pub arrays-note : {ω : ℕ} {q : Queue} {m : List ℕ} (k : ℕ) → Arrays ω q m → k ≡ q .published → q .published < q .claimed
+    → Arrays ω (laid (StoreNote k ∷ []) q) m × (sizeAt ω (q .arrays) (k + 1 - 1) ≡ 2 * size ω q)
+arrays-note {ω} {q} {m} k A is e = (
   record {
     some = omega arith;
     below = omega (arith, e);
@@ -273,11 +280,11 @@ arrays-publish {ω} {q} {m} A e = (
   twice,
 )
   where
-    up : q .published + 1 - 1 ≡ suc (q .published - 1)
+    up : k + 1 - 1 ≡ suc (q .published - 1)
     up = omega (arith, A .some)
 
-    twice : size ω (publishing q) ≡ 2 * size ω q
+    twice : sizeAt ω (q .arrays) (k + 1 - 1) ≡ 2 * size ω q
     twice = ap (sizeAt ω (q .arrays)) up ∙ tidy-twice ω (q .arrays) (q .published - 1) (tidy-front ω (q .arrays) (q .claimed) (suc (q .published - 1)) (A .tidied) (omega (arith, e, A .some)))
 
-    pow : 2 ^ (q .published + 1 - 1) ≡ 2 * 2 ^ (q .published - 1)
+    pow : 2 ^ (k + 1 - 1) ≡ 2 * 2 ^ (q .published - 1)
     pow = ap (λ (x : ℕ). 2 ^ x) up ∙ omega arith

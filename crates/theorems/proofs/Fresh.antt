@@ -27,12 +27,13 @@ use Rattle.model.specs.Figures.{anchor}
 use Rattle.model.proofs.Directory.{Size, size-pos, size-yes}
 use Rattle.theorems.proofs.Words.{zeros-length}
 use Rattle.theorems.proofs.Indices.{StandsFor}
-use Rattle.theorems.proofs.Invariant.{tops-refl}
+use Rattle.theorems.proofs.Invariant.{tops-refl, DueIf}
+use Rattle.theorems.proofs.Owed.{view}
 use Rattle.theorems.proofs.Order.{order-fresh}
 use Rattle.theorems.proofs.Directory.{both, numbers-zeros, Arrays}
-use Rattle.theorems.proofs.Shape.{Bounded, Spent}
+use Rattle.theorems.proofs.Shape.{tail, Bounded, Spent}
 use Rattle.theorems.proofs.Valid.{Whole}
-use Rattle.theorems.proofs.SoundRun.{InvOf, Since, Runs}
+use Rattle.theorems.proofs.SoundRun.{InvOf, LinkedSince, Runs}
 use Rattle.theorems.proofs.Links.{none-held}
 
 -- what an accepted fresh was given
@@ -44,8 +45,8 @@ pub record Given (w c n ω : ℕ) (m : List ℕ) : Type 0 where
   pub room : (ω + 1) * c ≤ length m
 
 -- the bench that it hands back, with the memory lent to it
-abbrev pub start : Kind → Bool → ℕ → ℕ → ℕ → ℕ → List ℕ → List ℕ → World
-start κ x w c n ω m l = lent (blank κ x w c n ω) (zeros m 0 ((ω + 1) * c)) l
+abbrev pub start : Kind → Bool → ℕ → ℕ → ℕ → ℕ → Bool → List ℕ → List ℕ → World
+start κ x w c n ω δ m l = lent (blank κ x w c n ω δ) (zeros m 0 ((ω + 1) * c)) l
 
 -- a test that an accepted call passed
 passed : (x : Bool) (D : Outcome) (U : World) (r : Refusal) → (if x then D else refuse U r) .answer ≡ Accepted
@@ -66,7 +67,7 @@ known-kind (suc (suc (suc (suc (suc zero))))) h = refl
 known-kind (suc (suc (suc (suc (suc (suc k)))))) h = absurd (omega arith)
 
 pub fresh-is : (s : Setup) (m l : List ℕ) → freshOf s m l .answer ≡ Accepted
-    → (freshOf s m l .world ≡ start (kindOf (s .kind)) (linkedOf (s .kind)) (s .width) (s .size) (s .crew) (s .words) m l)
+    → (freshOf s m l .world ≡ start (kindOf (s .kind)) (linkedOf (s .kind)) (s .width) (s .size) (s .crew) (s .words) (s .delayed) m l)
     × Given (s .width) (s .size) (s .crew) (s .words) m × (kindOk (kindOf (s .kind)) (linkedOf (s .kind)) ≡ true)
 unfolding freshOf
 fresh-is s m l e =
@@ -96,16 +97,16 @@ rests zero k = refl
 rests (suc q) zero = refl
 rests (suc q) (suc k) = rests q k
 
-module _ (κ : Kind) (x : Bool) (w c n ω : ℕ) (m l : List ℕ) (A : Given w c n ω m) (F : kindOk κ x ≡ true) where
-  first-size : sizeAt ω (blank κ x w c n ω .queue .arrays) 0 ≡ c
+module _ (κ : Kind) (x : Bool) (w c n ω : ℕ) (δ : Bool) (m l : List ℕ) (A : Given w c n ω m) (F : kindOk κ x ≡ true) where
+  first-size : sizeAt ω (blank κ x w c n ω δ .queue .arrays) 0 ≡ c
   unfolding lengthAt sizeAt
   first-size = mul-div-cancel-left c (omega arith)
 
-  first-long : lengthAt (blank κ x w c n ω .queue .arrays) 0 ≡ (ω + 1) * c
+  first-long : lengthAt (blank κ x w c n ω δ .queue .arrays) 0 ≡ (ω + 1) * c
   unfolding lengthAt
   first-long = refl
 
-  first-off : offsetAt (blank κ x w c n ω .queue .arrays) 0 ≡ 0
+  first-off : offsetAt (blank κ x w c n ω δ .queue .arrays) 0 ≡ 0
   unfolding offsetAt
   first-off = refl
 
@@ -120,12 +121,12 @@ module _ (κ : Kind) (x : Bool) (w c n ω : ℕ) (m l : List ℕ) (A : Given w c
   zero-anchor Fifo w z = (omega arith, omega arith, omega arith, refl)
   zero-anchor Deque w z = (omega arith, omega arith, pow-pos w)
 
-  zero-spent : (κ : Kind) → Spent κ 0 Idle 0
+  zero-spent : (κ : Kind) → Spent κ (tail κ (anchor 0 0 0)) Idle 0
   zero-spent Lifo = tt
   zero-spent Fifo = omega arith
   zero-spent Deque = tt
 
-  arrays-ok : Arrays ω (blank κ x w c n ω .queue) (zeros m 0 ((ω + 1) * c))
+  arrays-ok : Arrays ω (blank κ x w c n ω δ .queue) (zeros m 0 ((ω + 1) * c))
   arrays-ok =
       record {
         some = omega arith;
@@ -139,10 +140,10 @@ module _ (κ : Kind) (x : Bool) (w c n ω : ℕ) (m l : List ℕ) (A : Given w c
         numbers = λ a h. numbers-zeros ω m 0 ((ω + 1) * c) (omega arith) (λ a h. absurd (omega arith)) a (omega (arith, first-off, first-long));
       }
     where
-      long : lengthAt (blank κ x w c n ω .queue .arrays) 0 ≡ (ω + 1) * sizeAt ω (blank κ x w c n ω .queue .arrays) 0
+      long : lengthAt (blank κ x w c n ω δ .queue .arrays) 0 ≡ (ω + 1) * sizeAt ω (blank κ x w c n ω δ .queue .arrays) 0
       long = first-long ∙ sym (ap (λ (x : ℕ). (ω + 1) * x) first-size)
 
-  pub fresh-whole : Whole (start κ x w c n ω m l)
+  pub fresh-whole : Whole (start κ x w c n ω δ m l)
   unfolding if_then_else_
   fresh-whole =
       record {
@@ -155,14 +156,16 @@ module _ (κ : Kind) (x : Bool) (w c n ω : ℕ) (m l : List ℕ) (A : Given w c
         rest = λ k h. rw (rests 8 k);
         used = omega arith;
         logged = omega arith;
+        stores = refl;
+        line = omega arith;
+        mode = λ e. refl;
+        low = 0;
         shape =
             record {
-              low = 0;
               anchor = zero-anchor κ _ _;
               arrays = arrays-ok;
-              claims = refl;
-              spent = zero-spent κ;
-              own = tt;
+              path = tt;
+              own = record { claims = refl; spent = zero-spent κ; shape = tt };
               th = λ k. rw (rests 8 (suc k)) tt;
             };
       }
@@ -172,57 +175,67 @@ module _ (κ : Kind) (x : Bool) (w c n ω : ℕ) (m l : List ℕ) (A : Given w c
   rep-zero Fifo = (refl, refl)
   rep-zero Deque = (refl, refl)
 
-  pub fresh-inv : InvOf (start κ x w c n ω m l) []
+  pub fresh-inv : InvOf (start κ x w c n ω δ m l) []
   fresh-inv =
       record {
-        lo = 0;
-        hi = 0;
         own-lo = 0;
         own-hi = 0;
-        rep = rep-zero κ;
-        tops = tops-refl κ 0;
-        core =
+        base =
             record {
-              low = omega arith;
-              mid = omega arith;
-              high = omega arith;
-              fit = omega arith;
-              whole = λ i a b. absurd (omega arith);
-              outL = λ i a b. absurd (omega arith);
-              outH = λ i a b. absurd (omega arith);
-              all = λ t d. absurd (List·Memᴰ·not-nil d);
+              lo = 0;
+              hi = 0;
+              rep = rep-zero κ;
+              tops = tops-refl κ 0;
+              core =
+                  record {
+                    low = omega arith;
+                    mid = omega arith;
+                    high = omega arith;
+                    fit = omega arith;
+                    whole = λ i a b. absurd (omega arith);
+                    outL = λ i a b. absurd (omega arith);
+                    outH = λ i a b. absurd (omega arith);
+                    all = λ t d. absurd (List·Memᴰ·not-nil d);
+                  };
+              sized = rw first-size sized;
+              room = rw (first-off, first-size) (omega (arith, zero-length, A .room));
+              tag = pow-pos _;
+              owed = tt;
+              th = λ k. rw (rests 8 (suc k)) tt;
             };
-        order = order-fresh κ _ refl refl;
-        sized = rw first-size sized;
-        room = rw (first-off, first-size) (omega (arith, zero-length, A .room));
-        tag = pow-pos _;
         own = tt;
-        th = λ k. rw (rests 8 (suc k)) tt;
+        due = nothing-due δ;
+        order = order-fresh κ _ refl refl;
       }
+    where
+      nothing-due : (δ : Bool) → DueIf δ κ (view ω (blank κ x w c n ω δ .queue) (zeros m 0 ((ω + 1) * c)) 0 0) [] []
+      nothing-due true = λ t n d s. absurd s
+      nothing-due false = λ t n d. List·Memᴰ·not-nil d
 
 -- what is needed of an accepted fresh
 pub record Started (W : World) : Type 0 where
   pub whole : Whole W
   pub inv : InvOf W []
   pub idle : lineAt (W .bench .workers) 0 ≡ Idle
-  pub since : Since W []
+  pub since : LinkedSince W []
 
 pub fresh-started : (s : Setup) (m l : List ℕ) → freshOf s m l .answer ≡ Accepted → Started (freshOf s m l .world)
 fresh-started s m l e =
     let F = fresh-is s m l e in
     subst Started (sym (F .0))
     (record {
-      whole = fresh-whole (kindOf (s .kind)) (linkedOf (s .kind)) (s .width) (s .size) (s .crew) (s .words) m l (F .1) (F .2);
-      inv = fresh-inv (kindOf (s .kind)) (linkedOf (s .kind)) (s .width) (s .size) (s .crew) (s .words) m l (F .1) (F .2);
+      whole = fresh-whole (kindOf (s .kind)) (linkedOf (s .kind)) (s .width) (s .size) (s .crew) (s .words) (s .delayed) m l (F .1) (F .2);
+      inv = fresh-inv (kindOf (s .kind)) (linkedOf (s .kind)) (s .width) (s .size) (s .crew) (s .words) (s .delayed) m l (F .1) (F .2);
       idle = refl;
       since = λ i h. absurd (none-held 8 (suc i) h);
     })
 
-pub fresh-runs : (W : World) → Started W → Runs (W .bench .kind) (tagBits (W .bench)) W []
+pub fresh-runs : (W : World) → Started W → Runs (W .bench .kind) (tagBits (W .bench)) (W .bench .delayed) W []
 fresh-runs W F =
     record {
       kind = refl;
       bits = refl;
+      delayed = refl;
       whole = F .whole;
       inv = F .inv;
       since = F .since;

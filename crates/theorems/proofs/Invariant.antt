@@ -1,9 +1,9 @@
 -- The invariant, and what a step of one worker does to what another has read.
 use mathlib.Core.Path.{_≡_, refl, sym, _∙_, subst}
-use mathlib.Core.Bool.{Bool}
 use mathlib.Core.Logic.{_≢_, _⊎_, inl, inr}
-use mathlib.Core.List.{List, _∷_, List·Memᴰ, List·Memᴰ·tail}
-use Prim.Native.Nat.{ℕ, suc, _+_, _*_, _%_, _^_, _≤_, _<_}
+use mathlib.Core.Bool.{Bool, true, false}
+use mathlib.Core.List.{List, [], _∷_, List·Memᴰ, List·Memᴰ·tail}
+use Prim.Native.Nat.{ℕ, suc, _+_, _-_, _*_, _%_, _^_, _≤_, _<_}
 use native.Mathlib.Omega.{arith}
 use lib.ListN.{length}
 use borrow.Author.Tests.{ne-eqb, eq-eqb}
@@ -12,44 +12,29 @@ use Rattle.model.specs.declared.Kind.the-variants.{Lifo, Fifo, Deque}
 use Rattle.model.specs.declared.Line.{Line}
 use Rattle.model.specs.declared.Line.the-variants.{Idle, PutRead, PutTail, PutTest, PutWord, PutFinish, Claim, Note, Copy, Publish, TakeRead, TakeTail, TakeTest, TakeWord, TakeFinish, StealRead, StealTail, StealTest, StealNote, StealWord, StealNext, StealCompare}
 use Rattle.model.specs.declared.Queue.{Queue}
+use Rattle.model.specs.declared.Store.{Store}
 use Rattle.model.specs.declared.Task.{Task}
 use Rattle.model.specs.declared.Anchor.{Anchor}
 use Rattle.model.specs.Tasks.{wordIn, gathered}
 use Rattle.model.specs.Memory.{offsetAt, sizeAt}
+use Rattle.theorems.proofs.Words.{off}
 use Rattle.model.specs.Lines.{size}
 use Rattle.model.specs.Calls.{linkSet}
 use Rattle.model.specs.Figures.{anchor}
 use Rattle.model.proofs.Directory.{Size}
-use Rattle.theorems.proofs.Effects.{off}
-use Rattle.theorems.proofs.Events.{Event, quiet, line-1, finished-put, handed-out, failed-compare, found-empty, began-put, found-full, History, Out, puts-since, history-at}
-use Rattle.theorems.proofs.Words.{cell}
+use Rattle.theorems.proofs.Events.{Event, quiet, line-1, finished-put, handed-out, failed-compare, found-empty, began-put, found-full, waiting-put, drained, History, Out, Told, Concerns, Emptied, puts-since, history-at}
 use Rattle.theorems.proofs.Remainders.{tag-next}
-use Rattle.theorems.proofs.Window.{View, word, taskAt, NotDone, Core, later, Begun, begun-later}
-use Rattle.theorems.proofs.Order.{Tops, Order}
+use Rattle.theorems.proofs.Window.{View, word, taskAt, Core, later, Begun, begun-told}
+use Rattle.theorems.proofs.Owed.{view, sight, tags, IsFifo, Claimed, Copied, Owed, Label}
+use Rattle.theorems.proofs.Order.{Order}
 use Rattle.theorems.proofs.Seen.{Dir, Got, Noted, Frame, Still, dir-keep, got-keep, noted-keep}
 use Rattle.theorems.proofs.Indices.{StandsFor, Start, Small, stolen-ix, taken-ix}
 
-abbrev pub view : ℕ → Queue → List ℕ → ℕ → ℕ → View
-view ω Q μ own-lo own-hi = record { words = ω; store = μ; directory = Q .arrays; published = Q .published; base = off Q; slots = size ω Q; own-lo = own-lo; own-hi = own-hi }
-
-abbrev pub IsFifo : Kind → Type 0
-IsFifo Lifo = ⊥
-IsFifo Fifo = Unit {0}
-IsFifo Deque = ⊥
-
--- all puts that were finished at worker i's line 1 have been handed out
-abbrev pub Emptied : ℕ → History → Type 0
-Emptied i h = (t : Task) → List·Memᴰ (finished-put t) (history-at i h) → Out t h
-
--- the claimed array
-abbrev pub Claimed : View → Type 0
-Claimed v =
-    (v .base + 3 * ((v .words + 1) * v .slots) ≤ length (v .store)) × (2 * v .slots ≤ 1024)
-    × (offsetAt (v .directory) (v .published) ≡ v .base + (v .words + 1) * v .slots) × (sizeAt (v .words) (v .directory) (v .published) ≡ 2 * v .slots) × (0 < v .published)
-
--- the indices from lo up to hi are in the claimed array
-abbrev pub Copied : View → ℕ → ℕ → Type 0
-Copied v lo hi = (i j : ℕ) → lo ≤ i → i < hi → j < v .words + 1 → cell (v .words) (v .store) (v .base + (v .words + 1) * v .slots) (2 * v .slots) i j ≡ word v i j
+-- but in LIFO, only the owner moves the upper end
+abbrev pub Tops : Kind → ℕ → ℕ → Type 0
+Tops Lifo hi own-hi = Unit {0}
+Tops Fifo hi own-hi = hi ≡ own-hi
+Tops Deque hi own-hi = hi ≡ own-hi
 
 pub record Copying (κ : Kind) (v : View) (a q k : ℕ) : Type 0 where
   pub from : ℕ
@@ -163,21 +148,53 @@ ThiefOk κ w v g h k (TakeTest r) = ⊥
 ThiefOk κ w v g h k (TakeWord r t j) = ⊥
 ThiefOk κ w v g h k (TakeFinish r t) = ⊥
 
--- o: the owner's line; φ k: thief k's
-pub record Inv (κ : Kind) (w ω : ℕ) (Q : Queue) (μ : List ℕ) (o : Line) (φ : ℕ → Line) (h : History) : Type 0 where
+-- φ k: thief k's line; [own-lo, own-hi): the owner's window in memory, which contains the queue's; ss: the stores that wait
+pub record Base (κ : Kind) (w ω : ℕ) (δ : Bool) (Q : Queue) (μ : List ℕ) (own-lo own-hi : ℕ) (ss : List Store) (φ : ℕ → Line) (h : History) : Type 0 where
   pub lo : ℕ
   pub hi : ℕ
-  pub own-lo : ℕ
-  pub own-hi : ℕ
   pub rep : StandsFor κ (Q .anchor) lo hi
   pub tops : Tops κ hi own-hi
   pub core : Core (view ω Q μ own-lo own-hi) lo hi h
-  pub order : Order κ (view ω Q μ own-lo own-hi) lo h
   pub sized : Size (size ω Q)
   pub room : off Q + (ω + 1) * size ω Q ≤ length μ
   pub tag : Q .anchor .tag < 2 ^ w
-  pub own : OwnerOk κ (view ω Q μ own-lo own-hi) (Q .anchor .tag) h o
+  pub owed : Owed κ w δ (view ω Q μ own-lo own-hi) (Q .anchor .tag) h ss
   pub th : (k : ℕ) → ThiefOk κ w (view ω Q μ own-lo own-hi) (Q .anchor .tag) h (suc k) (φ k)
+
+-- how many stores were put down since: an event of a drain
+abbrev pub drain-of : Event → ℕ
+drain-of quiet = 0
+drain-of (line-1 j) = 0
+drain-of (finished-put t) = 1
+drain-of (handed-out j t) = 0
+drain-of (failed-compare j) = 0
+drain-of (found-empty j) = 0
+drain-of (began-put t) = 0
+drain-of (found-full t) = 0
+drain-of (waiting-put t y) = 0
+drain-of drained = 1
+
+-- the put of t was answered finished when n stores waited, its own the last; d have been put down since
+abbrev pub Since : Task → ℕ → ℕ → History → Type 0
+Since t n d [] = ⊥
+Since t n d (e ∷ h) = ((e ≡ waiting-put t n) × (d ≡ 0)) ⊎ ((c : ℕ) × (d ≡ c + drain-of e) × Since t n c h)
+
+-- it is in memory, or it waits at its place
+abbrev pub Due : Kind → View → List Store → History → Type 0
+Due κ v ss h = (t : Task) (n d : ℕ) → Since t n d h → List·Memᴰ (finished-put t) h ⊎ ((d < n) × Label κ v ss (n - 1 - d) t)
+
+abbrev pub DueIf : Bool → Kind → View → List Store → History → Type 0
+DueIf true κ v ss h = Due κ v ss h
+DueIf false κ v ss h = (t : Task) (n : ℕ) → List·Memᴰ (waiting-put t n) h → ⊥
+
+-- o: the owner's line
+pub record Inv (κ : Kind) (w ω : ℕ) (δ : Bool) (Q : Queue) (μ : List ℕ) (ss : List Store) (o : Line) (φ : ℕ → Line) (h : History) : Type 0 where
+  pub own-lo : ℕ
+  pub own-hi : ℕ
+  pub base : Base κ w ω δ Q μ own-lo own-hi ss φ h
+  pub own : OwnerOk κ (sight κ ω ss Q μ own-lo own-hi) (tags ss (Q .anchor .tag)) h o
+  pub due : DueIf δ κ (view ω Q μ own-lo own-hi) ss h
+  pub order : Order κ (view ω Q μ own-lo own-hi) (Q .anchor .head) ss h
 
 -- what a step of another worker does to thief k
 abbrev pub Grow : Kind → View → View → Type 0
@@ -277,16 +294,8 @@ Calm k (failed-compare j) = Unit {0}
 Calm k (found-empty j) = Unit {0}
 Calm k (began-put t) = Unit {0}
 Calm k (found-full t) = Unit {0}
-
-calm-done : (k : ℕ) (e : Event) → Calm k e → NotDone e
-calm-done k quiet c = tt
-calm-done k (line-1 j) c = tt
-calm-done k (finished-put t) c = c
-calm-done k (handed-out j t) c = tt
-calm-done k (failed-compare j) c = tt
-calm-done k (found-empty j) c = tt
-calm-done k (began-put t) c = tt
-calm-done k (found-full t) c = tt
+Calm k (waiting-put t y) = Unit {0}
+Calm k drained = Unit {0}
 
 calm-since : (k : ℕ) (h : History) (e : Event) → Calm k e → puts-since k (e ∷ h) ≡ puts-since k h
 calm-since k h quiet c = refl
@@ -297,19 +306,51 @@ calm-since k h (failed-compare j) c = refl
 calm-since k h (found-empty j) c = refl
 calm-since k h (began-put t) c = refl
 calm-since k h (found-full t) c = refl
+calm-since k h (waiting-put t y) c = refl
+calm-since k h drained c = refl
 
-calm-cut : (k : ℕ) (h : History) (e : Event) → Calm k e → history-at k (e ∷ h) ≡ history-at k h
-calm-cut k h quiet c = refl
-calm-cut k h (line-1 j) c = rw (ne-eqb j k c)
-calm-cut k h (finished-put t) c = absurd c
-calm-cut k h (handed-out j t) c = refl
-calm-cut k h (failed-compare j) c = refl
-calm-cut k h (found-empty j) c = refl
-calm-cut k h (began-put t) c = refl
-calm-cut k h (found-full t) c = refl
+-- events that are no line 1 of worker k
+abbrev pub NotRead : ℕ → Event → Type 0
+NotRead k quiet = Unit {0}
+NotRead k (line-1 j) = j ≢ k
+NotRead k (finished-put t) = Unit {0}
+NotRead k (handed-out j t) = Unit {0}
+NotRead k (failed-compare j) = Unit {0}
+NotRead k (found-empty j) = Unit {0}
+NotRead k (began-put t) = Unit {0}
+NotRead k (found-full t) = Unit {0}
+NotRead k (waiting-put t y) = Unit {0}
+NotRead k drained = Unit {0}
+
+cut-keep : (k : ℕ) (h : History) (e : Event) → NotRead k e → history-at k (e ∷ h) ≡ history-at k h
+cut-keep k h quiet c = refl
+cut-keep k h (line-1 j) c = rw (ne-eqb j k c)
+cut-keep k h (finished-put t) c = refl
+cut-keep k h (handed-out j t) c = refl
+cut-keep k h (failed-compare j) c = refl
+cut-keep k h (found-empty j) c = refl
+cut-keep k h (began-put t) c = refl
+cut-keep k h (found-full t) c = refl
+cut-keep k h (waiting-put t y) c = refl
+cut-keep k h drained c = refl
+
+pub calm-read : (k : ℕ) (e : Event) → Calm k e → NotRead k e
+calm-read k quiet c = tt
+calm-read k (line-1 j) c = c
+calm-read k (finished-put t) c = tt
+calm-read k (handed-out j t) c = tt
+calm-read k (failed-compare j) c = tt
+calm-read k (found-empty j) c = tt
+calm-read k (began-put t) c = tt
+calm-read k (found-full t) c = tt
+calm-read k (waiting-put t y) c = tt
+calm-read k drained c = tt
+
+pub emp-keep : (k : ℕ) (h : History) (e : Event) → NotRead k e → Emptied k h → Emptied k (e ∷ h)
+emp-keep k h e c E t d = later e (E t (subst (Concerns k t) (cut-keep k h e c) d))
 
 pub emp-calm : (k : ℕ) (h : History) (e : Event) → Calm k e → Emptied k h → Emptied k (e ∷ h)
-emp-calm k h e c E t d = later e (E t (subst (λ (x : History). List·Memᴰ (finished-put t) x) (calm-cut k h e c) d))
+emp-calm k h e c E = emp-keep k h e (calm-read k e c) E
 
 -- the newest line 1
 pub cut-now : (i : ℕ) (h : History) → history-at i (line-1 i ∷ h) ≡ h
@@ -318,11 +359,11 @@ cut-now i h = rw (eq-eqb i i refl)
 pub since-now : (i : ℕ) (h : History) → puts-since i (line-1 i ∷ h) ≡ 0
 since-now i h = rw (eq-eqb i i refl)
 
-pub emp-now : {v : View} {lo hi : ℕ} {h : History} (i : ℕ) → Core v lo hi h → lo ≡ hi → Emptied i (line-1 i ∷ h)
-emp-now {v} {lo} {hi} {h} i C e t d = go (C .all t (subst (λ (l : History). List·Memᴰ (finished-put t) l) (cut-now i h) d))
+pub emp-now : {v : View} {lo hi : ℕ} {h : History} (i : ℕ) → Core v lo hi h → lo ≡ hi → Emptied (suc i) (line-1 (suc i) ∷ h)
+emp-now {v} {lo} {hi} {h} i C e t d = go (C .all t (subst (λ (l : History). List·Memᴰ (finished-put t) l) (cut-now (suc i) h) d))
   where
-    go : Out t h ⊎ ((i : ℕ) × (lo ≤ i) × (i < hi) × (taskAt v i ≡ t)) → Out t (line-1 i ∷ h)
-    go (inl o) = later (line-1 i) o
+    go : Out t h ⊎ ((i : ℕ) × (lo ≤ i) × (i < hi) × (taskAt v i ≡ t)) → Out t (line-1 (suc i) ∷ h)
+    go (inl o) = later (line-1 (suc i)) o
     go (inr (k, a, b, x)) = absurd (omega arith)
 
 tag-calm : (κ : Kind) (w g d d′ r : ℕ) → d′ ≡ d → Tag κ w g d r → Tag κ w g d′ r
@@ -364,34 +405,34 @@ move-put {κ} {w} {v} {v′} {g} {h} {k} t F G =
       grow = G;
       still = λ q. absurd (omega arith);
       tags = λ r. tag-put κ w g (puts-since k h) r;
-      emp = λ E t′ d. later (finished-put t) (E t′ d);
+      emp = emp-keep k h (finished-put t) tt;
       grown = List·Memᴰ·tail;
     }
 
--- a step of a thief, seen by the owner
-pub own-keep : (κ : Kind) (v : View) (g : ℕ) (h : History) (e : Event) → Calm 0 e → (o : Line) → OwnerOk κ v g h o → OwnerOk κ v g (e ∷ h) o
-own-keep κ v gc h e c Idle k = k
-own-keep κ v gc h e c (PutRead t) k = begun-later e (calm-done 0 e c) k
-own-keep κ v gc h e c (PutTail t a) (b, k) = (begun-later e (calm-done 0 e c) b, k)
-own-keep κ v gc h e c (PutTest t r) (b, k) = (begun-later e (calm-done 0 e c) b, k)
-own-keep κ v gc h e c (PutWord t r j) (b, k) = (begun-later e (calm-done 0 e c) b, k)
-own-keep κ v gc h e c (PutFinish t r) (b, k) = (begun-later e (calm-done 0 e c) b, k)
-own-keep κ v gc h e c (Claim t) k = begun-later e (calm-done 0 e c) k
-own-keep κ v gc h e c (Note t) (b, k) = (begun-later e (calm-done 0 e c) b, k)
-own-keep κ v gc h e c (Copy t a q i) (b, d, k) = (begun-later e (calm-done 0 e c) b, d, k)
-own-keep κ v gc h e c (Publish t) (b, d, k) = (begun-later e (calm-done 0 e c) b, d, k)
-own-keep κ v gc h e c TakeRead k = k
-own-keep κ v gc h e c (TakeTail a) (f, l, E, r) = (f, l, (λ x. emp-calm 0 h e c (E x)), List·Memᴰ·tail r)
-own-keep κ v gc h e c (TakeTest r) (p, q, E, y) = (p, q, (λ x. emp-calm 0 h e c (E x)), List·Memᴰ·tail y)
-own-keep κ v gc h e c (TakeWord r t j) k = k
-own-keep κ v gc h e c (TakeFinish r t) k = k
-own-keep κ v gc h e c StealRead k = absurd k
-own-keep κ v gc h e c (StealTail a) k = absurd k
-own-keep κ v gc h e c (StealTest r) k = absurd k
-own-keep κ v gc h e c (StealNote r) k = absurd k
-own-keep κ v gc h e c (StealWord r b t j) k = absurd k
-own-keep κ v gc h e c (StealNext r t) k = absurd k
-own-keep κ v gc h e c (StealCompare r i t) k = absurd k
+-- a step of another, seen by the owner
+pub own-later : (κ : Kind) (v : View) (g : ℕ) (h : History) (e : Event) → NotRead 0 e → ((u : Task) → Told u (e ∷ h) → Told u h) → (o : Line) → OwnerOk κ v g h o → OwnerOk κ v g (e ∷ h) o
+own-later κ v gc h e c nt Idle k = k
+own-later κ v gc h e c nt (PutRead t) k = begun-told e nt k
+own-later κ v gc h e c nt (PutTail t a) (b, k) = (begun-told e nt b, k)
+own-later κ v gc h e c nt (PutTest t r) (b, k) = (begun-told e nt b, k)
+own-later κ v gc h e c nt (PutWord t r j) (b, k) = (begun-told e nt b, k)
+own-later κ v gc h e c nt (PutFinish t r) (b, k) = (begun-told e nt b, k)
+own-later κ v gc h e c nt (Claim t) k = begun-told e nt k
+own-later κ v gc h e c nt (Note t) (b, k) = (begun-told e nt b, k)
+own-later κ v gc h e c nt (Copy t a q i) (b, d, k) = (begun-told e nt b, d, k)
+own-later κ v gc h e c nt (Publish t) (b, d, k) = (begun-told e nt b, d, k)
+own-later κ v gc h e c nt TakeRead k = k
+own-later κ v gc h e c nt (TakeTail a) (f, l, E, r) = (f, l, (λ x. emp-keep 0 h e c (E x)), List·Memᴰ·tail r)
+own-later κ v gc h e c nt (TakeTest r) (p, q, E, y) = (p, q, (λ x. emp-keep 0 h e c (E x)), List·Memᴰ·tail y)
+own-later κ v gc h e c nt (TakeWord r t j) k = k
+own-later κ v gc h e c nt (TakeFinish r t) k = k
+own-later κ v gc h e c nt StealRead k = absurd k
+own-later κ v gc h e c nt (StealTail a) k = absurd k
+own-later κ v gc h e c nt (StealTest r) k = absurd k
+own-later κ v gc h e c nt (StealNote r) k = absurd k
+own-later κ v gc h e c nt (StealWord r b t j) k = absurd k
+own-later κ v gc h e c nt (StealNext r t) k = absurd k
+own-later κ v gc h e c nt (StealCompare r i t) k = absurd k
 
 pub tops-refl : (κ : Kind) (n : ℕ) → Tops κ n n
 tops-refl Lifo n = tt
@@ -411,20 +452,25 @@ grow-read Fifo v v′ hi e t = omega arith
 grow-read Deque v v′ hi e t = tt
 
 -- links are no part of it
-pub inv-relink : {κ : Kind} {w ω : ℕ} {Q : Queue} {μ : List ℕ} {o : Line} {φ : ℕ → Line} {h : History} (i : ℕ) (x : Bool) → Inv κ w ω Q μ o φ h → Inv κ w ω (linkSet Q i x) μ o φ h
+pub inv-relink : {κ : Kind} {w ω : ℕ} {δ : Bool} {Q : Queue} {μ : List ℕ} {ss : List Store} {o : Line} {φ : ℕ → Line} {h : History} (i : ℕ) (x : Bool) → Inv κ w ω δ Q μ ss o φ h → Inv κ w ω δ (linkSet Q i x) μ ss o φ h
 inv-relink i x I =
     record {
-      lo = I .lo;
-      hi = I .hi;
       own-lo = I .own-lo;
       own-hi = I .own-hi;
-      rep = I .rep;
-      tops = I .tops;
-      core = I .core;
-      order = I .order;
-      sized = I .sized;
-      room = I .room;
-      tag = I .tag;
+      base =
+          record {
+            lo = I .base .lo;
+            hi = I .base .hi;
+            rep = I .base .rep;
+            tops = I .base .tops;
+            core = I .base .core;
+            sized = I .base .sized;
+            room = I .base .room;
+            tag = I .base .tag;
+            owed = I .base .owed;
+            th = I .base .th;
+          };
       own = I .own;
-      th = I .th;
+      due = I .due;
+      order = I .order;
     }

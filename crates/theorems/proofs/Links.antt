@@ -15,17 +15,16 @@ use Rattle.model.specs.declared.Line.the-variants.{Idle, PutRead, PutTail, PutT
 use Rattle.model.specs.declared.Queue.{Queue}
 use Rattle.model.specs.declared.Task.{Task}
 use Rattle.model.specs.declared.Anchor.{Anchor}
-use Rattle.model.specs.declared.Answer.{Answer}
+use Rattle.model.specs.declared.Store.{Store}
+use Rattle.model.specs.declared.Store.the-variants.{StoreWord, StoreNote, StorePut, StoreOut, StoreHead, StoreTail}
 use Rattle.model.specs.Tests.{if_then_else_, _and_, _or_}
 use Rattle.model.proofs.Tests.{and-left, and-right, and-both, or-cases}
 use Rattle.model.specs.Figures.{isFull, isEmpty, isSame, putRead, takeRead, stealRead, noteAll, note, stealLast}
-use Rattle.model.specs.Lines.{size, succeeds, holdsLink}
+use Rattle.model.specs.Lines.{Effect, size, fits, succeeds, lineStep, holdsLink}
 use Rattle.model.specs.World.{stage, isSteal1, isPast1}
 use Rattle.model.specs.Limits.{kindOk, readBy, linkOk}
 use Rattle.model.specs.Calls.{relinked}
-use Rattle.model.specs.Stores.{anchored}
-use Rattle.theorems.proofs.Effects.{Left, eff, fits, lineLeft}
-use Rattle.theorems.specs.Demand3.{finishes}
+use Rattle.theorems.proofs.Folds.{anchorAfter, linksAfter, laid, NonePut}
 use Rattle.theorems.proofs.Shape.{OwnShape, ThiefShape}
 
 -- held after worker i's link comes to be x; after all are cleared
@@ -45,47 +44,15 @@ none-held zero k e = true≢false (sym e)
 none-held (suc n) zero e = true≢false (sym e)
 none-held (suc n) (suc k) e = none-held n k e
 
--- a link that is held after a line was held before it, and the line neither wrote the anchor nor finished a put
-pub record LinksKept (q : Queue) (E : Left) : Type 0 where
-  pub linked : E .queue .linked ≡ q .linked
-  pub held : (k : ℕ) → holdsLink (E .queue) k ≡ true → (holdsLink q k ≡ true) × (E .queue .anchor ≡ q .anchor) × (finishes (E .answer) ≡ 0)
-
-module _ (q : Queue) where
-  same : (m : List ℕ) (l : Line) (a : Answer) → finishes a ≡ 0 → LinksKept q (eff q m l a)
-  same m l a e = record { linked = refl; held = λ k h. (h, refl, e) }
-
-  cleared : (r : Anchor) (m : List ℕ) (l : Line) (a : Answer) → LinksKept q (eff (anchored q r) m l a)
-  cleared r m l a = record { linked = refl; held = λ k h. absurd (none-held 8 k h) }
-
-  either : (x : Bool) (E E′ : Left) → LinksKept q E → LinksKept q E′ → LinksKept q (if x then E else E′)
-  unfolding if_then_else_
-  either true E E′ a b = a
-  either false E E′ a b = b
-
-pub line-links : (κ : Kind) (w ω : ℕ) (q : Queue) (m : List ℕ) (i : ℕ) (l : Line) → LinksKept q (lineLeft κ w ω q m i l)
-unfolding lineLeft
-line-links κ w ω q m i Idle = same q _ _ _ refl
-line-links κ w ω q m i (PutRead t) = same q _ _ _ refl
-line-links κ w ω q m i (PutTail t h) = same q _ _ _ refl
-line-links κ w ω q m i (PutTest t r) = same q _ _ _ refl
-line-links κ w ω q m i (PutWord t r j) = same q _ _ _ refl
-line-links κ w ω q m i (PutFinish t r) = cleared q _ _ _ _
-line-links κ w ω q m i (Claim t) = either q (fits ω q m) _ _ (record { linked = refl; held = λ k h. (h, refl, refl) }) (same q _ _ _ refl)
-line-links κ w ω q m i (Note t) = same q _ _ _ refl
-line-links κ w ω q m i (Copy t h n k) = same q _ _ _ refl
-line-links κ w ω q m i (Publish t) = record { linked = refl; held = λ k h. (h, refl, refl) }
-line-links κ w ω q m i TakeRead = same q _ _ _ refl
-line-links κ w ω q m i (TakeTail h) = same q _ _ _ refl
-line-links κ w ω q m i (TakeTest r) = either q (isEmpty κ r) _ _ (same q _ _ _ refl) (same q _ _ _ refl)
-line-links κ w ω q m i (TakeWord r t j) = same q _ _ _ refl
-line-links κ w ω q m i (TakeFinish r t) = cleared q _ _ _ _
-line-links κ w ω q m i StealRead = same q _ _ _ refl
-line-links κ w ω q m i (StealTail h) = same q _ _ _ refl
-line-links κ w ω q m i (StealTest r) = either q (isEmpty κ r) _ _ (same q _ _ _ refl) (same q _ _ _ refl)
-line-links κ w ω q m i (StealNote r) = same q _ _ _ refl
-line-links κ w ω q m i (StealWord r k t j) = same q _ _ _ refl
-line-links κ w ω q m i (StealNext r t) = same q _ _ _ refl
-line-links κ w ω q m i (StealCompare r e t) = either q (succeeds κ q i r) _ _ (cleared q _ _ _ _) (same q _ _ _ refl)
+-- a link that is held after stores was held before them, and none of them wrote the anchor
+pub links-held : (ss : List Store) (l : List Bool) (a : Anchor) (k : ℕ) → getD (linksAfter ss l) k false ≡ true → (getD l k false ≡ true) × (anchorAfter ss a ≡ a) × NonePut ss
+links-held [] l a k e = (e, refl, tt)
+links-held (StoreWord b s j x ∷ ss) l a k e = let (u, v, n) = links-held ss l a k e in (u, v, (tt, n))
+links-held (StoreNote c ∷ ss) l a k e = let (u, v, n) = links-held ss l a k e in (u, v, (tt, n))
+links-held (StorePut r ∷ ss) l a k e = absurd (none-held 8 k (links-held ss (replicate 8 false) r k e .0))
+links-held (StoreOut r ∷ ss) l a k e = absurd (none-held 8 k (links-held ss (replicate 8 false) r k e .0))
+links-held (StoreHead i ∷ ss) l a k e = absurd (none-held 8 k (links-held ss (replicate 8 false) a k e .0))
+links-held (StoreTail i ∷ ss) l a k e = absurd (none-held 8 k (links-held ss (replicate 8 false) a k e .0))
 
 -- what a thief past its line 1 has read: now, or as before
 abbrev Leads : Queue → Line → Line → Type 0
@@ -104,7 +71,7 @@ module _ (q : Queue) (l : Line) where
   either-line true a b f g = f
   either-line false a b f g = g
 
-  either-end : (x : Bool) (E E′ : Left) → Leads q l (E .line) → Leads q l (E′ .line) → Leads q l ((if x then E else E′) .line)
+  either-end : (x : Bool) (E E′ : Effect) → Leads q l (E .line) → Leads q l (E′ .line) → Leads q l ((if x then E else E′) .line)
   unfolding if_then_else_
   either-end true E E′ f g = f
   either-end false E E′ f g = g
@@ -142,8 +109,8 @@ read-last Lifo q r k t u j p = inr (refl, refl)
 read-last Fifo q r k t u j p = inr (refl, refl)
 read-last Deque q r k t u j p = inr (refl, refl)
 
-pub line-leads : (κ : Kind) (w ω : ℕ) (q : Queue) (m : List ℕ) (i low τ : ℕ) (l : Line) → Held κ w ω q low τ l → kindOk κ true ≡ true → Leads q l (lineLeft κ w ω q m i l .line)
-unfolding lineLeft
+pub line-leads : (κ : Kind) (w ω : ℕ) (q : Queue) (m : List ℕ) (i low τ : ℕ) (l : Line) → Held κ w ω q low τ l → kindOk κ true ≡ true → Leads q l (lineStep κ w ω q m i l .line)
+unfolding lineStep
 line-leads κ w ω q m i low τ Idle s n = never
 line-leads κ w ω q m i low τ (PutRead t) s n = put-read q (PutRead t) κ t
 line-leads κ w ω q m i low τ (PutTail t h) s n = never
@@ -186,47 +153,79 @@ same-anchor Lifo a = and-both _ _ (same-number (a .count)) (same-number (a .tag)
 same-anchor Fifo a = same-number (a .head)
 same-anchor Deque a = and-both _ _ (same-number (a .head)) (and-both _ _ (same-number (a .count)) (same-number (a .tag)))
 
--- worker i, at the line l, steps, and holds a link then: it was line 1, or the link was held before
+-- the owner never is past a steal's line 1
+own-past : (κ : Kind) (w ω z low τ : ℕ) (l : Line) → OwnShape κ w ω z low τ l → isPast1 l ≡ true → ⊥
+own-past κ w ω z low τ Idle s e = true≢false (sym e)
+own-past κ w ω z low τ (PutRead t) s e = true≢false (sym e)
+own-past κ w ω z low τ (PutTail t h) s e = true≢false (sym e)
+own-past κ w ω z low τ (PutTest t r) s e = true≢false (sym e)
+own-past κ w ω z low τ (PutWord t r j) s e = true≢false (sym e)
+own-past κ w ω z low τ (PutFinish t r) s e = true≢false (sym e)
+own-past κ w ω z low τ (Claim t) s e = true≢false (sym e)
+own-past κ w ω z low τ (Note t) s e = true≢false (sym e)
+own-past κ w ω z low τ (Copy t h n k) s e = true≢false (sym e)
+own-past κ w ω z low τ (Publish t) s e = true≢false (sym e)
+own-past κ w ω z low τ TakeRead s e = true≢false (sym e)
+own-past κ w ω z low τ (TakeTail h) s e = true≢false (sym e)
+own-past κ w ω z low τ (TakeTest r) s e = true≢false (sym e)
+own-past κ w ω z low τ (TakeWord r t j) s e = true≢false (sym e)
+own-past κ w ω z low τ (TakeFinish r t) s e = true≢false (sym e)
+own-past κ w ω z low τ StealRead s e = s
+own-past κ w ω z low τ (StealTail h) s e = s
+own-past κ w ω z low τ (StealTest r) s e = s
+own-past κ w ω z low τ (StealNote r) s e = s
+own-past κ w ω z low τ (StealWord r k t j) s e = s
+own-past κ w ω z low τ (StealNext r t) s e = s
+own-past κ w ω z low τ (StealCompare r i t) s e = s
+
+-- so it comes to hold no link
+pub own-unlinked : (κ : Kind) (w ω z low τ : ℕ) (l : Line) (x : Bool) → OwnShape κ w ω z low τ l → (isPast1 l and x) ≡ true → ⊥
+own-unlinked κ w ω z low τ l x s e = own-past κ w ω z low τ l s (and-left _ _ e)
+
+-- a thief, worker i at the line l, steps, and holds a link then: it was line 1, or the link was held before
 module _ (κ : Kind) (w ω : ℕ) (q : Queue) (m : List ℕ) (i low τ : ℕ) (l : Line) (kinds : kindOk κ (q .linked) ≡ true) (s : Held κ w ω q low τ l)
     (ok : holdsLink q i ≡ true → linkOk κ q l ≡ true) where
-  abbrev E : Left
-  E = lineLeft κ w ω q m i l
+  abbrev E : Effect
+  E = lineStep κ w ω q m i l
 
-  K : LinksKept q (lineLeft κ w ω q m i l)
-  K = line-links κ w ω q m i l
+  abbrev Q : Queue
+  Q = laid (lineStep κ w ω q m i l .stores) q
 
-  leads : q .linked ≡ true → Leads q l (lineLeft κ w ω q m i l .line)
+  leads : q .linked ≡ true → Leads q l (lineStep κ w ω q m i l .line)
   leads e = line-leads κ w ω q m i low τ l s (subst (λ (x : Bool). kindOk κ x ≡ true) e kinds)
 
-  read-same : l ≡ StealRead → lineLeft κ w ω q m i l .queue .anchor ≡ q .anchor
-  unfolding lineLeft
-  read-same e = ap (λ (x : Line). lineLeft κ w ω q m i x .queue .anchor) e
+  read-same : l ≡ StealRead → laid (lineStep κ w ω q m i l .stores) q .anchor ≡ q .anchor
+  unfolding lineStep
+  read-same e = ap (λ (x : Line). anchorAfter (lineStep κ w ω q m i x .stores) (q .anchor)) e
 
-  pub linked-now : (isPast1 (E .line) and ((E .queue .linked and isSteal1 l) or holdsLink (E .queue) i)) ≡ true
-      → ((l ≡ StealRead) ⊎ (holdsLink (E .queue) i ≡ true)) × (linkOk κ (relinked (E .queue) i l (E .line)) (E .line) ≡ true)
-  linked-now x = go (or-cases (E .queue .linked and isSteal1 l) _ (and-right (isPast1 (E .line)) _ x))
+  pub linked-now : (isPast1 (E .line) and ((q .linked and isSteal1 l) or holdsLink Q i)) ≡ true
+      → ((l ≡ StealRead) ⊎ (holdsLink Q i ≡ true)) × (linkOk κ (relinked Q i l (E .line)) (E .line) ≡ true)
+  linked-now x = go (or-cases (q .linked and isSteal1 l) _ (and-right (isPast1 (E .line)) _ x))
     where
       past : isPast1 (E .line) ≡ true
       past = and-left _ _ x
 
-      go : (E .queue .linked and isSteal1 l ≡ true) ⊎ (holdsLink (E .queue) i ≡ true)
-          → ((l ≡ StealRead) ⊎ (holdsLink (E .queue) i ≡ true)) × (linkOk κ (relinked (E .queue) i l (E .line)) (E .line) ≡ true)
-      go (inl a) = now (leads (sym (K .linked) ∙ and-left _ _ a) past)
+      go : (q .linked and isSteal1 l ≡ true) ⊎ (holdsLink Q i ≡ true)
+          → ((l ≡ StealRead) ⊎ (holdsLink Q i ≡ true)) × (linkOk κ (relinked Q i l (E .line)) (E .line) ≡ true)
+      go (inl a) = now (leads (and-left _ _ a) past)
         where
           now : ((l ≡ StealRead) × (readBy (E .line) ≡ q .anchor)) ⊎ ((isPast1 l ≡ true) × (readBy (E .line) ≡ readBy l))
-              → ((l ≡ StealRead) ⊎ (holdsLink (E .queue) i ≡ true)) × (linkOk κ (relinked (E .queue) i l (E .line)) (E .line) ≡ true)
+              → ((l ≡ StealRead) ⊎ (holdsLink Q i ≡ true)) × (linkOk κ (relinked Q i l (E .line)) (E .line) ≡ true)
           now (inl (e, r)) = (
             inl e,
             and-both _ _ (and-left _ _ a)
                 (and-both _ _ past (ap (λ (x : Anchor). isSame κ x (readBy (E .line))) (read-same e ∙ sym r) ∙ same-anchor κ (readBy (E .line)))),
           )
-          now (inr (p, r)) = absurd (omega (arith, eqb-true (stage l) 4 (and-right (E .queue .linked) _ a), eqb-true (stage l) 5 p))
+          now (inr (p, r)) = absurd (omega (arith, eqb-true (stage l) 4 (and-right (q .linked) _ a), eqb-true (stage l) 5 p))
       go (inr h) = (inr h, before (leads (link-parts κ q l old .0) past))
         where
+          K : (holdsLink q i ≡ true) × (anchorAfter (E .stores) (q .anchor) ≡ q .anchor) × NonePut (E .stores)
+          K = links-held (E .stores) (q .links) (q .anchor) i h
+
           old : linkOk κ q l ≡ true
-          old = ok (K .held i h .0)
+          old = ok (K .0)
 
           before : ((l ≡ StealRead) × (readBy (E .line) ≡ q .anchor)) ⊎ ((isPast1 l ≡ true) × (readBy (E .line) ≡ readBy l))
-              → linkOk κ (relinked (E .queue) i l (E .line)) (E .line) ≡ true
+              → linkOk κ (relinked Q i l (E .line)) (E .line) ≡ true
           before (inl (e, r)) = absurd (true≢false (sym (link-parts κ q l old .1) ∙ ap isPast1 e))
-          before (inr (p, r)) = link-as κ q (relinked (E .queue) i l (E .line)) l (E .line) (K .linked) (K .held i h .1) past r old
+          before (inr (p, r)) = link-as κ q (relinked Q i l (E .line)) l (E .line) refl (K .1) past r old

@@ -16,28 +16,27 @@ use Rattle.model.specs.declared.Answer.{Answer}
 use Rattle.model.specs.declared.Answer.the-variants.{Refused}
 use Rattle.model.specs.Tests.{if_then_else_}
 use Rattle.model.specs.Figures.{isEmpty}
-use Rattle.model.specs.Lines.{succeeds}
+use Rattle.model.specs.Lines.{Effect, fits, succeeds, lineStep}
 use Rattle.model.specs.World.{World, Outcome, refuse, lineAt}
 use Rattle.model.specs.Limits.{validOf}
 use Rattle.model.specs.Calls.{beginAnswer, Call, callOf}
 use Rattle.model.specs.Listing.{isRefused}
 use Rattle.model.specs.Run.{played}
-use Rattle.theorems.proofs.Effects.{Left, fits, lineLeft}
 use Rattle.theorems.specs.Demand3.{At}
 use Rattle.theorems.specs.Corollaries.{NoneForeign}
-use Rattle.theorems.proofs.Cases.{Lawful, call-cases}
+use Rattle.theorems.proofs.Cases.{Lawful, effectOf, call-cases}
 use Rattle.theorems.proofs.Valid.{Whole, valid}
 use Rattle.theorems.proofs.WholeRun.{call-whole, whole-run}
 use Rattle.theorems.proofs.Fresh.{fresh-started}
 
 -- what a line or an accepted begin answers is no refusal
-either : (x : Bool) (E E′ : Left) → isRefused (E .answer) ≡ false → isRefused (E′ .answer) ≡ false → isRefused ((if x then E else E′) .answer) ≡ false
+either : (x : Bool) (E E′ : Effect) → isRefused (E .answer) ≡ false → isRefused (E′ .answer) ≡ false → isRefused ((if x then E else E′) .answer) ≡ false
 unfolding if_then_else_
 either true E E′ p q = p
 either false E E′ p q = q
 
-pub line-answers : (κ : Kind) (w ω : ℕ) (q : Queue) (m : List ℕ) (i : ℕ) (l : Line) → isRefused (lineLeft κ w ω q m i l .answer) ≡ false
-unfolding lineLeft
+line-answers : (κ : Kind) (w ω : ℕ) (q : Queue) (m : List ℕ) (i : ℕ) (l : Line) → isRefused (lineStep κ w ω q m i l .answer) ≡ false
+unfolding lineStep
 line-answers κ w ω q m i Idle = refl
 line-answers κ w ω q m i (PutRead t) = refl
 line-answers κ w ω q m i (PutTail t h) = refl
@@ -72,9 +71,13 @@ NotForeign D = D .answer ≡ Refused ForeignState → ⊥
 no-refusal : (a : Answer) → isRefused a ≡ false → a ≡ Refused ForeignState → ⊥
 no-refusal a p q = let z : _≡_ {A = Bool} (isRefused a) true = ap isRefused q in let y : _≡_ {A = ℕ} 0 1 = cc in omega arith
 
+pub effect-answers : (U : World) (i : ℕ) → isRefused (effectOf U i .answer) ≡ false
+effect-answers U zero = line-answers _ _ _ _ _ 0 (lineAt (U .bench .workers) 0)
+effect-answers U (suc k) = line-answers _ _ _ _ _ (suc k) (lineAt (U .bench .workers) (suc k))
+
 not-foreign : (U : World) (c : Call) → validOf U ≡ true → NotForeign (callOf U c)
 not-foreign U c ok =
-    call-cases NotForeign U lawful (λ i op B. no-refusal _ (begin-answers op (U .bench .used))) (λ i M. no-refusal _ (line-answers _ _ _ _ _ i (lineAt (U .bench .workers) i))) (λ i. no-refusal _ refl) c
+    call-cases NotForeign U lawful (λ i op B. no-refusal _ (begin-answers op (U .bench .used))) (λ i M. no-refusal _ (effect-answers U i)) (λ i. no-refusal _ refl) (λ some. no-refusal _ refl) c
   where
     lawful : (r : Refusal) → Lawful U r → NotForeign (refuse U r)
     lawful r l q = let s : r ≡ ForeignState = cc in let f = l s in let y : _≡_ {A = ℕ} 0 1 = cc in omega arith

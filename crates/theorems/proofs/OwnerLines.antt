@@ -1,171 +1,354 @@
--- Each line of the owner keeps the invariant.
-use mathlib.Core.Path.{_≡_, refl, sym, ap, _∙_}
+-- Each line of the owner, done on what it reads: its stores fit behind those that wait, and it has read what it should.
+use mathlib.Core.Path.{_≡_, refl, sym, _∙_, ap, subst, subst₂}
 use mathlib.Core.Bool.{Bool, true, false}
-use mathlib.Core.Logic.{_⊎_, inl, inr}
-use mathlib.Core.List.{List, _∷_, List·Memᴰ·head, List·Memᴰ·tail}
-use Prim.Native.Nat.{ℕ, _+_, _-_, _*_, _%_, _^_, _≤_, _<_}
+use mathlib.Core.Logic.{_≢_, _⊎_, inl, inr}
+use mathlib.Core.List.{List, [], _∷_, List·Memᴰ·head, List·Memᴰ·tail}
+use Prim.Native.Nat.{ℕ, zero, suc, _+_, _-_, _*_, _%_, _^_, _≤_, _<_}
 use native.Mathlib.Omega.{arith}
-use native.Mathlib.Nat.{mod-lt}
 use lib.Dec.{eqb}
-use lib.Pow.{pow-pos}
-use lib.ListN.{length}
+use lib.ListN.{length, getD, set}
 use borrow.Author.Tests.{eqb-true, eqb-false}
 use Rattle.model.specs.declared.Kind.{Kind}
 use Rattle.model.specs.declared.Kind.the-variants.{Lifo, Fifo, Deque}
 use Rattle.model.specs.declared.Line.{Line}
 use Rattle.model.specs.declared.Line.the-variants.{Idle, PutRead, PutTail, PutTest, PutWord, PutFinish, Claim, Note, Copy, Publish, TakeRead, TakeTail, TakeTest, TakeWord, TakeFinish, StealRead, StealTail, StealTest, StealNote, StealWord, StealNext, StealCompare}
 use Rattle.model.specs.declared.Queue.{Queue}
-use Rattle.model.specs.declared.Answer.the-variants.{GoesOn, Empty}
+use Rattle.model.specs.declared.Answer.the-variants.{GoesOn, Full, Empty}
 use Rattle.model.specs.declared.Task.{Task}
 use Rattle.model.specs.declared.Anchor.{Anchor}
+use Rattle.model.specs.declared.Store.{Store}
+use Rattle.model.specs.declared.Store.the-variants.{StoreWord}
 use Rattle.model.specs.Tests.{if_then_else_}
-use Rattle.model.specs.Memory.{setWord}
-use Rattle.model.specs.Lines.{size}
-use Rattle.model.specs.Figures.{isFull, isEmpty, anchor}
+use Rattle.model.specs.Memory.{offsetAt, sizeAt}
+use Rattle.model.specs.Calls.{step}
+use Rattle.theorems.proofs.Words.{off}
+use Rattle.model.specs.Lines.{Effect, eff, goes, size, wordOf, writeWord, putOn, copyWords, fits, lineStep}
+use Rattle.model.specs.Figures.{slot, isFull, isEmpty, putStore, anchor}
 use Rattle.model.specs.Tasks.{noTask, wordIn, withWord, gathered}
-use Rattle.model.proofs.Tasks.{same-words, no-words, next-is, number-gathered}
-use Rattle.model.proofs.Directory.{size-pos}
-use Rattle.model.specs.Stores.{anchored}
-use Rattle.theorems.proofs.Effects.{eff, off, len, fits, lineLeft, afterPut, afterTake}
-use Rattle.theorems.proofs.Events.{quiet, line-1, finished-put, handed-out, found-empty, History, Out}
-use Rattle.theorems.proofs.Words.{put-word, put-same, put-twin, put-other, put-low, put-length, word-W, set-W}
+use Rattle.model.proofs.Tasks.{same-words, no-words, next-is}
+use Rattle.model.proofs.Directory.{Size, size-pos, size-twice}
+use Rattle.theorems.proofs.Events.{quiet, line-1, handed-out, waiting-put, event-of, History, Out, Told, Answered, Emptied, GoodEvent}
+use Rattle.theorems.proofs.Words.{slots-apart, addr, addr-in, cell, put-word, put-same, put-twin, put-other, put-above, put-low, put-length, word-W}
 use Rattle.theorems.proofs.Remainders.{slot-ne, le-or-lt}
-use Rattle.theorems.proofs.Window.{View, word, taskAt, later, begun-later, core-window, core-put}
-use Rattle.theorems.proofs.Order.{Order, rising-put, rising-out}
-use Rattle.theorems.proofs.Seen.{frame-same}
-use Rattle.theorems.proofs.Indices.{StandsFor, taken-ix, put-ix, take-ix, full-no, empty-yes, empty-no}
-use Rattle.theorems.proofs.Invariant.{view, Written, OwnerOk, Inv, Grow, move-calm, move-put, thief-holds, emp-now, tops-refl, tagAfter}
-use Rattle.theorems.proofs.OwnerSteps.{Kept, own-same, own-read, own-store}
-use Rattle.theorems.proofs.Expand.{claim, note-x2, copy-x3, publish}
+use Rattle.theorems.proofs.Window.{View, word, taskAt, later, Begun, begun-later}
+use Rattle.theorems.proofs.Indices.{StandsFor, Start, taken-ix, put-ix, take-ix, start-ix, full-no, empty-yes, empty-no}
+use Rattle.theorems.proofs.Owed.{view, sight, tags, los, his, IsFifo, Claimed, Copied, Clear, Fits, Owed, owed-join, words-join}
+use Rattle.theorems.proofs.Folds.{words, AllWords, words-keep, copy-words}
+use Rattle.theorems.proofs.ShapeLay.{same-places}
+use Rattle.theorems.proofs.Invariant.{Written, OwnerOk, cut-now, emp-keep}
 
--- put: line 1 (lines 1 and 2 in FIFO)
-put-read : (κ : Kind) (w ω : ℕ) (Q : Queue) (μ : List ℕ) (φ : ℕ → Line) (h : History) (t : Task) → Inv κ w ω Q μ (PutRead t) φ h → Kept κ w ω φ h (PutRead t) (lineLeft κ w ω Q μ 0 (PutRead t))
-unfolding lineLeft
-put-read Lifo w ω Q μ φ h t I = (own-read Lifo w ω Q μ φ h (PutRead t) (PutTest t (Q .anchor)) quiet tt (λ k. tt) I (begun-later quiet tt (I .own), (I .rep, refl)), tt)
-put-read Fifo w ω Q μ φ h t I = (own-read Fifo w ω Q μ φ h (PutRead t) (PutTail t (Q .anchor .head)) quiet tt (λ k. tt) I (begun-later quiet tt (I .own), (tt, I .rep .0)), tt)
-put-read Deque w ω Q μ φ h t I = (own-read Deque w ω Q μ φ h (PutRead t) (PutTest t (Q .anchor)) quiet tt (λ k. tt) I (begun-later quiet tt (I .own), (I .rep, refl)), tt)
+-- what the owner knows of what it reads; g: the tag
+pub record Facts (κ : Kind) (ω : ℕ) (Q : Queue) (μ : List ℕ) (lo hi g : ℕ) (h : History) : Type 0 where
+  pub sized : Size (size ω Q)
+  pub room : off Q + (ω + 1) * size ω Q ≤ length μ
+  pub mid : lo ≤ hi
+  pub fit : hi ≤ lo + size ω Q
+  pub tagged : Q .anchor .tag ≡ g
+  pub topped : IsFifo κ → hi ≡ Q .anchor .count
+  pub whole : (i : ℕ) → lo ≤ i → i < hi → Told (taskAt (view ω Q μ lo hi) i) h
 
-put-tail : (κ : Kind) (w ω : ℕ) (Q : Queue) (μ : List ℕ) (φ : ℕ → Line) (h : History) (t : Task) (a : ℕ) → Inv κ w ω Q μ (PutTail t a) φ h → Inv κ w ω Q μ (PutTest t (anchor a (Q .anchor .count) (Q .anchor .tag))) φ (quiet ∷ h)
-put-tail Lifo w ω Q μ φ h t a I = absurd (I .own .1 .0)
-put-tail Fifo w ω Q μ φ h t a I =
-    own-same Fifo w ω Q μ φ h (PutTail t a) (PutTest t (anchor a (Q .anchor .count) (Q .anchor .tag))) quiet tt (λ k. tt) I (begun-later quiet tt (I .own .0), ((I .own .1 .1, sym (I .tops) ∙ I .rep .1), refl))
-put-tail Deque w ω Q μ φ h t a I = absurd (I .own .1 .0)
+-- a line that reads the anchor
+abbrev pub Looks : Line → Type 0
+Looks Idle = ⊥
+Looks (PutRead t) = Unit {0}
+Looks (PutTail t h) = ⊥
+Looks (PutTest t r) = ⊥
+Looks (PutWord t r j) = ⊥
+Looks (PutFinish t r) = ⊥
+Looks (Claim t) = ⊥
+Looks (Note t) = Unit {0}
+Looks (Copy t h n k) = ⊥
+Looks (Publish t) = ⊥
+Looks TakeRead = Unit {0}
+Looks (TakeTail h) = ⊥
+Looks (TakeTest r) = ⊥
+Looks (TakeWord r t j) = ⊥
+Looks (TakeFinish r t) = ⊥
+Looks StealRead = ⊥
+Looks (StealTail h) = ⊥
+Looks (StealTest r) = ⊥
+Looks (StealNote r) = ⊥
+Looks (StealWord r k t j) = ⊥
+Looks (StealNext r t) = ⊥
+Looks (StealCompare r e t) = ⊥
 
-put-test : (κ : Kind) (w ω : ℕ) (Q : Queue) (μ : List ℕ) (φ : ℕ → Line) (h : History) (t : Task) (r : Anchor) (x : Bool) → isFull κ (size ω Q) r ≡ x → Inv κ w ω Q μ (PutTest t r) φ h
-    → Kept κ w ω φ h (PutTest t r) (eff Q μ (if x then Claim t else PutWord t r 0) GoesOn)
-unfolding if_then_else_
-put-test κ w ω Q μ φ h t r true e I = (own-same κ w ω Q μ φ h (PutTest t r) (Claim t) quiet tt (λ k. tt) I (begun-later quiet tt (I .own .0)), tt)
-put-test κ w ω Q μ φ h t r false e I = (
-  own-same κ w ω Q μ φ h (PutTest t r) (PutWord t r 0) quiet tt (λ k. tt) I
-      (begun-later quiet tt (I .own .0), (I .own .1 .0, I .own .1 .1, full-no κ (size ω Q) r (I .own-lo) (I .own-hi) (I .own .1 .0) (I .core .fit) e, omega arith, λ k l. absurd (omega arith))),
-  tt,
-)
+-- what it has just read: the owner's window, and if that is empty, nothing is left
+pub record Seen (κ : Kind) (Q : Queue) (lo hi : ℕ) (h : History) : Type 0 where
+  pub exact : StandsFor κ (Q .anchor) lo hi
+  pub empty : lo ≡ hi → (t : Task) → Told t h → Out t h
 
--- put: a word is written at the top of the owner's window
-put-store : (κ : Kind) (w ω : ℕ) (Q : Queue) (μ : List ℕ) (φ : ℕ → Line) (h : History) (s j x : ℕ) (o o′ : Line) → j < ω + 1 → (I : Inv κ w ω Q μ o φ h)
-    → s ≡ I .own-hi % size ω Q → I .own-hi < I .own-lo + size ω Q
-    → OwnerOk κ (view ω Q (put-word ω μ (off Q) (size ω Q) (I .own-hi) j x) (I .own-lo) (I .own-hi)) (Q .anchor .tag) (quiet ∷ h) o′
-    → Inv κ w ω Q (setWord μ ω (off Q) s j x) o′ φ (quiet ∷ h)
-put-store κ w ω Q μ φ h s j x o o′ hj I e l k =
-    rw (set-W ω μ (off Q) (size ω Q) s (I .own-hi) j x e)
-    (own-store κ w ω Q μ φ h o o′ _ I (put-length ω μ (off Q) (size ω Q) (I .own-hi) j x)
-    (λ i k a b hl. put-other ω μ (off Q) (size ω Q) i k (I .own-hi) j x (slot-ne i (I .own-hi) (size ω Q) b (omega arith)) hl hj)
-    (λ a. put-low ω μ a (off Q) (size ω Q) (I .own-hi) j x) k)
+-- the stores of E join, and its line follows, with the history hr
+abbrev pub Follows : Kind → ℕ → ℕ → Bool → Queue → List ℕ → ℕ → ℕ → ℕ → History → Effect → Type 0
+Follows κ w ω δ Q μ lo hi g hr E =
+    Owed κ w δ (view ω Q μ lo hi) g hr (E .stores) × OwnerOk κ (sight κ ω (E .stores) Q μ lo hi) (tags (E .stores) g) hr (E .line)
+
+abbrev pub Next : Kind → ℕ → ℕ → Bool → ℕ → Queue → List ℕ → ℕ → ℕ → ℕ → History → Line → Effect → Type 0
+Next κ w ω δ y Q μ lo hi g h o E =
+    Follows κ w ω δ Q μ lo hi g (event-of ω δ y (step 0) o (E .answer) ∷ h) E × GoodEvent δ (event-of ω δ y (step 0) o (E .answer)) h
+
+-- a word that a put writes at the top of the owner's window
+put-store : (κ : Kind) (w ω : ℕ) (δ : Bool) (Q : Queue) (μ : List ℕ) (lo hi g : ℕ) (hr : History) (s j x : ℕ) (o′ : Line) → s ≡ hi % size ω Q → j < ω + 1 → hi < lo + size ω Q
+    → OwnerOk κ (view ω Q (put-word ω μ (off Q) (size ω Q) hi j x) lo hi) g hr o′ → Follows κ w ω δ Q μ lo hi g hr (eff (StoreWord (Q .published - 1) s j x ∷ []) o′ GoesOn)
+unfolding put-word
+put-store κ w ω δ Q μ lo hi g hr s j x o′ e hj l k =
+    (((omega arith, apart), tt), subst (λ (b : ℕ). OwnerOk κ (view ω Q (set μ (off Q + (ω + 1) * b + j) x) lo hi) g hr o′) (sym e) k)
+  where
+    apart : (i j′ : ℕ) → lo ≤ i → i < hi → j′ < ω + 1 → addr ω (off Q) (size ω Q) i j′ ≢ off Q + (ω + 1) * s + j
+    apart i j′ p q r =
+        subst (λ (b : ℕ). addr ω (off Q) (size ω Q) i j′ ≢ off Q + (ω + 1) * b + j) (sym e)
+        (omega (arith, slots-apart (ω + 1) (i % size ω Q) (hi % size ω Q) j′ j (slot-ne i hi (size ω Q) q (omega arith)) r hj))
 
 -- after word j, the next one or the last line
-put-on : (κ : Kind) (w ω : ℕ) (Q : Queue) (μ : List ℕ) (φ : ℕ → Line) (h : History) (t : Task) (r : Anchor) (j : ℕ) (x : Bool) → eqb j ω ≡ x → (I : Inv κ w ω Q μ (PutWord t r j) φ h)
-    → OwnerOk κ (view ω Q (put-word ω μ (off Q) (size ω Q) (I .own-hi) j (wordIn t j)) (I .own-lo) (I .own-hi)) (Q .anchor .tag) (quiet ∷ h)
-    (if x then PutFinish t r else PutWord t r (j + 1))
+put-on : (κ : Kind) (ω : ℕ) (Q : Queue) (μ : List ℕ) (lo hi g : ℕ) (h : History) (t : Task) (r : Anchor) (j : ℕ) (x : Bool) → eqb j ω ≡ x → Facts κ ω Q μ lo hi g h → OwnerOk κ (view ω Q μ lo hi) g h (PutWord t r j)
+    → OwnerOk κ (view ω Q (put-word ω μ (off Q) (size ω Q) hi j (wordIn t j)) lo hi) g (quiet ∷ h) (if x then PutFinish t r else PutWord t r (j + 1))
 unfolding if_then_else_
-put-on κ w ω Q μ φ h t r j x e I = go x e
+put-on κ ω Q μ lo hi g h t r j x e F I = go x e
   where
     v′ : View
-    v′ = view ω Q (put-word ω μ (off Q) (size ω Q) (I .own-hi) j (wordIn t j)) (I .own-lo) (I .own-hi)
+    v′ = view ω Q (put-word ω μ (off Q) (size ω Q) hi j (wordIn t j)) lo hi
 
     written : Written v′ (j + 1) t
     written k l = pick (le-or-lt j k)
       where
-        pick : (j ≤ k) ⊎ (k < j) → word v′ (I .own-hi) k ≡ wordIn t k
-        pick (inr b) = put-twin ω μ (off Q) (size ω Q) (I .own-hi) j k _ (omega arith) ∙ I .own .1 .4 k b
-        pick (inl b) = rw is (put-same ω μ (off Q) (size ω Q) (I .own-hi) j _ (size-pos (I .sized)) (omega (arith, I .own .1 .3)) (I .room))
+        pick : (j ≤ k) ⊎ (k < j) → word v′ hi k ≡ wordIn t k
+        pick (inr b) = put-twin ω μ (off Q) (size ω Q) hi j k _ (omega arith) ∙ I .1 .4 k b
+        pick (inl b) = rw is (put-same ω μ (off Q) (size ω Q) hi j _ (size-pos (F .sized)) (omega (arith, I .1 .3)) (F .room))
           where
             is : k ≡ j
             is = omega arith
 
-    go : (x : Bool) → eqb j ω ≡ x → OwnerOk κ v′ (Q .anchor .tag) (quiet ∷ h) (if x then PutFinish t r else PutWord t r (j + 1))
+    go : (x : Bool) → eqb j ω ≡ x → OwnerOk κ v′ g (quiet ∷ h) (if x then PutFinish t r else PutWord t r (j + 1))
     go true e = (
-      begun-later quiet tt (I .own .0),
+      begun-later quiet tt (I .0),
       (
-        I .own .1 .0,
-        I .own .1 .1,
-        I .own .1 .2,
-        same-words (ω + 1) _ _ (λ k l. written k (omega (arith, eqb-true j ω e))) ∙ I .own .0 .cut,
+        I .1 .0,
+        I .1 .1,
+        I .1 .2,
+        same-words (ω + 1) _ _ (λ k l. written k (omega (arith, eqb-true j ω e))) ∙ I .0 .cut,
       ),
     )
     go false e = (
-      begun-later quiet tt (I .own .0),
-      (I .own .1 .0, I .own .1 .1, I .own .1 .2, omega (arith, I .own .1 .3, eqb-false j ω e), written),
+      begun-later quiet tt (I .0),
+      (I .1 .0, I .1 .1, I .1 .2, omega (arith, I .1 .3, eqb-false j ω e), written),
     )
 
--- put: the last line
-put-end : (κ : Kind) (w ω : ℕ) (Q : Queue) (μ : List ℕ) (φ : ℕ → Line) (h : History) (t : Task) (r r′ : Anchor) (A : ℕ) (I : Inv κ w ω Q μ (PutFinish t r) φ h)
-    → I .own-lo ≤ A → A ≤ I .lo → StandsFor κ r′ A (I .own-hi + 1) → Grow κ (view ω Q μ (I .own-lo) (I .own-hi)) (view ω Q μ (I .own-lo) (I .own-hi + 1)) → r′ .tag ≡ tagAfter κ w (Q .anchor .tag) → r′ .tag < 2 ^ w
-    → Order κ (view ω Q μ (I .own-lo) (I .own-hi + 1)) A (finished-put t ∷ h)
-    → Inv κ w ω (anchored Q r′) μ Idle φ (finished-put t ∷ h)
-put-end κ w ω Q μ φ h t r r′ A I l u R G eg lg O =
-    record {
-      lo = A;
-      hi = I .own-hi + 1;
-      own-lo = I .own-lo;
-      own-hi = I .own-hi + 1;
-      rep = R;
-      tops = tops-refl κ (I .own-hi + 1);
-      core = core-put t A (I .core) (I .own .1 .2) l u (I .own .1 .3);
-      order = O;
-      sized = I .sized;
-      room = I .room;
-      tag = lg;
-      own = tt;
-      th = λ i.
-          thief-holds (rw eg (move-put t (frame-same (view ω Q μ (I .own-lo) (I .own-hi)) (I .own-lo) (I .own-hi + 1) (omega arith)) G)) (φ i) (I .th i);
-    }
-
-put-finish : (κ : Kind) (w ω : ℕ) (Q : Queue) (μ : List ℕ) (φ : ℕ → Line) (h : History) (t : Task) (r : Anchor) → Inv κ w ω Q μ (PutFinish t r) φ h
-    → Inv κ w ω (anchored Q (afterPut κ w (Q .anchor) r)) μ Idle φ (finished-put t ∷ h)
-put-finish Lifo w ω Q μ φ h t r I =
-    put-end Lifo w ω Q μ φ h t r _ (I .own-lo) I (omega arith) (I .core .low)
-    (I .own .1 .0 .0, I .own .1 .0 .1, omega (arith, I .own .1 .0 .2)) tt (rw (I .own .1 .1)) (mod-lt (r .tag + 1) (pow-pos w)) tt
-put-finish Fifo w ω Q μ φ h t r I =
-    put-end Fifo w ω Q μ φ h t r _ (I .lo) I (I .core .low) (omega arith) (I .rep .0, omega (arith, I .own .1 .0 .1)) (omega arith)
-    refl (I .tag) (rising-put t (I .own .0 .newer) (I .core .whole) (sym (number-gathered ω _) ∙ ap (λ (u : Task). u .number) (I .own .1 .3)) (I .order))
-put-finish Deque w ω Q μ φ h t r I =
-    put-end Deque w ω Q μ φ h t r _ (I .own-lo) I (omega arith) (I .core .low) (I .own .1 .0 .0, omega (arith, I .own .1 .0 .1)) tt
-    (rw (I .own .1 .1)) (mod-lt (r .tag + 1) (pow-pos w)) tt
-
--- take: lines 1 (and 2 in FIFO)
-take-read : (κ : Kind) (w ω : ℕ) (Q : Queue) (μ : List ℕ) (φ : ℕ → Line) (h : History) → Inv κ w ω Q μ TakeRead φ h → Kept κ w ω φ h TakeRead (lineLeft κ w ω Q μ 0 TakeRead)
-unfolding lineLeft
-take-read Lifo w ω Q μ φ h I = (own-read Lifo w ω Q μ φ h TakeRead (TakeTest (Q .anchor)) (line-1 0) tt (λ k. omega arith) I (I .rep, refl, emp-now 0 (I .core), List·Memᴰ·head refl), tt)
-take-read Fifo w ω Q μ φ h I = (own-read Fifo w ω Q μ φ h TakeRead (TakeTail (Q .anchor .head)) (line-1 0) tt (λ k. omega arith) I (tt, I .rep .0, emp-now 0 (I .core), List·Memᴰ·head refl), tt)
-take-read Deque w ω Q μ φ h I = (own-read Deque w ω Q μ φ h TakeRead (TakeTest (Q .anchor)) (line-1 0) tt (λ k. omega arith) I (I .rep, refl, emp-now 0 (I .core), List·Memᴰ·head refl), tt)
-
-take-tail : (κ : Kind) (w ω : ℕ) (Q : Queue) (μ : List ℕ) (φ : ℕ → Line) (h : History) (a : ℕ) → Inv κ w ω Q μ (TakeTail a) φ h → Inv κ w ω Q μ (TakeTest (anchor a (Q .anchor .count) (Q .anchor .tag))) φ (quiet ∷ h)
-take-tail Lifo w ω Q μ φ h a I = absurd (I .own .0)
-take-tail Fifo w ω Q μ φ h a I =
-    own-same Fifo w ω Q μ φ h (TakeTail a) (TakeTest (anchor a (Q .anchor .count) (Q .anchor .tag))) quiet tt (λ k. tt) I
-    ((I .own .1, sym (I .tops) ∙ I .rep .1), refl, (λ e t d. later quiet (I .own .2 e t d)), List·Memᴰ·tail (I .own .3))
-take-tail Deque w ω Q μ φ h a I = absurd (I .own .0)
-
-take-test : (κ : Kind) (w ω : ℕ) (Q : Queue) (μ : List ℕ) (φ : ℕ → Line) (h : History) (r : Anchor) (x : Bool) → isEmpty κ r ≡ x → Inv κ w ω Q μ (TakeTest r) φ h
-    → Kept κ w ω φ h (TakeTest r) (if x then eff Q μ Idle (Empty 0) else eff Q μ (TakeWord r noTask 0) GoesOn)
+-- X2: the indices from lo up are noted, q of them
+noted-x2 : (κ : Kind) (v : View) (g : ℕ) (h : History) (t : Task) (a q lo : ℕ) (x : Bool) → eqb q 0 ≡ x → Begun (v .words) t h
+    → Claimed v → Start κ a lo → lo ≤ v .own-lo → v .own-hi ≤ lo + q → q ≤ v .slots → OwnerOk κ v g h (if x then Publish t else Copy t a q 0)
 unfolding if_then_else_
-take-test κ w ω Q μ φ h r true e I =
-    (own-same κ w ω Q μ φ h (TakeTest r) Idle (found-empty 0) tt (λ k. tt) I tt, (I .own .3, I .own .2 (empty-yes κ r (I .own-lo) (I .own-hi) (I .own .0) e)))
-take-test κ w ω Q μ φ h r false e I = (
-  own-same κ w ω Q μ φ h (TakeTest r) (TakeWord r noTask 0) quiet tt (λ k. tt) I
-      (I .own .0, I .own .1, empty-no κ r (I .own-lo) (I .own-hi) (I .own .0) (omega (arith, I .core .low, I .core .mid, I .core .high)) e, omega arith, no-words _),
-  tt,
-)
+noted-x2 κ v g h t a q lo true e B C S l u f = (B, C, λ i j b c d. absurd (omega (arith, eqb-true q 0 e)))
+noted-x2 κ v g h t a q lo false e B C S l u f =
+    (B, C, record { from = lo; start = S; low = l; high = u; few = f; more = omega (arith, eqb-false q 0 e); copied = λ i j b c d. absurd (omega arith) })
+
+-- X3: n words of a task are copied, into the array behind
+copyTo : ℕ → Queue → List ℕ → ℕ → ℕ → List ℕ
+copyTo ω Q μ k zero = μ
+copyTo ω Q μ k (suc n) = put-word ω (copyTo ω Q μ k n) (off Q + (ω + 1) * size ω Q) (2 * size ω Q) k n (cell ω μ (off Q) (size ω Q) k n)
+
+copy-same : (ω : ℕ) (Q : Queue) (μ : List ℕ) (k n i j : ℕ) → 0 < size ω Q → j < ω + 1 → cell ω (copyTo ω Q μ k n) (off Q) (size ω Q) i j ≡ cell ω μ (off Q) (size ω Q) i j
+unfolding copyTo
+copy-same ω Q μ k zero i j hz hj = refl
+copy-same ω Q μ k (suc n) i j hz hj = put-above ω _ (off Q) (size ω Q) i j _ _ k n _ hz hj (omega arith) ∙ copy-same ω Q μ k n i j hz hj
+
+copy-length : (ω : ℕ) (Q : Queue) (μ : List ℕ) (k n : ℕ) → length (copyTo ω Q μ k n) ≡ length μ
+unfolding copyTo
+copy-length ω Q μ k zero = refl
+copy-length ω Q μ k (suc n) = put-length ω _ _ _ _ _ _ ∙ copy-length ω Q μ k n
+
+copy-low : (ω : ℕ) (Q : Queue) (μ : List ℕ) (k n a : ℕ) → a < off Q → getD (copyTo ω Q μ k n) a 0 ≡ getD μ a 0
+unfolding copyTo
+copy-low ω Q μ k zero a l = refl
+copy-low ω Q μ k (suc n) a l = put-low ω _ a _ _ _ _ _ (omega arith) ∙ copy-low ω Q μ k n a l
+
+copy-here : (ω : ℕ) (Q : Queue) (μ : List ℕ) (k n j : ℕ) → 0 < size ω Q → n ≤ ω + 1 → j < n → off Q + 3 * ((ω + 1) * size ω Q) ≤ length μ
+    → cell ω (copyTo ω Q μ k n) (off Q + (ω + 1) * size ω Q) (2 * size ω Q) k j ≡ cell ω μ (off Q) (size ω Q) k j
+unfolding copyTo
+copy-here ω Q μ k zero j hz hn hj l = absurd (omega arith)
+copy-here ω Q μ k (suc n) j hz hn hj l = go (le-or-lt n j) (λ h. copy-here ω Q μ k n j hz (omega arith) h l)
+  where
+    go : (n ≤ j) ⊎ (j < n) → (j < n → cell ω (copyTo ω Q μ k n) (off Q + (ω + 1) * size ω Q) (2 * size ω Q) k j ≡ cell ω μ (off Q) (size ω Q) k j)
+        → cell ω (copyTo ω Q μ k (suc n)) (off Q + (ω + 1) * size ω Q) (2 * size ω Q) k j ≡ cell ω μ (off Q) (size ω Q) k j
+    go (inr h) f = put-twin ω _ _ _ k n j _ (omega arith) ∙ f h
+    go (inl h) f = rw is (put-same ω _ _ (2 * size ω Q) k n _ (omega arith) (omega arith) (omega (arith, copy-length ω Q μ k n)))
+      where
+        is : j ≡ n
+        is = omega arith
+
+-- another slot
+copy-other : (ω : ℕ) (Q : Queue) (μ : List ℕ) (k n i j : ℕ) → i % (2 * size ω Q) ≢ k % (2 * size ω Q) → n ≤ ω + 1 → j < ω + 1
+    → cell ω (copyTo ω Q μ k n) (off Q + (ω + 1) * size ω Q) (2 * size ω Q) i j ≡ cell ω μ (off Q + (ω + 1) * size ω Q) (2 * size ω Q) i j
+unfolding copyTo
+copy-other ω Q μ k zero i j ne hn hj = refl
+copy-other ω Q μ k (suc n) i j ne hn hj = put-other ω _ _ (2 * size ω Q) i j k n _ ne hj (omega arith) ∙ copy-other ω Q μ k n i j ne (omega arith) hj
+
+-- the slots stand for the index
+copy-is : (κ : Kind) (ω : ℕ) (Q : Queue) (μ : List ℕ) (i k n : ℕ) → offsetAt (Q .arrays) (Q .published) ≡ off Q + (ω + 1) * size ω Q
+    → sizeAt ω (Q .arrays) (Q .published) ≡ 2 * size ω Q → slot κ (size ω Q) i ≡ k % size ω Q → slot κ (2 * size ω Q) i ≡ k % (2 * size ω Q)
+    → words ω (Q .arrays) (copyWords κ ω Q μ i n) μ ≡ copyTo ω Q μ k n
+unfolding copyTo put-word
+copy-is κ ω Q μ i k zero eb ez e e′ = refl
+copy-is κ ω Q μ i k (suc n) eb ez e e′ =
+    words-join ω (Q .arrays) (copyWords κ ω Q μ i n) _ μ ∙ rw (eb, ez, copy-is κ ω Q μ i k n eb ez e e′, word-W ω μ (off Q) (size ω Q) _ k n e, e′)
+
+-- the indices from lo up to hi, then one more
+copy-more : (ω : ℕ) (Q : Queue) (μ : List ℕ) (own-lo own-hi lo hi : ℕ) → 0 < size ω Q → Claimed (view ω Q μ own-lo own-hi) → hi < lo + size ω Q → Copied (view ω Q μ own-lo own-hi) lo hi
+    → Copied (view ω Q (copyTo ω Q μ hi (ω + 1)) own-lo own-hi) lo (suc hi)
+copy-more ω Q μ own-lo own-hi lo hi hz R hk C i j p q hj = go (le-or-lt hi i) ∙ sym (copy-same ω Q μ hi (ω + 1) i j hz hj)
+  where
+    go : (hi ≤ i) ⊎ (i < hi) → cell ω (copyTo ω Q μ hi (ω + 1)) (off Q + (ω + 1) * size ω Q) (2 * size ω Q) i j ≡ cell ω μ (off Q) (size ω Q) i j
+    go (inr a) = copy-other ω Q μ hi (ω + 1) i j (slot-ne i hi (2 * size ω Q) a (omega arith)) (omega arith) hj ∙ C i j p a hj
+    go (inl a) = rw same (copy-here ω Q μ hi (ω + 1) j hz (omega arith) hj (R .0))
+      where
+        same : i ≡ hi
+        same = omega arith
+
+-- words change nothing of what the owner reads but the store
+sight-words : (κ : Kind) (ω : ℕ) (ss : List Store) (Q : Queue) (μ : List ℕ) (lo hi : ℕ) → AllWords ss → sight κ ω ss Q μ lo hi ≡ view ω Q (words ω (Q .arrays) ss μ) lo hi
+sight-words κ ω ss Q μ lo hi a =
+    rw (same-places ss (Q .published) a, words-keep (λ (l : List Store). los l lo) (λ b s j x l. refl) ss a, words-keep (λ (l : List Store). his κ l lo hi) (λ b s j x l. refl) ss a)
+
+same-tags : (ss : List Store) (g : ℕ) → AllWords ss → tags ss g ≡ g
+same-tags ss g a = words-keep (λ (l : List Store). tags l g) (λ b s j x l. refl) ss a
+
+module _ (w ω : ℕ) (δ : Bool) (y : ℕ) (Q : Queue) (μ : List ℕ) (lo hi g : ℕ) (h : History) where
+  v : View
+  v = view ω Q μ lo hi
+
+  put-read : (κ : Kind) (t : Task) → Facts κ ω Q μ lo hi g h → Seen κ Q lo hi h → OwnerOk κ (view ω Q μ lo hi) g h (PutRead t) → Next κ w ω δ y Q μ lo hi g h (PutRead t) (lineStep κ w ω Q μ 0 (PutRead t))
+  unfolding lineStep
+  put-read Lifo t F X k = ((tt, (begun-later quiet tt k, (X .exact, F .tagged))), tt)
+  put-read Fifo t F X k = ((tt, (begun-later quiet tt k, (tt, X .exact .0))), tt)
+  put-read Deque t F X k = ((tt, (begun-later quiet tt k, (X .exact, F .tagged))), tt)
+
+  put-tail : (κ : Kind) (t : Task) (a : ℕ) → Facts κ ω Q μ lo hi g h → OwnerOk κ (view ω Q μ lo hi) g h (PutTail t a)
+      → Next κ w ω δ y Q μ lo hi g h (PutTail t a) (goes (PutTest t (anchor a (Q .anchor .count) (Q .anchor .tag))))
+  put-tail Lifo t a F k = absurd (k .1 .0)
+  put-tail Fifo t a F k = ((tt, (begun-later quiet tt (k .0), ((k .1 .1, F .topped tt), F .tagged))), tt)
+  put-tail Deque t a F k = absurd (k .1 .0)
+
+  put-test : (κ : Kind) (t : Task) (r : Anchor) (x : Bool) → isFull κ (size ω Q) r ≡ x → Facts κ ω Q μ lo hi g h → OwnerOk κ (view ω Q μ lo hi) g h (PutTest t r)
+      → Next κ w ω δ y Q μ lo hi g h (PutTest t r) (goes (if x then Claim t else PutWord t r 0))
+  unfolding if_then_else_
+  put-test κ t r true e F k = ((tt, begun-later quiet tt (k .0)), tt)
+  put-test κ t r false e F k = ((tt, (begun-later quiet tt (k .0), (k .1 .0, k .1 .1, full-no κ (size ω Q) r lo hi (k .1 .0) (F .fit) e, omega arith, λ j l. absurd (omega arith)))), tt)
+
+  -- put: the last line
+  pub put-fits : (κ : Kind) (t : Task) (r : Anchor) (hr : History) → OwnerOk κ (view ω Q μ lo hi) g h (PutFinish t r) → Answered δ (taskAt (view ω Q μ lo hi) hi) hr
+      → Fits κ w δ (view ω Q μ lo hi) g hr (putStore κ w r)
+  put-fits Lifo t r hr k A = (tt, (k .1 .0 .0, k .1 .0 .1, omega (arith, k .1 .0 .2)), ap (λ (x : ℕ). (x + 1) % 2 ^ w) (k .1 .1), (k .1 .2, A))
+  put-fits Fifo t r hr k A = (tt, omega (arith, k .1 .0 .1), (k .1 .2, A))
+  put-fits Deque t r hr k A = (tt, (k .1 .0 .0, omega (arith, k .1 .0 .1)), ap (λ (x : ℕ). (x + 1) % 2 ^ w) (k .1 .1), (k .1 .2, A))
+
+  -- X2
+  note-x2 : (κ : Kind) (t : Task) → Facts κ ω Q μ lo hi g h → Seen κ Q lo hi h → OwnerOk κ (view ω Q μ lo hi) g h (Note t) → Next κ w ω δ y Q μ lo hi g h (Note t) (lineStep κ w ω Q μ 0 (Note t))
+  unfolding lineStep
+  note-x2 Lifo t F X k =
+      ((tt, noted-x2 Lifo (view ω Q μ lo hi) g (quiet ∷ h) t 0 (size ω Q) 0 (eqb (size ω Q) 0) refl (begun-later quiet tt (k .0)) (k .1) (refl, refl) (omega arith) (omega (arith, F .fit, X .exact .1)) (omega arith)), tt)
+  note-x2 Fifo t F X k = (
+    (
+      tt,
+      noted-x2 Fifo (view ω Q μ lo hi) g (quiet ∷ h) t (Q .anchor .head) (Q .anchor .count - Q .anchor .head) lo (eqb (Q .anchor .count - Q .anchor .head) 0) refl (begun-later quiet tt (k .0)) (k .1) (sym (X .exact .0)) (omega arith)
+          (omega (arith, X .exact .0, X .exact .1, F .mid)) (omega (arith, X .exact .0, X .exact .1, F .fit, F .mid)),
+    ),
+    tt,
+  )
+  note-x2 Deque t F X k = (
+    (
+      tt,
+      noted-x2 Deque (view ω Q μ lo hi) g (quiet ∷ h) t (Q .anchor .head) (Q .anchor .count) lo (eqb (Q .anchor .count) 0) refl (begun-later quiet tt (k .0)) (k .1) (X .exact .0) (omega arith)
+          (omega (arith, X .exact .1)) (omega (arith, X .exact .1, F .fit)),
+    ),
+    tt,
+  )
+
+  -- X3
+  copy-x3 : (κ : Kind) (t : Task) (a q k : ℕ) (x : Bool) → eqb (k + 1) q ≡ x → Facts κ ω Q μ lo hi g h → OwnerOk κ (view ω Q μ lo hi) g h (Copy t a q k)
+      → Next κ w ω δ y Q μ lo hi g h (Copy t a q k) (eff (copyWords κ ω Q μ (a + k) (ω + 1)) (if x then Publish t else Copy t a q (k + 1)) GoesOn)
+  unfolding if_then_else_
+  copy-x3 κ t a q k x e F (Bg, R, C) =
+      ((owes (ω + 1) (omega arith), subst₂ (λ (u : View) (x′ : ℕ). OwnerOk κ u x′ (quiet ∷ h) (if x then Publish t else Copy t a q (k + 1))) (sym seen) (sym (same-tags (copyWords κ ω Q μ (a + k) (ω + 1)) g (some (ω + 1)))) (go x e)), tt)
+    where
+      f : ℕ
+      f = C .from
+
+      hz : 0 < size ω Q
+      hz = size-pos (F .sized)
+
+      some : (n : ℕ) → AllWords (copyWords κ ω Q μ (a + k) n)
+      some = copy-words κ ω Q μ (a + k)
+
+      at-k : words ω (Q .arrays) (copyWords κ ω Q μ (a + k) (ω + 1)) μ ≡ copyTo ω Q μ (f + k) (ω + 1)
+      at-k =
+          copy-is κ ω Q μ (a + k) (f + k) (ω + 1) (R .2) (R .3) (start-ix (F .sized) κ a f k (omega (arith, C .few, C .more)) (C .start))
+          (start-ix (size-twice (F .sized) (R .1)) κ a f k (omega (arith, C .few, C .more)) (C .start))
+
+      v′ : View
+      v′ = view ω Q (copyTo ω Q μ (f + k) (ω + 1)) lo hi
+
+      seen : sight κ ω (copyWords κ ω Q μ (a + k) (ω + 1)) Q μ lo hi ≡ v′
+      seen = sight-words κ ω (copyWords κ ω Q μ (a + k) (ω + 1)) Q μ lo hi (some (ω + 1)) ∙ ap (λ (m : List ℕ). view ω Q m lo hi) at-k
+
+      above : (s n : ℕ) → n < ω + 1 → Clear (view ω Q μ lo hi) (offsetAt (Q .arrays) (Q .published) + (ω + 1) * s + n)
+      above s n l = (omega (arith, R .2), λ i j p q r. omega (arith, R .2, addr-in ω (off Q) (size ω Q) i j hz r))
+
+      owes : (n : ℕ) → n ≤ ω + 1 → Owed κ w δ (view ω Q μ lo hi) g (quiet ∷ h) (copyWords κ ω Q μ (a + k) n)
+      owes zero l = tt
+      owes (suc n) l =
+          owed-join κ w ω δ Q μ lo hi g (quiet ∷ h) (copyWords κ ω Q μ (a + k) n) _ (owes n (omega arith))
+          (subst (λ (u : View). Owed κ w δ u (tags (copyWords κ ω Q μ (a + k) n) g) (quiet ∷ h) (writeWord κ ω Q (Q .published) (a + k) n (wordOf κ ω Q μ (Q .published - 1) (a + k) n) ∷ []))
+          (sym (sight-words κ ω (copyWords κ ω Q μ (a + k) n) Q μ lo hi (some n))) (above _ n (omega arith), tt))
+
+      D : Copied v′ f (suc (f + k))
+      D = copy-more ω Q μ lo hi f (f + k) hz R (omega (arith, C .few, C .more)) (C .copied)
+
+      room : Claimed v′
+      room = (omega (arith, copy-length ω Q μ (f + k) (ω + 1), R .0), R .1, R .2, R .3, R .4)
+
+      go : (x : Bool) → eqb (k + 1) q ≡ x → OwnerOk κ v′ g (quiet ∷ h) (if x then Publish t else Copy t a q (k + 1))
+      go true e = (begun-later quiet tt Bg, room, λ i j b c hj. D i j (omega (arith, C .low)) (omega (arith, C .high, eqb-true (k + 1) q e)) hj)
+      go false e = (
+        begun-later quiet tt Bg,
+        room,
+        record {
+          from = f;
+          start = C .start;
+          low = C .low;
+          high = C .high;
+          few = C .few;
+          more = omega (arith, C .more, eqb-false (k + 1) q e);
+          copied = λ i j b c hj. D i j b (omega arith) hj;
+        },
+      )
+
+  -- take
+  emptied : (lo ≡ hi → (t : Task) → Told t h → Out t h) → lo ≡ hi → Emptied 0 (line-1 0 ∷ h)
+  emptied X e t d = later (line-1 0) (X e t (subst (Told t) (cut-now 0 h) d))
+
+  take-read : (κ : Kind) → Facts κ ω Q μ lo hi g h → Seen κ Q lo hi h → Next κ w ω δ y Q μ lo hi g h TakeRead (lineStep κ w ω Q μ 0 TakeRead)
+  unfolding lineStep
+  take-read Lifo F X = ((tt, (X .exact, F .tagged, emptied (X .empty), List·Memᴰ·head refl)), tt)
+  take-read Fifo F X = ((tt, (tt, X .exact .0, emptied (X .empty), List·Memᴰ·head refl)), tt)
+  take-read Deque F X = ((tt, (X .exact, F .tagged, emptied (X .empty), List·Memᴰ·head refl)), tt)
+
+  take-tail : (κ : Kind) (a : ℕ) → Facts κ ω Q μ lo hi g h → OwnerOk κ (view ω Q μ lo hi) g h (TakeTail a) → Next κ w ω δ y Q μ lo hi g h (TakeTail a) (goes (TakeTest (anchor a (Q .anchor .count) (Q .anchor .tag))))
+  take-tail Lifo a F k = absurd (k .0)
+  take-tail Fifo a F k = ((tt, ((k .1, F .topped tt), F .tagged, (λ e. emp-keep 0 h quiet tt (k .2 e)), List·Memᴰ·tail (k .3))), tt)
+  take-tail Deque a F k = absurd (k .0)
+
+  take-test : (κ : Kind) (r : Anchor) (x : Bool) → isEmpty κ r ≡ x → Facts κ ω Q μ lo hi g h → OwnerOk κ (view ω Q μ lo hi) g h (TakeTest r)
+      → Next κ w ω δ y Q μ lo hi g h (TakeTest r) (if x then eff [] Idle (Empty 0) else goes (TakeWord r noTask 0))
+  unfolding if_then_else_
+  take-test κ r true e F k = ((tt, tt), (k .3, k .2 (empty-yes κ r lo hi (k .0) e)))
+  take-test κ r false e F k = ((tt, (k .0, k .1, empty-no κ r lo hi (k .0) (F .mid) e, omega arith, no-words _)), tt)
+
+  take-finish : (κ : Kind) (r : Anchor) (t : Task) → Facts κ ω Q μ lo hi g h → OwnerOk κ (view ω Q μ lo hi) g h (TakeFinish r t) → Next κ w ω δ y Q μ lo hi g h (TakeFinish r t) (lineStep κ w ω Q μ 0 (TakeFinish r t))
+  unfolding lineStep
+  take-finish Lifo r t F k =
+      ((((tt, (k .0 .0, k .0 .1, omega (arith, k .0 .2)), k .1, k .2, (0, List·Memᴰ·head {x = handed-out 0 t} (rw (k .3)))), tt), tt), rw (k .3) (F .whole (hi - 1) (omega (arith, k .2)) (omega (arith, k .2))))
+  take-finish Fifo r t F k =
+      ((((tt, omega (arith, k .0 .0), k .2, (0, List·Memᴰ·head {x = handed-out 0 t} (rw (k .3)))), tt), tt), rw (k .3) (F .whole lo (omega arith) (k .2)))
+  take-finish Deque r t F k =
+      ((((tt, (k .0 .0, omega (arith, k .0 .1, k .2)), k .1, k .2, (0, List·Memᴰ·head {x = handed-out 0 t} (rw (k .3)))), tt), tt), rw (k .3) (F .whole (hi - 1) (omega (arith, k .2)) (omega (arith, k .2))))
 
 -- take: word j is read
 take-on : (κ : Kind) (ω : ℕ) (v : View) (g : ℕ) (h : History) (r : Anchor) (t : Task) (x j : ℕ) (b : Bool) → eqb j ω ≡ b → ω ≤ 4 → v .words ≡ ω → OwnerOk κ v g h (TakeWord r t j)
@@ -175,97 +358,45 @@ take-on κ ω v g h r t x j true e wide q (R, G, l, u, T) is =
     (R, G, l, next-is j t x _ T is (omega arith) ∙ ap (λ (n : ℕ). gathered (n + 1) (word v (taken-ix κ (v .own-lo) (v .own-hi)))) (eqb-true j ω e ∙ sym q))
 take-on κ ω v g h r t x j false e wide q (R, G, l, u, T) is = (R, G, l, omega (arith, eqb-false j ω e), next-is j t x _ T is (omega arith))
 
--- take: the last line. The window comes to be [A, C)
-take-end : (κ : Kind) (w ω : ℕ) (Q : Queue) (μ : List ℕ) (φ : ℕ → Line) (h : History) (r : Anchor) (t : Task) (r′ : Anchor) (A C : ℕ) (I : Inv κ w ω Q μ (TakeFinish r t) φ h)
-    → I .own-lo ≤ A → A ≤ C → C ≤ I .own-hi
-    → ((i : ℕ) → I .own-lo ≤ i → i < I .own-hi → (i < A) ⊎ (C ≤ i) → i ≡ taken-ix κ (I .own-lo) (I .own-hi))
-    → StandsFor κ r′ A C → Grow κ (view ω Q μ (I .own-lo) (I .own-hi)) (view ω Q μ A C) → r′ .tag ≡ Q .anchor .tag
-    → Order κ (view ω Q μ A C) A (handed-out 0 t ∷ h)
-    → Inv κ w ω (anchored Q r′) μ Idle φ (handed-out 0 t ∷ h)
-take-end κ w ω Q μ φ h r t r′ A C I l m u only R G eg O =
-    record {
-      lo = A;
-      hi = C;
-      own-lo = A;
-      own-hi = C;
-      rep = R;
-      tops = tops-refl κ C;
-      core = core-window (handed-out 0 t) A C A C tt (I .core) l (omega arith) m (omega arith) u leave;
-      order = O;
-      sized = I .sized;
-      room = I .room;
-      tag = omega (arith, I .tag);
-      own = tt;
-      th = λ i.
-          thief-holds (rw eg (move-calm (handed-out 0 t) tt (frame-same (view ω Q μ (I .own-lo) (I .own-hi)) A C l) G u)) (φ i) (I .th i);
-    }
-  where
-    leave : (i : ℕ) → I .lo ≤ i → i < I .hi → (i < A) ⊎ (C ≤ i)
-        → Out (taskAt (view ω Q μ (I .own-lo) (I .own-hi)) i) (handed-out 0 t ∷ h)
-    leave i p q z = (0, List·Memᴰ·head {x = handed-out 0 t} (rw (only i (omega (arith, I .core .low)) (omega (arith, I .core .high)) z, I .own .3)))
+-- X1 that answers FULL
+claim-full : (κ : Kind) (w ω : ℕ) (δ : Bool) (y : ℕ) (Q : Queue) (μ : List ℕ) (lo hi g : ℕ) (h : History) (t : Task) (x : Bool)
+    → (if x then record { claims = true; stores = []; line = Note t; answer = GoesOn } else eff [] Idle (Full 0 t)) .claims ≡ false
+    → Next κ w ω δ y Q μ lo hi g h (Claim t) (if x then record { claims = true; stores = []; line = Note t; answer = GoesOn } else eff [] Idle (Full 0 t))
+unfolding if_then_else_
+claim-full κ w ω δ y Q μ lo hi g h t true f = absurd (let z : _≡_ {A = ℕ} 0 1 = cc in omega arith)
+claim-full κ w ω δ y Q μ lo hi g h t false f = ((tt, tt), tt)
 
--- an index that leaves at the upper end, at the lower end
-top-only : (lo hi i : ℕ) → lo ≤ i → i < hi → (i < lo) ⊎ (hi - 1 ≤ i) → i ≡ hi - 1
-top-only lo hi i l u (inl q) = omega arith
-top-only lo hi i l u (inr q) = omega arith
+finish-later : (κ : Kind) (w ω : ℕ) (δ : Bool) (y : ℕ) (Q : Queue) (μ : List ℕ) (lo hi g : ℕ) (h : History) (t : Task) (r : Anchor) → δ ≡ true → OwnerOk κ (view ω Q μ lo hi) g h (PutFinish t r)
+    → Next κ w ω δ y Q μ lo hi g h (PutFinish t r) (lineStep κ w ω Q μ 0 (PutFinish t r))
+unfolding lineStep
+finish-later κ w ω true y Q μ lo hi g h t r e k =
+    (((put-fits w ω true y Q μ lo hi g h κ t r (waiting-put t (y + 1) ∷ h) k (y + 1, List·Memᴰ·head {x = waiting-put t (y + 1)} (rw (k .1 .3))), tt), tt), k .0 .begun)
+finish-later κ w ω false y Q μ lo hi g h t r e k = absurd (let z : _≡_ {A = ℕ} 0 1 = cc in omega arith)
 
-low-only : (lo hi i : ℕ) → lo ≤ i → i < hi → (i < lo + 1) ⊎ (hi ≤ i) → i ≡ lo
-low-only lo hi i l u (inl q) = omega arith
-low-only lo hi i l u (inr q) = omega arith
-
-take-finish : (κ : Kind) (w ω : ℕ) (Q : Queue) (μ : List ℕ) (φ : ℕ → Line) (h : History) (r : Anchor) (t : Task) → Inv κ w ω Q μ (TakeFinish r t) φ h
-    → Inv κ w ω (anchored Q (afterTake κ (Q .anchor) r)) μ Idle φ (handed-out 0 t ∷ h)
-take-finish Lifo w ω Q μ φ h r t I =
-    take-end Lifo w ω Q μ φ h r t _ (I .own-lo) (I .own-hi - 1) I (omega arith) (omega (arith, I .own .2)) (omega arith)
-    (top-only (I .own-lo) (I .own-hi)) (I .own .0 .0, I .own .0 .1, omega (arith, I .own .0 .2)) tt (I .own .1) tt
-take-finish Fifo w ω Q μ φ h r t I =
-    take-end Fifo w ω Q μ φ h r t _ (I .own-lo + 1) (I .own-hi) I (omega arith) (omega (arith, I .own .2)) (omega arith)
-    (low-only (I .own-lo) (I .own-hi)) (omega (arith, I .own .0 .0), sym (I .tops) ∙ I .rep .1) (omega arith) refl
-    (rising-out 0 (I .own-lo) (I .own-lo + 1) t (omega arith) (I .core .low) (I .own .2) (omega arith) (ap (λ (u : Task). u .number) (I .own .3) ∙ number-gathered ω _)
-    (rw (I .own .3) (I .core .whole (I .own-lo) (omega arith) (I .own .2))) (I .order))
-take-finish Deque w ω Q μ φ h r t I =
-    take-end Deque w ω Q μ φ h r t _ (I .own-lo) (I .own-hi - 1) I (omega arith) (omega (arith, I .own .2)) (omega arith)
-    (top-only (I .own-lo) (I .own-hi)) (I .own .0 .0, omega (arith, I .own .0 .1, I .own .2)) tt (I .own .1) tt
-
-taken-in : (κ : Kind) (lo hi : ℕ) → lo < hi → (lo ≤ taken-ix κ lo hi) × (taken-ix κ lo hi < hi)
-taken-in Lifo lo hi l = omega arith
-taken-in Fifo lo hi l = omega arith
-taken-in Deque lo hi l = omega arith
-
-pub own-kept : (κ : Kind) (w ω : ℕ) (Q : Queue) (μ : List ℕ) (φ : ℕ → Line) (h : History) (o : Line) → 0 < Q .published → ω ≤ 4 → len Q ≡ (ω + 1) * size ω Q
-    → (2 * size ω Q ≤ 1024 → Q .published < length (Q .arrays)) → Inv κ w ω Q μ o φ h → Kept κ w ω φ h o (lineLeft κ w ω Q μ 0 o)
-unfolding lineLeft
-own-kept κ w ω Q μ φ h Idle pos wide long roomy I = (own-same κ w ω Q μ φ h Idle Idle quiet tt (λ k. tt) I tt, tt)
-own-kept κ w ω Q μ φ h (PutRead t) pos wide long roomy I = put-read κ w ω Q μ φ h t I
-own-kept κ w ω Q μ φ h (PutTail t a) pos wide long roomy I = (put-tail κ w ω Q μ φ h t a I, tt)
-own-kept κ w ω Q μ φ h (PutTest t r) pos wide long roomy I = put-test κ w ω Q μ φ h t r (isFull κ (size ω Q) r) refl I
-own-kept κ w ω Q μ φ h (PutWord t r j) pos wide long roomy I = (
-  put-store κ w ω Q μ φ h _ j (wordIn t j) (PutWord t r j) _ (omega (arith, I .own .1 .3)) I
-      (put-ix (I .sized) κ r (I .own-lo) (I .own-hi) (I .own .1 .2) (I .own .1 .0)) (I .own .1 .2) (put-on κ w ω Q μ φ h t r j (eqb j ω) refl I),
-  tt,
-)
-own-kept κ w ω Q μ φ h (PutFinish t r) pos wide long roomy I = (put-finish κ w ω Q μ φ h t r I, I .own .0 .begun)
-own-kept κ w ω Q μ φ h (Claim t) pos wide long roomy I = claim κ w ω Q μ φ h t (fits ω Q μ) refl pos long roomy I
-own-kept κ w ω Q μ φ h (Note t) pos wide long roomy I = note-x2 κ w ω Q μ φ h t I
-own-kept κ w ω Q μ φ h (Copy t a q k) pos wide long roomy I = (copy-x3 κ w ω Q μ φ h t a q k (eqb (k + 1) q) refl I, tt)
-own-kept κ w ω Q μ φ h (Publish t) pos wide long roomy I = (publish κ w ω Q μ φ h t I, tt)
-own-kept κ w ω Q μ φ h TakeRead pos wide long roomy I = take-read κ w ω Q μ φ h I
-own-kept κ w ω Q μ φ h (TakeTail a) pos wide long roomy I = (take-tail κ w ω Q μ φ h a I, tt)
-own-kept κ w ω Q μ φ h (TakeTest r) pos wide long roomy I = take-test κ w ω Q μ φ h r (isEmpty κ r) refl I
-own-kept κ w ω Q μ φ h (TakeWord r t j) pos wide long roomy I = (
-  own-same κ w ω Q μ φ h (TakeWord r t j) _ quiet tt (λ k. tt) I
-      (take-on κ ω (view ω Q μ (I .own-lo) (I .own-hi)) (Q .anchor .tag) h r t _ j (eqb j ω) refl wide refl (I .own)
-      (word-W ω μ (off Q) (size ω Q) _ _ j (take-ix (I .sized) κ r (I .own-lo) (I .own-hi) (I .own .2) (I .core .fit) (I .own .0)))),
-  tt,
-)
-own-kept κ w ω Q μ φ h (TakeFinish r t) pos wide long roomy I = (
-  take-finish κ w ω Q μ φ h r t I,
-  rw (I .own .3) (I .core .whole _ (taken-in κ (I .own-lo) (I .own-hi) (I .own .2) .0) (taken-in κ (I .own-lo) (I .own-hi) (I .own .2) .1)),
-)
-own-kept κ w ω Q μ φ h StealRead pos wide long roomy I = absurd (I .own)
-own-kept κ w ω Q μ φ h (StealTail a) pos wide long roomy I = absurd (I .own)
-own-kept κ w ω Q μ φ h (StealTest r) pos wide long roomy I = absurd (I .own)
-own-kept κ w ω Q μ φ h (StealNote r) pos wide long roomy I = absurd (I .own)
-own-kept κ w ω Q μ φ h (StealWord r b t j) pos wide long roomy I = absurd (I .own)
-own-kept κ w ω Q μ φ h (StealNext r t) pos wide long roomy I = absurd (I .own)
-own-kept κ w ω Q μ φ h (StealCompare r e t) pos wide long roomy I = absurd (I .own)
+pub own-next : (κ : Kind) (w ω : ℕ) (δ : Bool) (y : ℕ) (Q : Queue) (μ : List ℕ) (lo hi g : ℕ) (h : History) (o : Line) → ω ≤ 4 → Facts κ ω Q μ lo hi g h → (Looks o → Seen κ Q lo hi h) → OwnerOk κ (view ω Q μ lo hi) g h o
+    → lineStep κ w ω Q μ 0 o .claims ≡ false → ((t : Task) (r : Anchor) → o ≡ PutFinish t r → δ ≡ true) → Next κ w ω δ y Q μ lo hi g h o (lineStep κ w ω Q μ 0 o)
+unfolding lineStep
+own-next κ w ω δ y Q μ lo hi g h Idle wide F X k f d = ((tt, tt), tt)
+own-next κ w ω δ y Q μ lo hi g h (PutRead t) wide F X k f d = put-read w ω δ y Q μ lo hi g h κ t F (X tt) k
+own-next κ w ω δ y Q μ lo hi g h (PutTail t a) wide F X k f d = put-tail w ω δ y Q μ lo hi g h κ t a F k
+own-next κ w ω δ y Q μ lo hi g h (PutTest t r) wide F X k f d = put-test w ω δ y Q μ lo hi g h κ t r (isFull κ (size ω Q) r) refl F k
+own-next κ w ω δ y Q μ lo hi g h (PutWord t r j) wide F X k f d =
+    (put-store κ w ω δ Q μ lo hi g (quiet ∷ h) _ j (wordIn t j) (putOn ω t r j) (put-ix (F .sized) κ r lo hi (k .1 .2) (k .1 .0)) (omega (arith, k .1 .3)) (k .1 .2) (put-on κ ω Q μ lo hi g h t r j (eqb j ω) refl F k), tt)
+own-next κ w ω δ y Q μ lo hi g h (PutFinish t r) wide F X k f d = finish-later κ w ω δ y Q μ lo hi g h t r (d t r refl) k
+own-next κ w ω δ y Q μ lo hi g h (Claim t) wide F X k f d = claim-full κ w ω δ y Q μ lo hi g h t (fits ω Q μ) f
+own-next κ w ω δ y Q μ lo hi g h (Note t) wide F X k f d = note-x2 w ω δ y Q μ lo hi g h κ t F (X tt) k
+own-next κ w ω δ y Q μ lo hi g h (Copy t a q i) wide F X k f d = copy-x3 w ω δ y Q μ lo hi g h κ t a q i (eqb (i + 1) q) refl F k
+own-next κ w ω δ y Q μ lo hi g h (Publish t) wide F X k f d = ((((refl, k .1, k .2), tt), begun-later quiet tt (k .0)), tt)
+own-next κ w ω δ y Q μ lo hi g h TakeRead wide F X k f d = take-read w ω δ y Q μ lo hi g h κ F (X tt)
+own-next κ w ω δ y Q μ lo hi g h (TakeTail a) wide F X k f d = take-tail w ω δ y Q μ lo hi g h κ a F k
+own-next κ w ω δ y Q μ lo hi g h (TakeTest r) wide F X k f d = take-test w ω δ y Q μ lo hi g h κ r (isEmpty κ r) refl F k
+own-next κ w ω δ y Q μ lo hi g h (TakeWord r t j) wide F X k f d =
+    ((tt, take-on κ ω (view ω Q μ lo hi) g h r t _ j (eqb j ω) refl wide refl k (word-W ω μ (off Q) (size ω Q) _ _ j (take-ix (F .sized) κ r lo hi (k .2) (F .fit) (k .0)))), tt)
+own-next κ w ω δ y Q μ lo hi g h (TakeFinish r t) wide F X k f d = take-finish w ω δ y Q μ lo hi g h κ r t F k
+own-next κ w ω δ y Q μ lo hi g h StealRead wide F X k f d = absurd k
+own-next κ w ω δ y Q μ lo hi g h (StealTail a) wide F X k f d = absurd k
+own-next κ w ω δ y Q μ lo hi g h (StealTest r) wide F X k f d = absurd k
+own-next κ w ω δ y Q μ lo hi g h (StealNote r) wide F X k f d = absurd k
+own-next κ w ω δ y Q μ lo hi g h (StealWord r b t j) wide F X k f d = absurd k
+own-next κ w ω δ y Q μ lo hi g h (StealNext r t) wide F X k f d = absurd k
+own-next κ w ω δ y Q μ lo hi g h (StealCompare r e t) wide F X k f d = absurd k

@@ -10,7 +10,7 @@ use borrow.Author.Tests.{ne-eqb, eq-eqb}
 use Rattle.model.specs.declared.Kind.{Kind}
 use Rattle.model.specs.declared.Task.{Task}
 use Rattle.theorems.specs.Demand3.{Few}
-use Rattle.theorems.proofs.Events.{Event, quiet, line-1, finished-put, handed-out, failed-compare, found-empty, began-put, found-full, History, puts-since, history-at, Premise, PremiseAt}
+use Rattle.theorems.proofs.Events.{Event, quiet, line-1, finished-put, handed-out, failed-compare, found-empty, began-put, found-full, waiting-put, drained, History, puts-since, history-at, Premise, PremiseAt}
 use Rattle.theorems.proofs.Remainders.{le-or-lt}
 
 -- the call at place j did e
@@ -34,6 +34,8 @@ finishes-put (failed-compare j) = 0
 finishes-put (found-empty j) = 0
 finishes-put (began-put t) = 0
 finishes-put (found-full t) = 0
+finishes-put (waiting-put t y) = 0
+finishes-put drained = 0
 
 -- how many puts a part of the list finishes
 abbrev pub finished-puts : List Event → ℕ
@@ -100,7 +102,7 @@ module _ (P : Event → History → Type 0) (H : History → Type 0) (split : (e
 pub prem-rev : (κ : Kind) (w : ℕ) (T : List Event) (h : History) → ((j : ℕ) (e : Event) → EventAt T j e → PremiseAt κ w e (rev (take j T) h)) → Premise κ w h → Premise κ w (rev T h)
 unfolding rev
 prem-rev κ w [] h f p = p
-prem-rev κ w (x ∷ T) h f p = prem-rev κ w T (x ∷ h) (λ j e a. f (suc j) e a) (f 0 x refl, p)
+prem-rev κ w (e ∷ T) h f p = prem-rev κ w T (e ∷ h) (λ j e a. f (suc j) e a) (f 0 e refl, p)
 
 -- what is in the past of a place stands at a place before it, and the other way round
 pub mem-rev : (T : List Event) (h : History) (j : ℕ) (e : Event) → List·Memᴰ e (rev (take j T) h) → ((k : ℕ) × (k < j) × EventAt T k e) ⊎ List·Memᴰ e h
@@ -158,6 +160,8 @@ cut-other i (failed-compare j) h n = (refl, omega arith)
 cut-other i (found-empty j) h n = (refl, omega arith)
 cut-other i (began-put t) h n = (refl, omega arith)
 cut-other i (found-full t) h n = (refl, omega arith)
+cut-other i (waiting-put t y) h n = (refl, omega arith)
+cut-other i drained h n = (refl, omega arith)
 
 cut-here : (i : ℕ) (h : History) → (history-at i (line-1 i ∷ h) ≡ h) × (puts-since i (line-1 i ∷ h) ≡ 0)
 cut-here i h = (rw (eq-eqb i i refl), rw (eq-eqb i i refl))
@@ -230,6 +234,8 @@ is-read i (handed-out j t) = inr (λ q. let z : _≡_ {A = ℕ} 0 1 = cc in omeg
 is-read i (failed-compare j) = inr (λ q. let z : _≡_ {A = ℕ} 0 1 = cc in omega arith)
 is-read i (began-put t) = inr (λ q. let z : _≡_ {A = ℕ} 0 1 = cc in omega arith)
 is-read i (found-full t) = inr (λ q. let z : _≡_ {A = ℕ} 0 1 = cc in omega arith)
+is-read i (waiting-put t y) = inr (λ q. let z : _≡_ {A = ℕ} 0 1 = cc in omega arith)
+is-read i drained = inr (λ q. let z : _≡_ {A = ℕ} 0 1 = cc in omega arith)
 is-read i (found-empty j) = inr (λ q. let z : _≡_ {A = ℕ} 0 1 = cc in omega arith)
 
 newest-next : (T : List Event) (i j : ℕ) (x : Event) → EventAt T j x → List·Memᴰ (line-1 i) (past T (suc j))
@@ -273,3 +279,5 @@ prem-at κ w T f j (failed-compare k) a = λ m.
 prem-at κ w T f j (found-empty i) a = tt
 prem-at κ w T f j (began-put t) a = tt
 prem-at κ w T f j (found-full t) a = tt
+prem-at κ w T f j (waiting-put t y) a = tt
+prem-at κ w T f j drained a = tt

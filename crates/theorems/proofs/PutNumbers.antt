@@ -24,7 +24,7 @@ used-by Steal u = omega arith
 
 pub used-kept : (U : World) (c : Call) → U .bench .used ≤ callOf U c .world .bench .used
 used-kept U c =
-    call-cases (λ (D : Outcome). U .bench .used ≤ D .world .bench .used) U (λ r l. omega arith) (λ i op B. used-by op (U .bench .used)) (λ i M. omega arith) (λ i. omega arith) c
+    call-cases (λ (D : Outcome). U .bench .used ≤ D .world .bench .used) U (λ r l. omega arith) (λ i op B. used-by op (U .bench .used)) (λ i M. omega arith) (λ i. omega arith) (λ some. omega arith) c
 
 -- a put that is answered a number has used it
 abbrev NextNumber : World → Outcome → Type 0

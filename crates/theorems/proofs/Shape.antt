@@ -1,13 +1,16 @@
 -- The shape of a state: what its limits need, with or without the premise.
 use mathlib.Core.Path.{_≡_}
-use mathlib.Core.List.{List}
-use Prim.Native.Nat.{ℕ, _+_, _^_, _≤_, _<_}
+use mathlib.Core.List.{List, [], _∷_}
+use Prim.Native.Nat.{ℕ, _+_, _-_, _^_, _≤_, _<_}
 use native.Mathlib.Omega.{arith}
 use Rattle.model.specs.declared.Kind.{Kind}
 use Rattle.model.specs.declared.Kind.the-variants.{Lifo, Fifo, Deque}
 use Rattle.model.specs.declared.Line.{Line}
 use Rattle.model.specs.declared.Line.the-variants.{Idle, PutRead, PutTail, PutTest, PutWord, PutFinish, Claim, Note, Copy, Publish, TakeRead, TakeTail, TakeTest, TakeWord, TakeFinish, StealRead, StealTail, StealTest, StealNote, StealWord, StealNext, StealCompare}
 use Rattle.model.specs.declared.Queue.{Queue}
+use Rattle.model.specs.declared.Region.{Region}
+use Rattle.model.specs.declared.Store.{Store}
+use Rattle.model.specs.declared.Store.the-variants.{StoreWord, StoreNote, StorePut, StoreOut, StoreHead, StoreTail}
 use Rattle.model.specs.declared.Anchor.{Anchor}
 use Rattle.model.specs.declared.Task.{Task}
 use Rattle.model.specs.Tasks.{noTask, wordIn, firstWords, withWord}
@@ -17,13 +20,14 @@ use Rattle.model.specs.Memory.{sizeAt}
 use Rattle.model.specs.Lines.{size}
 use Rattle.model.specs.World.{isExpanding}
 use Rattle.model.specs.Figures.{anchor}
+use Rattle.theorems.proofs.Folds.{placesOf, places}
 use Rattle.theorems.proofs.Directory.{Arrays}
 
 -- FIFO's tail
-abbrev pub tail : Kind → Queue → ℕ
-tail Lifo q = 0
-tail Fifo q = q .anchor .count
-tail Deque q = 0
+abbrev pub tail : Kind → Anchor → ℕ
+tail Lifo a = 0
+tail Fifo a = a .count
+tail Deque a = 0
 
 -- the anchor. low: the last head that a FIFO's owner read or wrote
 abbrev pub Bounded : Kind → ℕ → ℕ → ℕ → Anchor → Type 0
@@ -180,20 +184,78 @@ ThiefShape κ w ω q τ (StealWord r k t j) =
 ThiefShape κ w ω q τ (StealNext r t) = ThiefRead κ w (size ω q) τ r × Some κ r × Double κ × Known (ω + 1) t
 ThiefShape κ w ω q τ (StealCompare r e t) = ThiefRead κ w (size ω q) τ r × Some κ r × After κ e × Known (ω + 1) t
 
--- o: the owner's line; φ k: that of thief k + 1
-pub record Shape (κ : Kind) (w ω used : ℕ) (q : Queue) (m : List ℕ) (o : Line) (φ : ℕ → Line) : Type 0 where
-  pub low : ℕ
+-- THE STORES THAT WAIT. FIFO's tail after them, and the last head that a FIFO's owner read or wrote
+abbrev pub tailOf : Store → ℕ → ℕ
+tailOf (StoreWord b s j x) τ = τ
+tailOf (StoreNote k) τ = τ
+tailOf (StorePut r) τ = τ
+tailOf (StoreOut r) τ = τ
+tailOf (StoreHead i) τ = τ
+tailOf (StoreTail i) τ = i
+
+abbrev pub lowOf : Store → ℕ → ℕ
+lowOf (StoreWord b s j x) low = low
+lowOf (StoreNote k) low = low
+lowOf (StorePut r) low = low
+lowOf (StoreOut r) low = low
+lowOf (StoreHead i) low = i
+lowOf (StoreTail i) low = low
+
+abbrev pub tails : List Store → ℕ → ℕ
+tails [] τ = τ
+tails (s ∷ ss) τ = tails ss (tailOf s τ)
+
+abbrev pub lows : List Store → ℕ → ℕ
+lows [] low = low
+lows (s ∷ ss) low = lows ss (lowOf s low)
+
+abbrev pub FitAnchor : Kind → ℕ → ℕ → Anchor → Type 0
+FitAnchor Lifo w z r = Bounded Lifo w z 0 r
+FitAnchor Fifo w z r = ⊥
+FitAnchor Deque w z r = Bounded Deque w z 0 r
+
+abbrev pub FitHead : Kind → ℕ → ℕ → ℕ → Type 0
+FitHead Lifo low τ i = ⊥
+FitHead Fifo low τ i = (i ≡ low + 1) × (i ≤ τ)
+FitHead Deque low τ i = ⊥
+
+abbrev pub FitTail : Kind → ℕ → ℕ → ℕ → ℕ → Type 0
+FitTail Lifo z low τ i = ⊥
+FitTail Fifo z low τ i = (i ≡ τ + 1) × (i ≤ low + z)
+FitTail Deque z low τ i = ⊥
+
+-- a store that may be put down: l is the directory, of which c arrays are claimed and p published
+abbrev pub Fit : Kind → ℕ → ℕ → List Region → ℕ → ℕ → ℕ → ℕ → Store → Type 0
+Fit κ w ω l c low p τ (StoreWord b s j x) = (b < c) × (s < sizeAt ω l b) × (j ≤ ω) × (j ≡ 0 → x ≤ 65535)
+Fit κ w ω l c low p τ (StoreNote k) = (k ≡ p) × (p < c)
+Fit κ w ω l c low p τ (StorePut r) = FitAnchor κ w (sizeAt ω l (p - 1)) r
+Fit κ w ω l c low p τ (StoreOut r) = FitAnchor κ w (sizeAt ω l (p - 1)) r
+Fit κ w ω l c low p τ (StoreHead i) = FitHead κ low τ i
+Fit κ w ω l c low p τ (StoreTail i) = FitTail κ (sizeAt ω l (p - 1)) low τ i
+
+-- all of them, one after the other
+abbrev pub Path : Kind → ℕ → ℕ → List Region → ℕ → ℕ → ℕ → ℕ → List Store → Type 0
+Path κ w ω l c low p τ [] = Unit {0}
+Path κ w ω l c low p τ (s ∷ ss) = Fit κ w ω l c low p τ s × Path κ w ω l c (lowOf s low) (placesOf s p) (tailOf s τ) ss
+
+-- the owner, in the queue as it reads it
+pub record OwnEnd (κ : Kind) (w ω used : ℕ) (l : List Region) (c low p τ : ℕ) (o : Line) : Type 0 where
+  pub claims : c ≡ (if isExpanding o then p + 1 else p)
+  pub spent : Spent κ τ o used
+  pub shape : OwnShape κ w ω (sizeAt ω l (p - 1)) low τ o
+
+-- low: the last head that a FIFO owner read or wrote, in memory; ss: the stores that wait; o: the owner's line; φ k: thief k + 1's
+pub record Shape (κ : Kind) (w ω used low : ℕ) (q : Queue) (m : List ℕ) (ss : List Store) (o : Line) (φ : ℕ → Line) : Type 0 where
   pub anchor : Bounded κ w (size ω q) low (q .anchor)
   pub arrays : Arrays ω q m
-  pub claims : q .claimed ≡ (if isExpanding o then q .published + 1 else q .published)
-  pub spent : Spent κ (q .anchor .count) o used
-  pub own : OwnShape κ w ω (size ω q) low (tail κ q) o
-  pub th : (k : ℕ) → ThiefShape κ w ω q (tail κ q) (φ k)
+  pub path : Path κ w ω (q .arrays) (q .claimed) low (q .published) (tail κ (q .anchor)) ss
+  pub own : OwnEnd κ w ω used (q .arrays) (q .claimed) (lows ss low) (places ss (q .published)) (tails ss (tail κ (q .anchor))) o
+  pub th : (k : ℕ) → ThiefShape κ w ω q (tail κ (q .anchor)) (φ k)
 
 -- a queue that thieves find larger
 pub record Larger (κ : Kind) (ω : ℕ) (q q′ : Queue) : Type 0 where
   pub sized : size ω q ≤ size ω q′
-  pub later : tail κ q ≤ tail κ q′
+  pub later : tail κ (q .anchor) ≤ tail κ (q′ .anchor)
   pub more : q .published ≤ q′ .published
   pub same : (k : ℕ) → k < q .published → sizeAt ω (q′ .arrays) k ≡ sizeAt ω (q .arrays) k
 
@@ -207,7 +269,7 @@ early-keep Lifo τ τ′ h l e = e
 early-keep Fifo τ τ′ h l e = omega arith
 early-keep Deque τ τ′ h l e = e
 
-pub thief-keep : (κ : Kind) (w ω : ℕ) (q q′ : Queue) → Larger κ ω q q′ → (θ : Line) → ThiefShape κ w ω q (tail κ q) θ → ThiefShape κ w ω q′ (tail κ q′) θ
+pub thief-keep : (κ : Kind) (w ω : ℕ) (q q′ : Queue) → Larger κ ω q q′ → (θ : Line) → ThiefShape κ w ω q (tail κ (q .anchor)) θ → ThiefShape κ w ω q′ (tail κ (q′ .anchor)) θ
 thief-keep κ w ω q q′ M Idle s = tt
 thief-keep κ w ω q q′ M (PutRead t) s = absurd s
 thief-keep κ w ω q q′ M (PutTail t h) s = absurd s

@@ -1,131 +1,103 @@
 -- Every call keeps the invariant, where the premise holds.
-use mathlib.Core.Path.{_≡_, refl, sym, _∙_, ap, subst, subst₂}
+use mathlib.Core.Path.{_≡_, refl, sym, _∙_, subst, subst₂}
 use mathlib.Core.Bool.{Bool, true, false, cond, true≢false}
 use mathlib.Core.Logic.{_≢_, _⊎_, inl, inr}
 use mathlib.Core.List.{List, [], _∷_, List·Memᴰ, List·Memᴰ·head, List·Memᴰ·tail, List·Memᴰ·not-nil, List·Memᴰ·cases-cons}
-use Prim.Native.Nat.{ℕ, zero, suc, _+_, _*_, _≤_, _<_}
+use Prim.Native.Nat.{ℕ, zero, suc, _+_, _≤_, _<_}
 use native.Mathlib.Omega.{arith}
 use lib.Dec.{eqb}
-use lib.ListN.{length, getD, set}
+use lib.ListN.{getD, set}
 use Rattle.model.specs.declared.Kind.{Kind}
+use Rattle.model.specs.declared.Kind.the-variants.{Lifo, Fifo, Deque}
 use Rattle.model.specs.declared.Line.{Line}
-use Rattle.model.specs.declared.Line.the-variants.{Idle, PutRead, TakeRead, StealRead}
+use Rattle.model.specs.declared.Line.the-variants.{Idle, PutRead, PutFinish, TakeRead, StealRead}
+use Rattle.model.specs.declared.Queue.{Queue}
+use Rattle.model.specs.declared.Anchor.{Anchor}
+use Rattle.model.specs.declared.Store.{Store}
+use Rattle.model.specs.declared.Store.the-variants.{StoreWord, StoreNote, StorePut, StoreOut, StoreHead, StoreTail}
 use Rattle.model.specs.declared.Operation.{Operation}
 use Rattle.model.specs.declared.Operation.the-variants.{Put, Take, Steal}
-use Rattle.model.specs.declared.Queue.{Queue}
 use Rattle.model.specs.declared.Refusal.{Refusal}
-use Rattle.model.specs.declared.Refusal.the-variants.{NoLink}
-use Rattle.model.specs.Tests.{if_then_else_, _and_, _or_}
 use Rattle.model.specs.declared.Task.{Task}
 use Rattle.model.specs.declared.Answer.{Answer}
 use Rattle.model.specs.declared.Answer.the-variants.{Accepted, Numbered, GoesOn, Finished, HandedOut, Empty, Full, Refused}
-use Rattle.model.specs.Tasks.{task}
-use Rattle.model.proofs.Tasks.{first-number, gathered-again}
-use Rattle.model.specs.Lines.{size, holdsLink}
+use Rattle.model.specs.Tests.{_and_, _or_}
+use Rattle.model.specs.Figures.{putStore}
+use Rattle.model.specs.Stores.{inLine, oldest}
+use Rattle.model.specs.Lines.{Effect, lineStep, holdsLink}
 use Rattle.model.specs.World.{World, Outcome, refuse, tagBits, lineAt, isSteal1, isPast1}
-use Rattle.model.specs.Calls.{firstLine, beginAnswer, begun, Call, begin, step, dropLink, callOf}
-use Rattle.theorems.specs.Demand3.{finishes}
+use Rattle.model.specs.Calls.{firstLine, begun, beginAnswer, landing, Call, begin, step, dropLink, drain, callOf}
+use Rattle.model.specs.Listing.{isRefused}
 use Rattle.model.specs.Run.{Played, played, after}
-use Rattle.theorems.proofs.Effects.{Left, lineLeft, leftBy, nextLeft}
-use Rattle.theorems.proofs.Events.{Event, quiet, line-1, finished-put, handed-out, failed-compare, found-empty, began-put, found-full, is-line-1, is-compare, History, puts-since, Premise, PremiseAt, GoodHistory, GoodEvent, event-of}
-use Rattle.theorems.proofs.Window.{old-done}
-use Rattle.theorems.proofs.PutNumbers.{used-kept}
-use Rattle.theorems.proofs.Invariant.{Inv, own-keep, since-now, inv-relink}
-use Rattle.theorems.proofs.Links.{held-set, line-links, link-parts}
-use Rattle.theorems.proofs.OwnerLines.{own-kept}
-use Rattle.theorems.proofs.OwnerSteps.{own-same}
-use Rattle.theorems.proofs.ThiefLines.{thief-kept, thief-same}
-use Rattle.theorems.proofs.Directory.{long, roomy}
+use Rattle.model.proofs.Tasks.{gathered-again, first-number}
+use Rattle.model.specs.Tasks.{task}
+use Rattle.theorems.proofs.Folds.{laid, words, NotPut, NonePut}
+use Rattle.theorems.proofs.Events.{Event, quiet, line-1, finished-put, handed-out, failed-compare, found-empty, began-put, found-full, waiting-put, drained, is-line-1, is-compare, event-of, event-of-drain, History, Told, Answered, puts-since, Premise, PremiseAt, GoodHistory, GoodEvent}
+use Rattle.theorems.proofs.Window.{NotDone, told-before}
+use Rattle.theorems.proofs.Order.{NotOut, order-ev}
+use Rattle.theorems.proofs.Owed.{sight, tags}
+use Rattle.theorems.proofs.Invariant.{OwnerOk, Inv, inv-relink, drain-of, Calm, own-later, since-now}
+use Rattle.theorems.proofs.Laying.{base-ev}
+use Rattle.theorems.proofs.OwnerRun.{Stepped, own-stepped, finish-only}
+use Rattle.theorems.proofs.Drains.{drain-kept, thief-step, due-same}
+use Rattle.theorems.proofs.ThiefLines.{LinkSound, thief-same}
+use Rattle.theorems.proofs.Held.{line-drain}
+use Rattle.theorems.proofs.Links.{held-set, links-held, link-parts}
 use Rattle.theorems.proofs.Valid.{thieves, Whole, tagged}
-use Rattle.theorems.proofs.Cases.{dropped, MayBegin, MayStep, begin-cases, step-cases, drop-cases, call-cases}
-use Rattle.theorems.proofs.WholeRun.{idle-is, own-back, thief-back, not-thief, not-owner, in-crew, kept-links, same-tag, linked-step, call-whole}
+use Rattle.theorems.proofs.Cases.{MayBegin, MayStep, effectOf, queueThen, storeThen, stepTo, dropped, drainTo, begin-cases, step-cases, drop-cases, drain-cases, call-cases}
+use Rattle.theorems.proofs.WholeRun.{idle-is, own-back, thief-back, not-thief, not-owner, in-crew, in-line, thief-calm, thief-lands, linked-step, call-whole}
 use Rattle.theorems.proofs.Places.{rev}
+use Rattle.theorems.proofs.PutNumbers.{used-kept}
 
--- whose line a call is about
-abbrev pub workerOf : Call → ℕ
-workerOf (begin i op) = i
-workerOf (step i) = i
-workerOf (dropLink i) = i
+-- what a call did
+abbrev pub event-in : World → Call → Answer → Event
+event-in W (begin i op) a = event-of (W .bench .words) (W .bench .delayed) (W .bench .waiting .count) (begin i op) (lineAt (W .bench .workers) i) a
+event-in W (step i) a = event-of (W .bench .words) (W .bench .delayed) (W .bench .waiting .count) (step i) (lineAt (W .bench .workers) i) a
+event-in W (dropLink i) a = event-of (W .bench .words) (W .bench .delayed) (W .bench .waiting .count) (dropLink i) (lineAt (W .bench .workers) i) a
+event-in W drain a = cond (isRefused a) quiet (event-of-drain (W .bench .kind) (W .bench .words) (W .bench .queue) (W .store) (oldest (W .bench .waiting)))
 
 abbrev pub event-at : Played → Event
-event-at s = event-of (s .before .bench .words) (s .call) (lineAt (s .before .bench .workers) (workerOf (s .call))) (s .answer)
+event-at s = event-in (s .before) (s .call) (s .answer)
 
 abbrev pub events : List Played → List Event
 events [] = []
 events (s ∷ T) = event-at s ∷ events T
 
 abbrev pub InvOf : World → History → Type 0
-InvOf W h = Inv (W .bench .kind) (tagBits (W .bench)) (W .bench .words) (W .bench .queue) (W .store) (lineAt (W .bench .workers) 0) (thieves (W .bench .workers)) h
+InvOf W h =
+    Inv (W .bench .kind) (tagBits (W .bench)) (W .bench .words) (W .bench .delayed) (W .bench .queue) (W .store) (inLine (W .bench .waiting)) (lineAt (W .bench .workers) 0) (thieves (W .bench .workers)) h
 
--- since the line 1 of a thief that holds a link no put has finished
-abbrev pub Since : World → History → Type 0
-Since W h = (k : ℕ) → holdsLink (W .bench .queue) (suc k) ≡ true → puts-since (suc k) h ≡ 0
+-- since the line 1 of a thief that holds a link no put has come to memory
+abbrev pub LinkedSince : World → History → Type 0
+LinkedSince W h = (k : ℕ) → holdsLink (W .bench .queue) (suc k) ≡ true → puts-since (suc k) h ≡ 0
 
--- the call c of a worker at the line l keeps the invariant, and answers well
-abbrev Fine : World → History → Call → Line → Outcome → Type 0
-Fine W h c l D =
-    PremiseAt (W .bench .kind) (tagBits (W .bench)) (event-of (W .bench .words) c l (D .answer)) h
-    → InvOf (D .world) (event-of (W .bench .words) c l (D .answer) ∷ h) × GoodEvent (event-of (W .bench .words) c l (D .answer)) h
+-- the call c keeps the invariant, and answers well
+abbrev Fine : World → History → Call → Outcome → Type 0
+Fine W h c D =
+    PremiseAt (W .bench .kind) (tagBits (W .bench)) (event-in W c (D .answer)) h
+    → InvOf (D .world) (event-in W c (D .answer) ∷ h) × GoodEvent (W .bench .delayed) (event-in W c (D .answer)) h
 
--- the puts since worker k's line 1, after a call that finishes none; after that line 1; a begin finishes none
-since-later : (ω k : ℕ) (h : History) (c : Call) (l : Line) (a : Answer) → finishes a ≡ 0 → puts-since k h ≡ 0 → puts-since k (event-of ω c l a ∷ h) ≡ 0
-since-later ω k h c l Accepted f e = e
-since-later ω k h (begin zero (Put p)) l (Numbered n) f e = e
-since-later ω k h (begin (suc i) (Put p)) l (Numbered n) f e = e
-since-later ω k h (begin i Take) l (Numbered n) f e = e
-since-later ω k h (begin i Steal) l (Numbered n) f e = e
-since-later ω k h (step i) l (Numbered n) f e = e
-since-later ω k h (dropLink i) l (Numbered n) f e = e
-since-later ω k h (begin i op) l GoesOn f e = e
-since-later ω k h (step i) l GoesOn f e = go (is-line-1 l) (is-compare l) (eqb i k) refl
-  where
-    go : (x y z : Bool) → eqb i k ≡ z → puts-since k (cond x (line-1 i) (cond y (failed-compare i) quiet) ∷ h) ≡ 0
-    go true y true q = rw q
-    go true y false q = rw q e
-    go false true z q = e
-    go false false z q = e
-since-later ω k h (dropLink i) l GoesOn f e = e
-since-later ω k h c l (Finished i t) f e = absurd (omega arith)
-since-later ω k h (begin i op) l (HandedOut j t) f e = e
-since-later ω k h (step i) l (HandedOut j t) f e = go (is-compare l)
-  where
-    go : (x : Bool) → puts-since k (cond x (handed-out i t) (handed-out 0 t) ∷ h) ≡ 0
-    go true = e
-    go false = e
-since-later ω k h (dropLink i) l (HandedOut j t) f e = e
-since-later ω k h c l (Empty i) f e = e
-since-later ω k h c l (Full i t) f e = e
-since-later ω k h c l (Refused r) f e = e
+-- nothing but the owner's line changes
+own-first : {κ : Kind} {w ω : ℕ} {δ : Bool} {Q : Queue} {μ : List ℕ} {ss : List Store} {o : Line} {φ : ℕ → Line} {h : History} (I : Inv κ w ω δ Q μ ss o φ h) (e : Event) (o′ : Line) → NotDone e → NotOut e → ((k : ℕ) → Calm (suc k) e) → drain-of e ≡ 0
+    → ((t : Task) (n : ℕ) → e ≡ waiting-put t n → ⊥) → OwnerOk κ (sight κ ω ss Q μ (I .own-lo) (I .own-hi)) (tags ss (Q .anchor .tag)) (e ∷ h) o′ → Inv κ w ω δ Q μ ss o′ φ (e ∷ h)
+own-first {κ} {w} {ω} {δ} {Q} {μ} {ss} {o} {φ} {h} I e o′ nd no-out c z f k =
+    record { own-lo = I .own-lo; own-hi = I .own-hi; base = base-ev (I .base) e nd c; own = k; due = due-same δ κ _ ss h e z f (I .due); order = order-ev κ _ _ ss h e no-out (I .order) }
 
-since-read : (κ : Kind) (w ω : ℕ) (q : Queue) (m : List ℕ) (i k : ℕ) (h : History) → k ≡ i → (l : Line) → l ≡ StealRead
-    → puts-since k (event-of ω (step i) l (lineLeft κ w ω q m i l .answer) ∷ h) ≡ 0
-unfolding lineLeft
-since-read κ w ω q m i k h e l r = rw (r, e) (since-now i h)
+not-waiting : (t : Task) (n : ℕ) → quiet ≡ waiting-put t n → ⊥
+not-waiting t n q = let z : _≡_ {A = ℕ} 0 1 = cc in omega arith
 
-begin-none : (op : Operation) (u : ℕ) → finishes (beginAnswer op u) ≡ 0
-begin-none (Put p) u = refl
-begin-none Take u = refl
-begin-none Steal u = refl
+inv-quiet : {κ : Kind} {w ω : ℕ} {δ : Bool} {Q : Queue} {μ : List ℕ} {ss : List Store} {o : Line} {φ : ℕ → Line} {h : History} → Inv κ w ω δ Q μ ss o φ h → Inv κ w ω δ Q μ ss o φ (quiet ∷ h)
+inv-quiet {κ} {w} {ω} {δ} {Q} {μ} {ss} {o} {φ} {h} I = own-first I quiet o tt tt (λ k. tt) refl not-waiting (own-later κ _ _ h quiet tt (told-before quiet h tt) o (I .own))
 
-fewer : (l : List Bool) (i k : ℕ) → getD (set l i false) k false ≡ true → getD l k false ≡ true
-fewer l i k e = go (held-set l i k false e)
-  where
-    go : ((k ≡ i) × (false ≡ true)) ⊎ ((k ≢ i) × (getD l k false ≡ true)) → getD l k false ≡ true
-    go (inl (q, x)) = absurd (true≢false (sym x))
-    go (inr (ne, x)) = x
-
-module _ (W : World) (H : Whole W) (h : History) (I : InvOf W h) (N : (u : Task) → List·Memᴰ (finished-put u) h → u .number ≤ W .bench .used)
-    (L : Since W h) where
+module _ (W : World) (H : Whole W) (h : History) (I : InvOf W h) (L : LinkedSince W h) (spent : (u : Task) → Told u h → u .number ≤ W .bench .used) where
   abbrev InvLines : History → Line → (ℕ → Line) → Type 0
-  InvLines h o φ = Inv (W .bench .kind) (tagBits (W .bench)) (W .bench .words) (W .bench .queue) (W .store) o φ h
+  InvLines h o φ = Inv (W .bench .kind) (tagBits (W .bench)) (W .bench .words) (W .bench .delayed) (W .bench .queue) (W .store) (inLine (W .bench .waiting)) o φ h
 
-  refused-kept : (c : Call) (l : Line) (r : Refusal) → Fine W h c l (refuse W r)
-  refused-kept c l r f = (
-    own-same (W .bench .kind) (tagBits (W .bench)) (W .bench .words) (W .bench .queue) (W .store) (thieves (W .bench .workers)) h (lineAt (W .bench .workers) 0)
-        (lineAt (W .bench .workers) 0) quiet tt (λ k. tt) I
-        (own-keep (W .bench .kind) _ (W .bench .queue .anchor .tag) h quiet tt (lineAt (W .bench .workers) 0) (I .own)),
-    tt,
-  )
+  refused-kept : (c : Call) (r : Refusal) → Fine W h c (refuse W r)
+  refused-kept (begin i op) r f = (inv-quiet I, tt)
+  refused-kept (step i) r f = (inv-quiet I, tt)
+  refused-kept (dropLink i) r f = (inv-quiet I, tt)
+  refused-kept drain r f = (inv-quiet I, tt)
 
   -- the owner begins: its line 1 follows the event e
   own-begun : (op : Operation) (e : Event) → MayBegin W 0 op
@@ -135,126 +107,261 @@ module _ (W : World) (H : Whole W) (h : History) (I : InvOf W h) (N : (u : Task)
       own-back (InvLines (e ∷ h)) (W .bench .workers) (firstLine op (W .bench .words) (W .bench .used)) (in-crew H 0 (B .member))
       (f (subst (λ (o : Line). InvLines h o (thieves (W .bench .workers))) (idle-is _ (B .idle)) I))
 
-  newest : (u : Task) → List·Memᴰ (finished-put u) h → u .number < W .bench .used + 1
-  newest u d = omega (arith, N u d)
-
-  begun-kept : (i : ℕ) (op : Operation) (l : Line) → MayBegin W i op → Fine W h (begin i op) l (begun W i op)
-  begun-kept zero (Put p) l B f = (
-    own-begun (Put p) _ B (λ J. own-same _ _ _ _ _ _ h Idle (PutRead _) (began-put _) tt (λ k. tt) J
+  begun-kept : (i : ℕ) (op : Operation) → MayBegin W i op → Fine W h (begin i op) (begun W i op)
+  unfolding inv-quiet own-first
+  begun-kept zero (Put p) B f = (
+    own-begun (Put p) _ B (λ J. own-first J (began-put _) (PutRead _) tt tt (λ k. tt) refl (λ t n q. let z : _≡_ {A = ℕ} 0 1 = cc in omega arith)
         (record {
           begun = List·Memᴰ·head refl;
-          newer = λ u d. omega (arith, newest u (old-done tt d), first-number (W .bench .words) (task (W .bench .used + 1) p));
+          newer = λ u d. let z = spent u (told-before (began-put _) h tt u d) in omega (arith, z, first-number (W .bench .words) (task (W .bench .used + 1) p));
           cut = sym (gathered-again (W .bench .words + 1) _ (omega (arith, H .words .1)));
         })),
     tt,
   )
-  begun-kept (suc k) (Put p) l B f = not-thief k (B .hand)
-  begun-kept zero Take l B f = (own-begun Take _ B (λ J. own-same _ _ _ _ _ _ h Idle TakeRead quiet tt (λ k. tt) J tt), tt)
-  begun-kept (suc k) Take l B f = not-thief k (B .hand)
-  begun-kept zero Steal l B f = not-owner (B .hand)
-  begun-kept (suc k) Steal l B f = (
+  begun-kept (suc k) (Put p) B f = not-thief k (B .hand)
+  begun-kept zero Take B f = (own-begun Take _ B (λ J. own-first J quiet TakeRead tt tt (λ k. tt) refl not-waiting tt), tt)
+  begun-kept (suc k) Take B f = not-thief k (B .hand)
+  begun-kept zero Steal B f = not-owner (B .hand)
+  begun-kept (suc k) Steal B f = (
     thief-back (InvLines (quiet ∷ h)) (W .bench .workers) k StealRead (in-crew H (suc k) (B .member))
-        (thief-same _ _ _ _ _ (lineAt (W .bench .workers) 0) (thieves (W .bench .workers)) h k StealRead quiet tt tt (λ i q. tt) I tt),
+        (λ φ′ is rest. record {
+          own-lo = I .own-lo;
+          own-hi = I .own-hi;
+          base = thief-same _ _ _ _ 0 _ _ _ _ _ (thieves (W .bench .workers)) h k StealRead quiet tt (λ i q. tt) (I .base) tt φ′ is rest;
+          own = inv-quiet I .own;
+          due = inv-quiet I .due;
+          order = inv-quiet I .order;
+        }),
     tt,
   )
 
-  space : 2 * size (W .bench .words) (W .bench .queue) ≤ 1024 → W .bench .queue .published < length (W .bench .queue .arrays)
-  space l = omega (arith, roomy (H .shape .arrays) l, H .shape .arrays .slots)
+  -- STEP
+  abbrev InvAfter : ℕ → History → Line → (ℕ → Line) → Type 0
+  InvAfter i h o φ =
+      Inv (W .bench .kind) (tagBits (W .bench)) (W .bench .words) (W .bench .delayed) (queueThen W i (effectOf W i)) (storeThen W i (effectOf W i)) (inLine (stepTo W i .world .bench .waiting)) o φ h
 
-  abbrev InvAfter : Left → History → Line → (ℕ → Line) → Type 0
-  InvAfter E h o φ = Inv (W .bench .kind) (tagBits (W .bench)) (W .bench .words) (E .queue) (E .store) o φ h
-
-  -- what a line leaves, with the links as they are then
-  linked-inv : (i : ℕ) {o : Line} {φ : ℕ → Line} {h : History} → InvAfter (nextLeft W i) h o φ
-      → Inv (W .bench .kind) (tagBits (leftBy W i (nextLeft W i) .world .bench)) (W .bench .words) (leftBy W i (nextLeft W i) .world .bench .queue) (nextLeft W i .store) o φ h
-  linked-inv i {o} {φ} {h} J =
-      subst (λ (w : ℕ). Inv (W .bench .kind) w (W .bench .words) (leftBy W i (nextLeft W i) .world .bench .queue) (nextLeft W i .store) o φ h) (same-tag H i) (inv-relink i _ J)
-
-  stepped-kept : (i : ℕ) → MayStep W i → Fine W h (step i) (lineAt (W .bench .workers) i) (leftBy W i (nextLeft W i))
+  stepped-kept : (i : ℕ) → MayStep W i → Fine W h (step i) (stepTo W i)
   stepped-kept zero M f =
-      let K = own-kept (W .bench .kind) (tagBits (W .bench)) (W .bench .words) (W .bench .queue) (W .store) (thieves (W .bench .workers)) h (lineAt (W .bench .workers) 0) (H .shape .arrays .some) (H .words .1) (long (H .shape .arrays)) space I in
-      (linked-inv 0 (own-back (InvAfter (nextLeft W 0) (event-of (W .bench .words) (step 0) (lineAt (W .bench .workers) 0) (nextLeft W 0 .answer) ∷ h)) (W .bench .workers) (nextLeft W 0 .line) (in-crew H 0 (M .member)) (K .0)), K .1)
+      let K : Stepped (W .bench .kind) (tagBits (W .bench)) (W .bench .words) (W .bench .delayed) (W .bench .waiting) (W .bench .queue) (W .store) (lineAt (W .bench .workers) 0) (thieves (W .bench .workers)) h (effectOf W 0)
+      = own-stepped (W .bench .kind) (tagBits (W .bench)) (W .bench .words) (W .bench .delayed) (W .bench .waiting) (W .bench .queue) (W .store) (W .bench .used) (H .low) (lineAt (W .bench .workers) 0) (thieves (W .bench .workers)) h (H .words .1) (H .mode) (in-line H) (H .shape) I in
+      (inv-relink 0 _ (own-back (InvAfter 0 (event-in W (step 0) (effectOf W 0 .answer) ∷ h)) (W .bench .workers) (effectOf W 0 .line) (in-crew H 0 (M .member)) (K .0)), K .1)
   stepped-kept (suc k) M f =
       let θ = thieves (W .bench .workers) k in
-      let K = thief-kept (W .bench .kind) (tagBits (W .bench)) (W .bench .words) (W .bench .queue) (W .store) (lineAt (W .bench .workers) 0) (thieves (W .bench .workers)) h k θ I (I .th k) (H .shape .arrays .some) (H .words .1) (tagged H)
-      (λ x. (link-parts (W .bench .kind) (W .bench .queue) θ (H .links (suc k) x) .2, L k x)) f in
-      (linked-inv (suc k) (thief-back (InvAfter (nextLeft W (suc k)) (event-of (W .bench .words) (step (suc k)) θ (nextLeft W (suc k) .answer) ∷ h)) (W .bench .workers) k (nextLeft W (suc k) .line) (in-crew H (suc k) (M .member)) (K .0)), K .1)
-
-  dropped-kept : (i : ℕ) (l : Line) → Fine W h (dropLink i) l (record { world = dropped W i; answer = Accepted })
-  dropped-kept i l f =
-      let K = refused-kept (dropLink i) l NoLink f in
-      (inv-relink i false (K .0), tt)
-
-  pub call-kept : (c : Call) → Fine W h c (lineAt (W .bench .workers) (workerOf c)) (callOf W c)
-  call-kept (begin i op) =
-      begin-cases (Fine W h (begin i op) (lineAt (W .bench .workers) i)) W (λ r l. refused-kept (begin i op) (lineAt (W .bench .workers) i) r) i op
-      (begun-kept i op (lineAt (W .bench .workers) i))
-  call-kept (step i) =
-      step-cases (Fine W h (step i) (lineAt (W .bench .workers) i)) W (λ r l. refused-kept (step i) (lineAt (W .bench .workers) i) r) i (stepped-kept i)
-  call-kept (dropLink i) =
-      drop-cases (Fine W h (dropLink i) (lineAt (W .bench .workers) i)) W (λ r l. refused-kept (dropLink i) (lineAt (W .bench .workers) i) r) i (dropped-kept i (lineAt (W .bench .workers) i))
-
-  -- and what a held link says
-  abbrev SinceAfter : Call → Line → Outcome → Type 0
-  SinceAfter c l D = Since (D .world) (event-of (W .bench .words) c l (D .answer) ∷ h)
-
-  since-same : (c : Call) (l : Line) (a : Answer) → finishes a ≡ 0 → Since W (event-of (W .bench .words) c l a ∷ h)
-  since-same c l a f k x = since-later (W .bench .words) (suc k) h c l a f (L k x)
-
-  stepped-since : (i : ℕ) → SinceAfter (step i) (lineAt (W .bench .workers) i) (leftBy W i (nextLeft W i))
-  stepped-since i k x = go (held-set (nextLeft W i .queue .links) i (suc k) _ x)
+      let sound : LinkSound (W .bench .kind) (W .bench .queue) h k θ = λ x. (link-parts (W .bench .kind) (W .bench .queue) θ (H .links (suc k) x) .2, L k x) in
+      let K = thief-step (W .bench .kind) (tagBits (W .bench)) (W .bench .words) (W .bench .delayed) (W .bench .waiting .count) (W .bench .queue) (W .store) (inLine (W .bench .waiting)) (lineAt (W .bench .workers) 0) (thieves (W .bench .workers)) h k I (H .shape .arrays .some) (H .words .1) (tagged H) sound f in
+      (inv-relink (suc k) _ (thief-back (InvAfter (suc k) (event-in W (step (suc k)) (E .answer) ∷ h)) (W .bench .workers) k (E .line) (in-crew H (suc k) (M .member)) (λ φ′ is rest. back (K .0 φ′ is rest))), K .1)
     where
-      E : Left
-      E = nextLeft W i
+      E : Effect
+      E = effectOf W (suc k)
 
-      held : holdsLink (E .queue) (suc k) ≡ true → puts-since (suc k) (event-of (W .bench .words) (step i) (lineAt (W .bench .workers) i) (E .answer) ∷ h) ≡ 0
-      held y = let (a, b, e) = kept-links H i .held (suc k) y in since-later (W .bench .words) (suc k) h (step i) (lineAt (W .bench .workers) i) (E .answer) e (L k a)
+      back : {o : Line} {φ′ : ℕ → Line} {h′ : History}
+          → Inv (W .bench .kind) (tagBits (W .bench)) (W .bench .words) (W .bench .delayed) (laid (E .stores) (W .bench .queue)) (words (W .bench .words) (W .bench .queue .arrays) (E .stores) (W .store)) (inLine (W .bench .waiting)) o φ′ h′
+          → InvAfter (suc k) h′ o φ′
+      back J = rw (thief-calm H k, thief-lands H k .0, thief-lands H k .1) J
 
-      go : ((suc k ≡ i) × ((isPast1 (E .line) and ((E .queue .linked and isSteal1 (lineAt (W .bench .workers) i)) or holdsLink (E .queue) i)) ≡ true)) ⊎ ((suc k ≢ i) × (holdsLink (E .queue) (suc k) ≡ true))
-          → puts-since (suc k) (event-of (W .bench .words) (step i) (lineAt (W .bench .workers) i) (E .answer) ∷ h) ≡ 0
+  -- LINK DROPPED
+  dropped-kept : (i : ℕ) → Fine W h (dropLink i) (record { world = dropped W i; answer = Accepted })
+  dropped-kept i f = (inv-relink i false (inv-quiet I), tt)
+
+  -- DRAIN
+  delayed-now : 0 < W .bench .waiting .count → W .bench .delayed ≡ true
+  delayed-now some = go (W .bench .delayed) refl
+    where
+      go : (x : Bool) → W .bench .delayed ≡ x → W .bench .delayed ≡ true
+      go true e = e
+      go false e = absurd (omega (arith, H .mode e))
+
+  drained-kept : 0 < W .bench .waiting .count → Fine W h drain (record { world = drainTo W; answer = Accepted })
+  drained-kept some f =
+      subst (λ (δ : Bool). P δ → Q δ) {x = true} {y = W .bench .delayed} (sym (delayed-now some))
+      (λ J. drain-kept (W .bench .kind) (tagBits (W .bench)) (W .bench .words) (W .bench .queue) (W .store) (oldest (W .bench .waiting)) _ (lineAt (W .bench .workers) 0) (thieves (W .bench .workers)) h J)
+      (subst (λ (ss : List Store). Inv (W .bench .kind) (tagBits (W .bench)) (W .bench .words) (W .bench .delayed) (W .bench .queue) (W .store) ss (lineAt (W .bench .workers) 0) (thieves (W .bench .workers)) h) (line-drain (W .bench .waiting) some (in-line H)) I)
+    where
+      P : Bool → Type 0
+      P δ = Inv (W .bench .kind) (tagBits (W .bench)) (W .bench .words) δ (W .bench .queue) (W .store) (oldest (W .bench .waiting) ∷ inLine (drainTo W .bench .waiting)) (lineAt (W .bench .workers) 0) (thieves (W .bench .workers)) h
+
+      e : Event
+      e = event-of-drain (W .bench .kind) (W .bench .words) (W .bench .queue) (W .store) (oldest (W .bench .waiting))
+
+      Q : Bool → Type 0
+      Q δ = Inv (W .bench .kind) (tagBits (W .bench)) (W .bench .words) δ (drainTo W .bench .queue) (drainTo W .store) (inLine (drainTo W .bench .waiting)) (lineAt (W .bench .workers) 0) (thieves (W .bench .workers)) (e ∷ h) × GoodEvent δ e h
+
+  pub call-kept : (c : Call) → Fine W h c (callOf W c)
+  call-kept (begin i op) = begin-cases (Fine W h (begin i op)) W (λ r l. refused-kept (begin i op) r) i op (begun-kept i op)
+  call-kept (step i) = step-cases (Fine W h (step i)) W (λ r l. refused-kept (step i) r) i (stepped-kept i)
+  call-kept (dropLink i) = drop-cases (Fine W h (dropLink i)) W (λ r l. refused-kept (dropLink i) r) i (dropped-kept i)
+  call-kept drain = drain-cases (Fine W h drain) W (λ r l. refused-kept drain r) drained-kept
+
+-- WHAT A HELD LINK SAYS. An event that brings no put to memory
+since-zero : (k : ℕ) (h : History) (e : Event) → NotDone e → puts-since k h ≡ 0 → puts-since k (e ∷ h) ≡ 0
+since-zero k h quiet n z = z
+since-zero k h (line-1 j) n z = go (eqb j k)
+  where
+    go : (x : Bool) → cond x 0 (puts-since k h) ≡ 0
+    go true = refl
+    go false = z
+since-zero k h (finished-put t) n z = absurd n
+since-zero k h (handed-out j t) n z = z
+since-zero k h (failed-compare j) n z = z
+since-zero k h (found-empty j) n z = z
+since-zero k h (began-put t) n z = z
+since-zero k h (found-full t) n z = z
+since-zero k h (waiting-put t y) n z = z
+since-zero k h drained n z = z
+
+since-read : (κ : Kind) (w ω : ℕ) (δ : Bool) (y : ℕ) (q : Queue) (m : List ℕ) (i k : ℕ) (h : History) → k ≡ i → (l : Line) → l ≡ StealRead
+    → puts-since k (event-of ω δ y (step i) l (lineStep κ w ω q m i l .answer) ∷ h) ≡ 0
+unfolding lineStep
+since-read κ w ω δ y q m i k h e l r = rw (r, e) (since-now i h)
+
+-- a step whose stores that are put down are no put's
+put-none : (κ : Kind) (w : ℕ) (r : Anchor) → NonePut (putStore κ w r ∷ []) → ⊥
+put-none Lifo w r n = n .0
+put-none Fifo w r n = n .0
+put-none Deque w r n = n .0
+
+put-stores : (κ : Kind) (w ω : ℕ) (Q : Queue) (μ : List ℕ) (i : ℕ) (o : Line) (t : Task) (r : Anchor) → o ≡ PutFinish t r → lineStep κ w ω Q μ i o .stores ≡ putStore κ w r ∷ []
+unfolding lineStep
+put-stores κ w ω Q μ i o t r e = rw e
+
+step-done : (κ : Kind) (w ω : ℕ) (δ : Bool) (y : ℕ) (Q : Queue) (μ : List ℕ) (i : ℕ) (o : Line) (a : Answer) → lineStep κ w ω Q μ i o .answer ≡ a → NonePut (landing δ i (lineStep κ w ω Q μ i o .stores))
+    → NotDone (event-of ω δ y (step i) o a)
+step-done κ w ω δ y Q μ i o Accepted e n = tt
+step-done κ w ω δ y Q μ i o (Numbered m) e n = tt
+step-done κ w ω δ y Q μ i o GoesOn e n = go (is-line-1 o) (is-compare o)
+  where
+    go : (x z : Bool) → NotDone (cond x (line-1 i) (cond z (failed-compare i) quiet))
+    go true z = tt
+    go false true = tt
+    go false false = tt
+step-done κ w ω true y Q μ i o (Finished j t) e n = tt
+step-done κ w ω false y Q μ i o (Finished j t) e n =
+    let F = finish-only κ w ω Q μ i o j t e in
+    put-none κ w (F .0) (subst NonePut (put-stores κ w ω Q μ i o t (F .0) (F .1)) n)
+step-done κ w ω δ y Q μ i o (HandedOut j t) e n = go (is-compare o)
+  where
+    go : (x : Bool) → NotDone (cond x (handed-out i t) (handed-out 0 t))
+    go true = tt
+    go false = tt
+step-done κ w ω δ y Q μ i o (Empty j) e n = tt
+step-done κ w ω δ y Q μ i o (Full j t) e n = tt
+step-done κ w ω δ y Q μ i o (Refused r) e n = tt
+
+begin-done : (ω : ℕ) (δ : Bool) (y i : ℕ) (op : Operation) (u : ℕ) (o : Line) → NotDone (event-of ω δ y (begin i op) o (beginAnswer op u))
+begin-done ω δ y zero (Put p) u o = tt
+begin-done ω δ y (suc k) (Put p) u o = tt
+begin-done ω δ y i Take u o = tt
+begin-done ω δ y i Steal u o = tt
+
+drain-done : (κ : Kind) (ω : ℕ) (Q : Queue) (μ : List ℕ) (s : Store) → NotPut s → NotDone (event-of-drain κ ω Q μ s)
+drain-done κ ω Q μ (StoreWord b s j x) n = tt
+drain-done κ ω Q μ (StoreNote k) n = tt
+drain-done κ ω Q μ (StorePut r) n = absurd n
+drain-done κ ω Q μ (StoreOut r) n = tt
+drain-done κ ω Q μ (StoreHead i) n = tt
+drain-done κ ω Q μ (StoreTail i) n = absurd n
+
+fewer : (l : List Bool) (i k : ℕ) → getD (set l i false) k false ≡ true → getD l k false ≡ true
+fewer l i k e = go (held-set l i k false e)
+  where
+    go : ((k ≡ i) × (false ≡ true)) ⊎ ((k ≢ i) × (getD l k false ≡ true)) → getD l k false ≡ true
+    go (inl (q, x)) = absurd (true≢false (sym x))
+    go (inr (ne, x)) = x
+
+module _ (W : World) (H : Whole W) (h : History) (L : LinkedSince W h) where
+  abbrev SinceAfter : Call → Outcome → Type 0
+  SinceAfter c D = LinkedSince (D .world) (event-in W c (D .answer) ∷ h)
+
+  refused-since : (c : Call) (r : Refusal) → SinceAfter c (refuse W r)
+  refused-since (begin i op) r k x = L k x
+  refused-since (step i) r k x = L k x
+  refused-since (dropLink i) r k x = L k x
+  refused-since drain r k x = L k x
+
+  step-not-done : (i : ℕ) → NonePut (landing (W .bench .delayed) i (effectOf W i .stores)) → NotDone (event-in W (step i) (effectOf W i .answer))
+  step-not-done zero n = step-done (W .bench .kind) (tagBits (W .bench)) (W .bench .words) (W .bench .delayed) _ _ _ 0 (lineAt (W .bench .workers) 0) (effectOf W 0 .answer) refl n
+  step-not-done (suc k) n = step-done (W .bench .kind) (tagBits (W .bench)) (W .bench .words) (W .bench .delayed) _ _ _ (suc k) (lineAt (W .bench .workers) (suc k)) (effectOf W (suc k) .answer) refl n
+
+  read-since : (i k : ℕ) → suc k ≡ i → lineAt (W .bench .workers) i ≡ StealRead → puts-since (suc k) (event-in W (step i) (effectOf W i .answer) ∷ h) ≡ 0
+  read-since zero k e q = absurd (omega arith)
+  read-since (suc i) k e q = since-read (W .bench .kind) (tagBits (W .bench)) (W .bench .words) (W .bench .delayed) _ _ _ (suc i) (suc k) h e (lineAt (W .bench .workers) (suc i)) q
+
+  stepped-since : (i : ℕ) → SinceAfter (step i) (stepTo W i)
+  stepped-since i k x = go (held-set (queueThen W i (effectOf W i) .links) i (suc k) _ x)
+    where
+      held : holdsLink (queueThen W i (effectOf W i)) (suc k) ≡ true → puts-since (suc k) (event-in W (step i) (effectOf W i .answer) ∷ h) ≡ 0
+      held y =
+          let (a, b, n) = links-held (landing (W .bench .delayed) i (effectOf W i .stores)) (W .bench .queue .links) (W .bench .queue .anchor) (suc k) y in
+          since-zero (suc k) h (event-in W (step i) (effectOf W i .answer)) (step-not-done i n) (L k a)
+
+      go : ((suc k ≡ i) × ((isPast1 (effectOf W i .line) and ((W .bench .queue .linked and isSteal1 (lineAt (W .bench .workers) i)) or holdsLink (queueThen W i (effectOf W i)) i)) ≡ true))
+          ⊎ ((suc k ≢ i) × (holdsLink (queueThen W i (effectOf W i)) (suc k) ≡ true))
+          → puts-since (suc k) (event-in W (step i) (effectOf W i .answer) ∷ h) ≡ 0
       go (inl (e, y)) = now (linked-step H i y .0)
         where
-          now : (lineAt (W .bench .workers) i ≡ StealRead) ⊎ (holdsLink (E .queue) i ≡ true) → puts-since (suc k) (event-of (W .bench .words) (step i) (lineAt (W .bench .workers) i) (E .answer) ∷ h) ≡ 0
-          now (inl q) = since-read _ _ (W .bench .words) _ _ i (suc k) h e (lineAt (W .bench .workers) i) q
-          now (inr z) = held (subst (λ (n : ℕ). holdsLink (E .queue) n ≡ true) (sym e) z)
+          now : (lineAt (W .bench .workers) i ≡ StealRead) ⊎ (holdsLink (queueThen W i (effectOf W i)) i ≡ true) → puts-since (suc k) (event-in W (step i) (effectOf W i .answer) ∷ h) ≡ 0
+          now (inl q) = read-since i k e q
+          now (inr z) = held (subst (λ (n : ℕ). holdsLink (queueThen W i (effectOf W i)) n ≡ true) (sym e) z)
       go (inr (ne, y)) = held y
 
-  pub call-since : (c : Call) → SinceAfter c (lineAt (W .bench .workers) (workerOf c)) (callOf W c)
-  call-since (begin i op) =
-      let l = lineAt (W .bench .workers) i in
-      begin-cases (SinceAfter (begin i op) l) W (λ r f. since-same (begin i op) l (Refused r) refl) i op
-      (λ B. since-same (begin i op) l (beginAnswer op (W .bench .used)) (begin-none op (W .bench .used)))
-  call-since (step i) =
-      let l = lineAt (W .bench .workers) i in
-      step-cases (SinceAfter (step i) l) W (λ r f. since-same (step i) l (Refused r) refl) i (λ M. stepped-since i)
-  call-since (dropLink i) =
-      let l = lineAt (W .bench .workers) i in
-      drop-cases (SinceAfter (dropLink i) l) W (λ r f. since-same (dropLink i) l (Refused r) refl) i
-      (λ k x. since-same (dropLink i) l Accepted refl k (fewer (W .bench .queue .links) i (suc k) x))
+  drained-since : SinceAfter drain (record { world = drainTo W; answer = Accepted })
+  drained-since k x =
+      let (a, b, n) = links-held (oldest (W .bench .waiting) ∷ []) (W .bench .queue .links) (W .bench .queue .anchor) (suc k) x in
+      since-zero (suc k) h (event-of-drain (W .bench .kind) (W .bench .words) (W .bench .queue) (W .store) (oldest (W .bench .waiting))) (drain-done (W .bench .kind) (W .bench .words) (W .bench .queue) (W .store) (oldest (W .bench .waiting)) (n .0)) (L k a)
 
--- a call keeps the kind, the tag's bits and the payload words
-abbrev Like : World → Outcome → Type 0
-Like W D = (D .world .bench .kind ≡ W .bench .kind) × (tagBits (D .world .bench) ≡ tagBits (W .bench)) × (D .world .bench .words ≡ W .bench .words)
+  pub call-since : (c : Call) → SinceAfter c (callOf W c)
+  call-since (begin i op) =
+      begin-cases (SinceAfter (begin i op)) W (λ r f. refused-since (begin i op) r) i op
+      (λ B k x. since-zero (suc k) h (event-in W (begin i op) (beginAnswer op (W .bench .used))) (begin-done (W .bench .words) (W .bench .delayed) _ i op (W .bench .used) (lineAt (W .bench .workers) i)) (L k x))
+  call-since (step i) = step-cases (SinceAfter (step i)) W (λ r f. refused-since (step i) r) i (λ M. stepped-since i)
+  call-since (dropLink i) =
+      drop-cases (SinceAfter (dropLink i)) W (λ r f. refused-since (dropLink i) r) i (λ k x. L k (fewer (W .bench .queue .links) i (suc k) x))
+  call-since drain = drain-cases (SinceAfter drain) W (λ r f. refused-since drain r) (λ some. drained-since)
+
+-- a call keeps the kind, the tag's bits, the payload words, and the way of storing
+pub record Like (W : World) (D : Outcome) : Type 0 where
+  pub kind : D .world .bench .kind ≡ W .bench .kind
+  pub bits : tagBits (D .world .bench) ≡ tagBits (W .bench)
+  pub words : D .world .bench .words ≡ W .bench .words
+  pub delayed : D .world .bench .delayed ≡ W .bench .delayed
+
+same-like : (W : World) (D : Outcome) → D .world .bench .kind ≡ W .bench .kind → tagBits (D .world .bench) ≡ tagBits (W .bench)
+    → D .world .bench .words ≡ W .bench .words → D .world .bench .delayed ≡ W .bench .delayed → Like W D
+same-like W D a b c d = record { kind = a; bits = b; words = c; delayed = d }
 
 pub call-like : (W : World) (c : Call) → Like W (callOf W c)
 call-like W c =
-    call-cases (Like W) W (λ r l. (refl, refl, refl)) (λ i op B. (refl, refl, refl))
-    (λ i M. (refl, ap (λ (x : Bool). if x then 0 else W .bench .width) (line-links _ _ _ _ _ i (lineAt (W .bench .workers) i) .linked), refl))
-    (λ i. (refl, refl, refl)) c
+    call-cases (Like W) W (λ r l. same-like W _ refl refl refl refl) (λ i op B. same-like W _ refl refl refl refl) (λ i M. same-like W _ refl refl refl refl)
+    (λ i. same-like W _ refl refl refl refl) (λ some. same-like W _ refl refl refl refl) c
 
 -- put numbers: those begun are used
-abbrev Used : World → History → Type 0
+abbrev pub Used : World → History → Type 0
 Used W h = (u : Task) → List·Memᴰ (began-put u) h → u .number ≤ W .bench .used
 
-good-begun : (h : History) (u : Task) → GoodHistory h → List·Memᴰ (finished-put u) h → List·Memᴰ (began-put u) h
-good-begun [] u G d = absurd (List·Memᴰ·not-nil d)
-good-begun (e ∷ h) u G d = List·Memᴰ·tail (go (List·Memᴰ·cases-cons d) (good-begun h u (G .1)))
+good-wait : (δ : Bool) (h : History) (u : Task) (n : ℕ) → GoodHistory δ h → List·Memᴰ (waiting-put u n) h → List·Memᴰ (began-put u) h
+good-wait δ [] u n G d = absurd (List·Memᴰ·not-nil d)
+good-wait δ (e ∷ h) u n G d = List·Memᴰ·tail (go (List·Memᴰ·cases-cons d) (good-wait δ h u n (G .1)))
   where
-    go : (finished-put u ≡ e) ⊎ List·Memᴰ (finished-put u) h → (List·Memᴰ (finished-put u) h → List·Memᴰ (began-put u) h) → List·Memᴰ (began-put u) h
-    go (inl q) f = subst (λ (x : Event). GoodEvent x h) (sym q) (G .0)
+    go : (waiting-put u n ≡ e) ⊎ List·Memᴰ (waiting-put u n) h → (List·Memᴰ (waiting-put u n) h → List·Memᴰ (began-put u) h) → List·Memᴰ (began-put u) h
+    go (inl q) f = subst (λ (x : Event). GoodEvent δ x h) (sym q) (G .0)
     go (inr m) f = f m
 
--- a put that begins has a number that is used by then
+good-done : (δ : Bool) (h : History) (u : Task) → GoodHistory δ h → List·Memᴰ (finished-put u) h → List·Memᴰ (began-put u) h
+good-done δ [] u G d = absurd (List·Memᴰ·not-nil d)
+good-done δ (e ∷ h) u G d = List·Memᴰ·tail (go (List·Memᴰ·cases-cons d) (good-done δ h u (G .1)))
+  where
+    from : (x : Bool) → GoodHistory x h → Answered x u h → List·Memᴰ (began-put u) h
+    from true g (n, w) = good-wait true h u n g w
+    from false g b = b
+
+    go : (finished-put u ≡ e) ⊎ List·Memᴰ (finished-put u) h → (List·Memᴰ (finished-put u) h → List·Memᴰ (began-put u) h) → List·Memᴰ (began-put u) h
+    go (inl q) f = from δ (G .1) (subst (λ (x : Event). GoodEvent δ x h) (sym q) (G .0))
+    go (inr m) f = f m
+
+pub good-begun : (δ : Bool) (h : History) (u : Task) → GoodHistory δ h → Told u h → List·Memᴰ (began-put u) h
+good-begun δ h u G (inl d) = good-done δ h u G d
+good-begun δ h u G (inr (n, d)) = good-wait δ h u n G d
+
 abbrev Within : ℕ → Event → Type 0
 Within n quiet = Unit {0}
 Within n (line-1 j) = Unit {0}
@@ -264,83 +371,97 @@ Within n (failed-compare j) = Unit {0}
 Within n (found-empty j) = Unit {0}
 Within n (began-put t) = t .number ≤ n
 Within n (found-full t) = Unit {0}
+Within n (waiting-put t y) = Unit {0}
+Within n drained = Unit {0}
 
-step-within : (ω n i : ℕ) (l : Line) (a : Answer) → Within n (event-of ω (step i) l a)
-step-within ω n i l Accepted = tt
-step-within ω n i l (Numbered m) = tt
-step-within ω n i l GoesOn = go (is-line-1 l) (is-compare l)
+step-within : (n ω : ℕ) (δ : Bool) (y i : ℕ) (l : Line) (a : Answer) → Within n (event-of ω δ y (step i) l a)
+step-within n ω δ y i l Accepted = tt
+step-within n ω δ y i l (Numbered m) = tt
+step-within n ω δ y i l GoesOn = go (is-line-1 l) (is-compare l)
   where
-    go : (x y : Bool) → Within n (cond x (line-1 i) (cond y (failed-compare i) quiet))
-    go true y = tt
+    go : (x z : Bool) → Within n (cond x (line-1 i) (cond z (failed-compare i) quiet))
+    go true z = tt
     go false true = tt
     go false false = tt
-step-within ω n i l (Finished j t) = tt
-step-within ω n i l (HandedOut j t) = go (is-compare l)
+step-within n ω true y i l (Finished j t) = tt
+step-within n ω false y i l (Finished j t) = tt
+step-within n ω δ y i l (HandedOut j t) = go (is-compare l)
   where
     go : (x : Bool) → Within n (cond x (handed-out i t) (handed-out 0 t))
     go true = tt
     go false = tt
-step-within ω n i l (Empty j) = tt
-step-within ω n i l (Full j t) = tt
-step-within ω n i l (Refused r) = tt
+step-within n ω δ y i l (Empty j) = tt
+step-within n ω δ y i l (Full j t) = tt
+step-within n ω δ y i l (Refused r) = tt
 
-begin-within : (W : World) (i : ℕ) (op : Operation) (l : Line) → Within (begun W i op .world .bench .used) (event-of (W .bench .words) (begin i op) l (begun W i op .answer))
-begin-within W zero (Put p) l = omega (arith, first-number (W .bench .words) (task (W .bench .used + 1) p))
-begin-within W (suc k) (Put p) l = tt
-begin-within W i Take l = tt
-begin-within W i Steal l = tt
+drain-within : (n : ℕ) (κ : Kind) (ω : ℕ) (q : Queue) (m : List ℕ) (s : Store) (x : Bool) → Within n (cond x quiet (event-of-drain κ ω q m s))
+drain-within n κ ω q m s true = tt
+drain-within n κ ω q m (StoreWord b s j x) false = tt
+drain-within n κ ω q m (StoreNote c) false = tt
+drain-within n κ ω q m (StorePut r) false = tt
+drain-within n κ ω q m (StoreOut r) false = tt
+drain-within n κ ω q m (StoreHead i) false = tt
+drain-within n κ ω q m (StoreTail i) false = tt
 
-call-within : (W : World) (c : Call) (l : Line) → Within (callOf W c .world .bench .used) (event-of (W .bench .words) c l (callOf W c .answer))
-call-within W (begin i op) l =
-    begin-cases (λ (D : Outcome). Within (D .world .bench .used) (event-of (W .bench .words) (begin i op) l (D .answer))) W (λ r q. tt) i op (λ B. begin-within W i op l)
-call-within W (step i) l =
-    step-cases (λ (D : Outcome). Within (D .world .bench .used) (event-of (W .bench .words) (step i) l (D .answer))) W (λ r q. tt) i (λ M. step-within (W .bench .words) (W .bench .used) i l (nextLeft W i .answer))
-call-within W (dropLink i) l =
-    drop-cases (λ (D : Outcome). Within (D .world .bench .used) (event-of (W .bench .words) (dropLink i) l (D .answer))) W (λ r q. tt) i tt
+begin-within : (W : World) (i : ℕ) (op : Operation) → Within (begun W i op .world .bench .used) (event-in W (begin i op) (begun W i op .answer))
+begin-within W zero (Put p) = omega (arith, first-number (W .bench .words) (task (W .bench .used + 1) p))
+begin-within W (suc k) (Put p) = tt
+begin-within W i Take = tt
+begin-within W i Steal = tt
 
-used-next : (W : World) (c : Call) (l : Line) (h : History) → Used W h → Used (callOf W c .world) (event-of (W .bench .words) c l (callOf W c .answer) ∷ h)
-used-next W c l h U u d = go (List·Memᴰ·cases-cons d)
+call-within : (W : World) (c : Call) → Within (callOf W c .world .bench .used) (event-in W c (callOf W c .answer))
+call-within W (begin i op) =
+    begin-cases (λ (D : Outcome). Within (D .world .bench .used) (event-in W (begin i op) (D .answer))) W (λ r q. tt) i op (λ B. begin-within W i op)
+call-within W (step i) =
+    step-cases (λ (D : Outcome). Within (D .world .bench .used) (event-in W (step i) (D .answer))) W (λ r q. tt) i
+    (λ M. step-within (W .bench .used) (W .bench .words) (W .bench .delayed) (W .bench .waiting .count) i _ (effectOf W i .answer))
+call-within W (dropLink i) = drop-cases (λ (D : Outcome). Within (D .world .bench .used) (event-in W (dropLink i) (D .answer))) W (λ r q. tt) i tt
+call-within W drain =
+    drain-cases (λ (D : Outcome). Within (D .world .bench .used) (event-in W drain (D .answer))) W (λ r q. tt) (λ some. drain-within (W .bench .used) _ _ _ _ (oldest (W .bench .waiting)) false)
+
+used-next : (W : World) (c : Call) (h : History) → Used W h → Used (callOf W c .world) (event-in W c (callOf W c .answer) ∷ h)
+used-next W c h U u d = go (List·Memᴰ·cases-cons d)
   where
-    go : (began-put u ≡ event-of (W .bench .words) c l (callOf W c .answer)) ⊎ List·Memᴰ (began-put u) h → u .number ≤ callOf W c .world .bench .used
-    go (inl q) = subst (Within (callOf W c .world .bench .used)) (sym q) (call-within W c l)
+    go : (began-put u ≡ event-in W c (callOf W c .answer)) ⊎ List·Memᴰ (began-put u) h → u .number ≤ callOf W c .world .bench .used
+    go (inl q) = subst (Within (callOf W c .world .bench .used)) (sym q) (call-within W c)
     go (inr m) = omega (arith, U u m, used-kept W c)
 
 -- the whole list
-prem-tail : (κ : Kind) (w : ℕ) (T : List Event) (h : History) → Premise κ w (rev T h) → Premise κ w h
+pub prem-tail : (κ : Kind) (w : ℕ) (T : List Event) (h : History) → Premise κ w (rev T h) → Premise κ w h
 unfolding rev
 prem-tail κ w [] h f = f
 prem-tail κ w (e ∷ T) h f = prem-tail κ w T (e ∷ h) f .1
 
--- what runs: a queue of this kind with a tag of w bits
-pub record Runs (κ : Kind) (w : ℕ) (W : World) (h : History) : Type 0 where
+-- what runs: a queue of this kind with a tag of w bits and this way of storing
+pub record Runs (κ : Kind) (w : ℕ) (δ : Bool) (W : World) (h : History) : Type 0 where
   pub kind : W .bench .kind ≡ κ
   pub bits : tagBits (W .bench) ≡ w
+  pub delayed : W .bench .delayed ≡ δ
   pub whole : Whole W
   pub inv : InvOf W h
-  pub since : Since W h
-  pub good : GoodHistory h
+  pub since : LinkedSince W h
+  pub good : GoodHistory δ h
   pub numbers : Used W h
 
-pub run-kept : (κ : Kind) (w : ℕ) (cs : List Call) (W : World) (h : History) → Runs κ w W h
-    → Premise κ w (rev (events (played W cs)) h) → InvOf (after W cs) (rev (events (played W cs)) h) × GoodHistory (rev (events (played W cs)) h)
+pub run-kept : (κ : Kind) (w : ℕ) (δ : Bool) (cs : List Call) (W : World) (h : History) → Runs κ w δ W h
+    → Premise κ w (rev (events (played W cs)) h) → InvOf (after W cs) (rev (events (played W cs)) h) × GoodHistory δ (rev (events (played W cs)) h)
 unfolding rev played after
-run-kept κ w [] W h R f = (R .inv, R .good)
-run-kept κ w (c ∷ cs) W h R f =
+run-kept κ w δ [] W h R f = (R .inv, R .good)
+run-kept κ w δ (c ∷ cs) W h R f =
     let D = callOf W c in
-    let l = lineAt (W .bench .workers) (workerOf c) in
-    let e = event-of (W .bench .words) c l (D .answer) in
+    let e = event-in W c (D .answer) in
     let p = prem-tail κ w (events (played (D .world) cs)) (e ∷ h) f .0 in
-    let N : (u : Task) → List·Memᴰ (finished-put u) h → u .number ≤ W .bench .used = λ u d. R .numbers u (good-begun h u (R .good) d) in
-    let k = call-kept W (R .whole) h (R .inv) N (R .since) c
+    let k = call-kept W (R .whole) h (R .inv) (R .since) (λ u d. R .numbers u (good-begun δ h u (R .good) d)) c
     (subst₂ (λ (y : Kind) (z : ℕ). PremiseAt y z e h) (sym (R .kind)) (sym (R .bits)) p) in
     let s = call-like W c in
-    run-kept κ w cs (D .world) (e ∷ h)
+    run-kept κ w δ cs (D .world) (e ∷ h)
     (record {
-      kind = s .0 ∙ R .kind;
-      bits = s .1 ∙ R .bits;
+      kind = s .kind ∙ R .kind;
+      bits = s .bits ∙ R .bits;
+      delayed = s .delayed ∙ R .delayed;
       whole = call-whole (R .whole) c;
       inv = k .0;
-      since = call-since W (R .whole) h (R .inv) N (R .since) c;
-      good = (k .1, R .good);
-      numbers = used-next W c l h (R .numbers);
+      since = call-since W (R .whole) h (R .since) c;
+      good = (subst (λ (δ : Bool). GoodEvent δ e h) (R .delayed) (k .1), R .good);
+      numbers = used-next W c h (R .numbers);
     }) f

@@ -18,15 +18,22 @@ use Rattle.model.specs.declared.Task.{Task}
 use Rattle.model.specs.Tasks.{task, firstWords}
 use Rattle.model.specs.declared.Anchor.{Anchor}
 use Rattle.model.specs.declared.Refusal.{Refusal}
+use Rattle.model.specs.Lines.{lineStep}
 use Rattle.model.specs.World.{World, Outcome, tagBits, lineAt}
-use Rattle.model.specs.Calls.{Call, begin, step, dropLink, callOf}
+use Rattle.model.specs.Stores.{oldest}
+use Rattle.model.specs.Calls.{Call, begin, step, dropLink, drain, callOf}
+use Rattle.model.specs.declared.Store.{Store}
+use Rattle.model.specs.declared.Store.the-variants.{StoreWord, StoreNote, StorePut, StoreOut, StoreHead, StoreTail}
 use Rattle.model.specs.Run.{Played, played}
-use Rattle.theorems.proofs.Effects.{lineLeft, nextLeft}
-use Rattle.theorems.specs.Demand3.{At, Begins, Finishes, HandsOut, Empties, Line1, Compares, Attempt, finishes, puts, between, Few, FewPuts}
-use Rattle.theorems.proofs.Events.{Event, quiet, line-1, finished-put, handed-out, failed-compare, found-empty, began-put, found-full, is-line-1, is-compare, event-of-begin, event-of-going-on, event-of-hand-out, event-of}
+use Rattle.theorems.specs.Demand3.{At, Begins, Finishes, HandsOut, Empties, Line1, Compares, Attempt, finishes, ofPut, arrivesAs, puts, drainsAs, drains, between, Few, FewPuts}
+use Rattle.theorems.proofs.Events.{Event, quiet, line-1, finished-put, handed-out, failed-compare, found-empty, began-put, found-full, waiting-put, drained, is-line-1, is-compare, event-of-begin, event-of-going-on, event-of-hand-out, event-of-finish, event-of, event-of-drain}
 use Rattle.theorems.proofs.Places.{EventAt, EventLine1, finishes-put, finished-puts, events-between, EventCompares, EventFew}
-use Rattle.theorems.proofs.Cases.{step-cases}
-use Rattle.theorems.proofs.SoundRun.{workerOf, event-at, events}
+use Rattle.theorems.proofs.Cases.{effectOf, step-cases, drain-cases}
+use Rattle.theorems.proofs.SoundRun.{event-in, event-at, events, call-like}
+use Rattle.theorems.proofs.Invariant.{drain-of}
+use Rattle.theorems.proofs.ShapeStep.{not-both}
+use Rattle.model.specs.Listing.{isRefused}
+use Rattle.model.specs.Tests.{if_then_else_}
 
 -- places
 pub at-map : (T : List Played) (j : ℕ) (P Q : Played → Type 0) → ((s : Played) → P s → Q s) → At T j P → At T j Q
@@ -59,79 +66,143 @@ at-true [] W j P Q f a = a
 at-true (c ∷ cs) W zero P Q f a = f _ refl a
 at-true (c ∷ cs) W (suc j) P Q f a = at-true cs (callOf W c .world) j P Q f a
 
+abbrev isPlain : Answer → Bool
+isPlain Accepted = true
+isPlain (Numbered n) = false
+isPlain GoesOn = false
+isPlain (Finished i t) = false
+isPlain (HandedOut i t) = false
+isPlain (Empty i) = false
+isPlain (Full i t) = false
+isPlain (Refused r) = true
+
 -- what an event says of the call
-abbrev Says : ℕ → Call → Line → Answer → Event → Type 0
-Says ω c l a quiet = Unit {0}
-Says ω c l a (line-1 i) = (c ≡ step i) × (is-line-1 l ≡ true) × (a ≡ GoesOn)
-Says ω c l a (finished-put t) = (i : ℕ) × (a ≡ Finished i t)
-Says ω c l a (handed-out zero t) = (i : ℕ) × (a ≡ HandedOut i t)
-Says ω c l a (handed-out (suc k) t) = (i : ℕ) × (a ≡ HandedOut i t) × (c ≡ step (suc k)) × (is-compare l ≡ true)
-Says ω c l a (failed-compare i) = (c ≡ step i) × (is-compare l ≡ true) × (a ≡ GoesOn)
-Says ω c l a (found-empty i) = a ≡ Empty i
-Says ω c l a (began-put t) = (n : ℕ) × (p : Payload) × (c ≡ begin 0 (Put p)) × (a ≡ Numbered n) × (firstWords (ω + 1) (task n p) ≡ t)
-Says ω c l a (found-full t) = Unit {0}
+abbrev Says : ℕ → Bool → ℕ → Call → Line → Answer → Event → Type 0
+Says ω δ y c l a quiet = Unit {0}
+Says ω δ y c l a (line-1 i) = (c ≡ step i) × (is-line-1 l ≡ true) × (a ≡ GoesOn)
+Says ω δ y c l a (finished-put t) = ((i : ℕ) × (a ≡ Finished i t) × (δ ≡ false)) ⊎ (c ≡ drain)
+Says ω δ y c l a (handed-out zero t) = (i : ℕ) × (a ≡ HandedOut i t)
+Says ω δ y c l a (handed-out (suc k) t) = (i : ℕ) × (a ≡ HandedOut i t) × (c ≡ step (suc k)) × (is-compare l ≡ true)
+Says ω δ y c l a (failed-compare i) = (c ≡ step i) × (is-compare l ≡ true) × (a ≡ GoesOn)
+Says ω δ y c l a (found-empty i) = a ≡ Empty i
+Says ω δ y c l a (began-put t) = (n : ℕ) × (p : Payload) × (c ≡ begin 0 (Put p)) × (a ≡ Numbered n) × (firstWords (ω + 1) (task n p) ≡ t)
+Says ω δ y c l a (found-full t) = Unit {0}
+Says ω δ y c l a (waiting-put t n) = ((i : ℕ) × (a ≡ Finished i t)) × (n ≡ y + 1) × (δ ≡ true)
+Says ω δ y c l a drained = c ≡ drain
 
-says-go : (ω i : ℕ) (l : Line) (x y : Bool) → is-line-1 l ≡ x → is-compare l ≡ y → Says ω (step i) l GoesOn (cond x (line-1 i) (cond y (failed-compare i) quiet))
-says-go ω i l true y p q = (refl, p, refl)
-says-go ω i l false true p q = (refl, q, refl)
-says-go ω i l false false p q = tt
+says-go : (ω : ℕ) (δ : Bool) (y i : ℕ) (l : Line) (x z : Bool) → is-line-1 l ≡ x → is-compare l ≡ z → Says ω δ y (step i) l GoesOn (cond x (line-1 i) (cond z (failed-compare i) quiet))
+says-go ω δ y i l true z p q = (refl, p, refl)
+says-go ω δ y i l false true p q = (refl, q, refl)
+says-go ω δ y i l false false p q = tt
 
-says-out : (ω i : ℕ) (l : Line) (j : ℕ) (t : Task) (y : Bool) → is-compare l ≡ y → Says ω (step i) l (HandedOut j t) (cond y (handed-out i t) (handed-out 0 t))
-says-out ω zero l j t true q = (j, refl)
-says-out ω (suc k) l j t true q = (j, refl, refl, q)
-says-out ω zero l j t false q = (j, refl)
-says-out ω (suc k) l j t false q = (j, refl)
+says-out : (ω : ℕ) (δ : Bool) (y i : ℕ) (l : Line) (j : ℕ) (t : Task) (z : Bool) → is-compare l ≡ z → Says ω δ y (step i) l (HandedOut j t) (cond z (handed-out i t) (handed-out 0 t))
+says-out ω δ y zero l j t true q = (j, refl)
+says-out ω δ y (suc k) l j t true q = (j, refl, refl, q)
+says-out ω δ y zero l j t false q = (j, refl)
+says-out ω δ y (suc k) l j t false q = (j, refl)
 
-says : (ω : ℕ) (c : Call) (l : Line) (a : Answer) → Says ω c l a (event-of ω c l a)
-says ω c l Accepted = tt
-says ω (begin zero (Put p)) l (Numbered n) = (n, p, refl, refl, refl)
-says ω (begin (suc k) (Put p)) l (Numbered n) = tt
-says ω (begin i Take) l (Numbered n) = tt
-says ω (begin i Steal) l (Numbered n) = tt
-says ω (step i) l (Numbered n) = tt
-says ω (dropLink i) l (Numbered n) = tt
-says ω (begin i op) l GoesOn = tt
-says ω (dropLink i) l GoesOn = tt
-says ω (step i) l GoesOn = says-go ω i l (is-line-1 l) (is-compare l) refl refl
-says ω c l (Finished i t) = (i, refl)
-says ω (begin i op) l (HandedOut j t) = (j, refl)
-says ω (dropLink i) l (HandedOut j t) = (j, refl)
-says ω (step i) l (HandedOut j t) = says-out ω i l j t (is-compare l) refl
-says ω c l (Empty i) = refl
-says ω c l (Full i t) = tt
-says ω c l (Refused r) = tt
+says : (ω : ℕ) (δ : Bool) (y : ℕ) (c : Call) (l : Line) (a : Answer) → Says ω δ y c l a (event-of ω δ y c l a)
+says ω δ y c l Accepted = tt
+says ω δ y (begin zero (Put p)) l (Numbered n) = (n, p, refl, refl, refl)
+says ω δ y (begin (suc k) (Put p)) l (Numbered n) = tt
+says ω δ y (begin i Take) l (Numbered n) = tt
+says ω δ y (begin i Steal) l (Numbered n) = tt
+says ω δ y (step i) l (Numbered n) = tt
+says ω δ y (dropLink i) l (Numbered n) = tt
+says ω δ y drain l (Numbered n) = tt
+says ω δ y (begin i op) l GoesOn = tt
+says ω δ y (step i) l GoesOn = says-go ω δ y i l (is-line-1 l) (is-compare l) refl refl
+says ω δ y (dropLink i) l GoesOn = tt
+says ω δ y drain l GoesOn = tt
+says ω true y c l (Finished i t) = ((i, refl), refl, refl)
+says ω false y c l (Finished i t) = inl (i, refl, refl)
+says ω δ y (begin i op) l (HandedOut j t) = (j, refl)
+says ω δ y (step i) l (HandedOut j t) = says-out ω δ y i l j t (is-compare l) refl
+says ω δ y (dropLink i) l (HandedOut j t) = (j, refl)
+says ω δ y drain l (HandedOut j t) = (j, refl)
+says ω δ y c l (Empty i) = refl
+says ω δ y c l (Full i t) = tt
+says ω δ y c l (Refused r) = tt
+
+says-drain : (ω : ℕ) (δ : Bool) (y : ℕ) (l : Line) (a : Answer) (κ : Kind) (q : Queue) (m : List ℕ) (s : Store) (x : Bool) → Says ω δ y drain l a (cond x quiet (event-of-drain κ ω q m s))
+says-drain ω δ y l a κ q m s true = tt
+says-drain ω δ y l a κ q m (StoreWord b s j x) false = refl
+says-drain ω δ y l a κ q m (StoreNote k) false = refl
+says-drain ω δ y l a κ q m (StorePut r) false = inr refl
+says-drain ω δ y l a κ q m (StoreOut r) false = refl
+says-drain ω δ y l a κ q m (StoreHead i) false = refl
+says-drain ω δ y l a κ q m (StoreTail i) false = inr refl
+
+-- whose line a call is about
+abbrev workerOf : Call → ℕ
+workerOf (begin i op) = i
+workerOf (step i) = i
+workerOf (dropLink i) = i
+workerOf drain = 0
 
 abbrev lineOf : Played → Line
 lineOf s = lineAt (s .before .bench .workers) (workerOf (s .call))
 
-pub told : (s : Played) (e : Event) → event-at s ≡ e → Says (s .before .bench .words) (s .call) (lineOf s) (s .answer) e
-told s e q = subst (Says (s .before .bench .words) (s .call) (lineOf s) (s .answer)) q (says (s .before .bench .words) (s .call) (lineOf s) (s .answer))
+abbrev SaysAt : Played → Event → Type 0
+SaysAt s e = Says (s .before .bench .words) (s .before .bench .delayed) (s .before .bench .waiting .count) (s .call) (lineOf s) (s .answer) e
+
+says-in : (W : World) (c : Call) (a : Answer) → Says (W .bench .words) (W .bench .delayed) (W .bench .waiting .count) c (lineAt (W .bench .workers) (workerOf c)) a (event-in W c a)
+says-in W (begin i op) a = says (W .bench .words) (W .bench .delayed) (W .bench .waiting .count) (begin i op) _ a
+says-in W (step i) a = says (W .bench .words) (W .bench .delayed) (W .bench .waiting .count) (step i) _ a
+says-in W (dropLink i) a = says (W .bench .words) (W .bench .delayed) (W .bench .waiting .count) (dropLink i) _ a
+says-in W drain a = says-drain (W .bench .words) (W .bench .delayed) (W .bench .waiting .count) _ a _ _ _ (oldest (W .bench .waiting)) (isRefused a)
+
+pub told : (s : Played) (e : Event) → event-at s ≡ e → SaysAt s e
+told s e q = subst (SaysAt s) q (says-in (s .before) (s .call) (s .answer))
+
+-- a drain is accepted or refused
+abbrev Plainly : Answer → Type 0
+Plainly a = (a ≡ Accepted) ⊎ ((r : Refusal) × (a ≡ Refused r))
+
+drain-answer : (W : World) → Plainly (callOf W drain .answer)
+drain-answer W = drain-cases (λ (D : Outcome). Plainly (D .answer)) W (λ r l. inr (r, refl)) (λ some. inl refl)
+
+-- a call whose answer is neither is no drain: its event is by its answer
+ordinary : (s : Played) → True s → (Plainly (s .answer) → ⊥) → event-at s ≡ event-of (s .before .bench .words) (s .before .bench .delayed) (s .before .bench .waiting .count) (s .call) (lineOf s) (s .answer)
+ordinary s t n = go (s .call) refl
+  where
+    go : (c : Call) → s .call ≡ c → event-in (s .before) c (s .answer) ≡ event-of (s .before .bench .words) (s .before .bench .delayed) (s .before .bench .waiting .count) c (lineAt (s .before .bench .workers) (workerOf c)) (s .answer)
+    go (begin i op) e = refl
+    go (step i) e = refl
+    go (dropLink i) e = refl
+    go drain e = absurd (n (subst Plainly (sym (t ∙ ap (λ (c : Call). callOf (s .before) c .answer) e)) (drain-answer (s .before))))
+
+not-plain : (a : Answer) → isPlain a ≡ false → Plainly a → ⊥
+not-plain a p (inl q) = not-both (isPlain a) p (ap isPlain q)
+not-plain a p (inr (r, q)) = not-both (isPlain a) p (ap isPlain q)
 
 -- finished, begun, EMPTY
-pub done-ev : (t : Task) (s : Played) → Finishes t s → event-at s ≡ finished-put t
-done-ev t s (i, e) = ap (event-of (s .before .bench .words) (s .call) (lineOf s)) e
+pub done-ev : (t : Task) (s : Played) → True s → Finishes t s → event-at s ≡ event-of-finish (s .before .bench .delayed) (s .before .bench .waiting .count) t
+done-ev t s tr (i, e) = ordinary s tr (not-plain (s .answer) (ap isPlain e)) ∙ ap (event-of (s .before .bench .words) (s .before .bench .delayed) (s .before .bench .waiting .count) (s .call) (lineOf s)) e
 
-pub ev-done : (t : Task) (s : Played) → event-at s ≡ finished-put t → Finishes t s
-ev-done t s e = told s (finished-put t) e
+pub ev-wait : (t : Task) (n : ℕ) (s : Played) → event-at s ≡ waiting-put t n → Finishes t s
+ev-wait t n s e = told s (waiting-put t n) e .0
 
 pub ev-began : (t : Task) (s : Played) → event-at s ≡ began-put t → Begins t s
 ev-began t s e = told s (began-put t) e
 
-pub empty-ev : (i : ℕ) (s : Played) → Empties i s → event-at s ≡ found-empty i
-empty-ev i s e = ap (event-of (s .before .bench .words) (s .call) (lineOf s)) e
+pub empty-ev : (i : ℕ) (s : Played) → True s → Empties i s → event-at s ≡ found-empty i
+empty-ev i s tr e = ordinary s tr (not-plain (s .answer) (ap isPlain e)) ∙ ap (event-of (s .before .bench .words) (s .before .bench .delayed) (s .before .bench .waiting .count) (s .call) (lineOf s)) e
 
--- handed out
 out-is : (c : Call) (l : Line) (t : Task) → (i : ℕ) × (event-of-hand-out c l t ≡ handed-out i t)
 out-is (begin i op) l t = (0, refl)
 out-is (dropLink i) l t = (0, refl)
+out-is drain l t = (0, refl)
 out-is (step i) l t = go (is-compare l)
   where
     go : (x : Bool) → (j : ℕ) × (cond x (handed-out i t) (handed-out 0 t) ≡ handed-out j t)
     go true = (i, refl)
     go false = (0, refl)
 
-pub out-ev : (t : Task) (s : Played) → HandsOut t s → (i : ℕ) × (event-at s ≡ handed-out i t)
-out-ev t s (j, e) = let r = out-is (s .call) (lineOf s) t in (r .0, ap (event-of (s .before .bench .words) (s .call) (lineOf s)) e ∙ r .1)
+pub out-ev : (t : Task) (s : Played) → True s → HandsOut t s → (i : ℕ) × (event-at s ≡ handed-out i t)
+out-ev t s tr (j, e) =
+    let r = out-is (s .call) (lineOf s) t in
+    (r .0, ordinary s tr (not-plain (s .answer) (ap isPlain e)) ∙ ap (event-of (s .before .bench .words) (s .before .bench .delayed) (s .before .bench .waiting .count) (s .call) (lineOf s)) e ∙ r .1)
 
 pub ev-out : (i : ℕ) (t : Task) (s : Played) → event-at s ≡ handed-out i t → HandsOut t s
 ev-out zero t s e = let r = told s (handed-out 0 t) e in (r .0, r .1)
@@ -204,37 +275,46 @@ ev-line1 i s e = go (first-is (lineOf s) (T .1))
 
 -- a step is refused, or answers what its line answers
 abbrev Stepped : World → ℕ → Answer → Type 0
-Stepped W i a = ((r : Refusal) × (a ≡ Refused r)) ⊎ (a ≡ nextLeft W i .answer)
+Stepped W i a = ((r : Refusal) × (a ≡ Refused r)) ⊎ (a ≡ effectOf W i .answer)
 
 step-answer : (W : World) (i : ℕ) → Stepped W i (callOf W (step i) .answer)
 step-answer W i = step-cases (λ (D : Outcome). Stepped W i (D .answer)) W (λ r l. inl (r, refl)) i (λ M. inr refl)
 
-goes-take : (κ : Kind) (w ω : ℕ) (q : Queue) (m : List ℕ) (i : ℕ) (l : Line) → l ≡ TakeRead → lineLeft κ w ω q m i l .answer ≡ GoesOn
-unfolding lineLeft
+goes-take : (κ : Kind) (w ω : ℕ) (q : Queue) (m : List ℕ) (i : ℕ) (l : Line) → l ≡ TakeRead → lineStep κ w ω q m i l .answer ≡ GoesOn
+unfolding lineStep
 goes-take κ w ω q m i l e = rw e
 
-goes-steal : (κ : Kind) (w ω : ℕ) (q : Queue) (m : List ℕ) (i : ℕ) (l : Line) → l ≡ StealRead → lineLeft κ w ω q m i l .answer ≡ GoesOn
-unfolding lineLeft
+goes-steal : (κ : Kind) (w ω : ℕ) (q : Queue) (m : List ℕ) (i : ℕ) (l : Line) → l ≡ StealRead → lineStep κ w ω q m i l .answer ≡ GoesOn
+unfolding lineStep
 goes-steal κ w ω q m i l e = rw e
 
-accepted-is : (W : World) (i : ℕ) (a b : Answer) → nextLeft W i .answer ≡ b
+take-goes : (W : World) (i : ℕ) → lineAt (W .bench .workers) i ≡ TakeRead → effectOf W i .answer ≡ GoesOn
+take-goes W zero e = goes-take _ _ _ _ _ 0 _ e
+take-goes W (suc i) e = goes-take _ _ _ _ _ (suc i) _ e
+
+steal-goes : (W : World) (i : ℕ) → lineAt (W .bench .workers) i ≡ StealRead → effectOf W i .answer ≡ GoesOn
+steal-goes W zero e = goes-steal _ _ _ _ _ 0 _ e
+steal-goes W (suc i) e = goes-steal _ _ _ _ _ (suc i) _ e
+
+accepted-is : (W : World) (i : ℕ) (a b : Answer) → effectOf W i .answer ≡ b
     → ((r : Refusal) → a ≡ Refused r → ⊥) → Stepped W i a → a ≡ b
 accepted-is W i a b e n (inl (r, q)) = absurd (n r q)
 accepted-is W i a b e n (inr q) = q ∙ e
 
 line1-is : (i : ℕ) (s : Played) (l : Line) → is-line-1 l ≡ true → s .call ≡ step i → lineAt (s .before .bench .workers) i ≡ l → s .answer ≡ GoesOn → event-at s ≡ line-1 i
 line1-is i s l f ec el ea =
-    ap (event-of (s .before .bench .words) (s .call) (lineOf s)) ea ∙ ap (λ (c : Call). event-of-going-on c (lineOf s)) ec
-    ∙ ap (λ (x : Line). cond (is-line-1 x) (line-1 i) (cond (is-compare x) (failed-compare i) quiet)) (of-step s i ec ∙ el)
+    ap (λ (c : Call). event-in (s .before) c (s .answer)) ec
+    ∙ ap (event-of (s .before .bench .words) (s .before .bench .delayed) (s .before .bench .waiting .count) (step i) (lineAt (s .before .bench .workers) i)) ea
+    ∙ ap (λ (x : Line). cond (is-line-1 x) (line-1 i) (cond (is-compare x) (failed-compare i) quiet)) el
     ∙ ap (λ (x : Bool). cond x (line-1 i) (cond (is-compare l) (failed-compare i) quiet)) f
 
 pub line1-ev : (i : ℕ) (s : Played) → True s → Line1 i s → event-at s ≡ line-1 i
 line1-ev i s t (inl (ec, el, n)) =
     line1-is i s TakeRead refl ec el
-    (accepted-is (s .before) i (s .answer) GoesOn (goes-take _ _ _ _ _ i _ el) n (subst (Stepped (s .before) i) (sym (t ∙ ap (λ (c : Call). callOf (s .before) c .answer) ec)) (step-answer (s .before) i)))
+    (accepted-is (s .before) i (s .answer) GoesOn (take-goes (s .before) i el) n (subst (Stepped (s .before) i) (sym (t ∙ ap (λ (c : Call). callOf (s .before) c .answer) ec)) (step-answer (s .before) i)))
 line1-ev i s t (inr (ec, el, n)) =
     line1-is i s StealRead refl ec el
-    (accepted-is (s .before) i (s .answer) GoesOn (goes-steal _ _ _ _ _ i _ el) n (subst (Stepped (s .before) i) (sym (t ∙ ap (λ (c : Call). callOf (s .before) c .answer) ec)) (step-answer (s .before) i)))
+    (accepted-is (s .before) i (s .answer) GoesOn (steal-goes (s .before) i el) n (subst (Stepped (s .before) i) (sym (t ∙ ap (λ (c : Call). callOf (s .before) c .answer) ec)) (step-answer (s .before) i)))
 
 -- compares
 compares-is : (i : ℕ) (s : Played) → s .call ≡ step i → is-compare (lineOf s) ≡ true → ((r : Refusal) → s .answer ≡ Refused r → ⊥) → Compares i s
@@ -253,10 +333,11 @@ stolen-compares k t s e =
     let T = told s (handed-out (suc k) t) e in
     compares-is (suc k) s (T .2) (T .3) (out-not-refused (s .answer) (T .0) t (T .1))
 
--- how many puts finish
+-- how many puts come to memory
 done-go : (c : Call) (l : Line) → finishes-put (event-of-going-on c l) ≡ 0
 done-go (begin i op) l = refl
 done-go (dropLink i) l = refl
+done-go drain l = refl
 done-go (step i) l = go (is-line-1 l) (is-compare l)
   where
     go : (x y : Bool) → finishes-put (cond x (line-1 i) (cond y (failed-compare i) quiet)) ≡ 0
@@ -271,20 +352,49 @@ done-begin ω (begin i Take) n = refl
 done-begin ω (begin i Steal) n = refl
 done-begin ω (step i) n = refl
 done-begin ω (dropLink i) n = refl
+done-begin ω drain n = refl
 
-done-is : (ω : ℕ) (c : Call) (l : Line) (a : Answer) → finishes-put (event-of ω c l a) ≡ finishes a
-done-is ω c l Accepted = refl
-done-is ω c l (Numbered n) = done-begin ω c n
-done-is ω c l GoesOn = done-go c l
-done-is ω c l (Finished i t) = refl
-done-is ω c l (HandedOut i t) = let r = out-is c l t in ap finishes-put (r .1)
-done-is ω c l (Empty i) = refl
-done-is ω c l (Full i t) = refl
-done-is ω c l (Refused r) = refl
+nothing : (δ : Bool) → _≡_ {A = ℕ} 0 (if δ then 0 else 0)
+unfolding if_then_else_
+nothing true = refl
+nothing false = refl
+
+done-is : (ω : ℕ) (δ : Bool) (y : ℕ) (c : Call) (l : Line) (a : Answer) → finishes-put (event-of ω δ y c l a) ≡ (if δ then 0 else finishes a)
+unfolding if_then_else_
+done-is ω δ y c l Accepted = nothing δ
+done-is ω δ y c l (Numbered n) = done-begin ω c n ∙ nothing δ
+done-is ω δ y c l GoesOn = done-go c l ∙ nothing δ
+done-is ω true y c l (Finished i t) = refl
+done-is ω false y c l (Finished i t) = refl
+done-is ω δ y c l (HandedOut i t) = let r = out-is c l t in ap finishes-put (r .1) ∙ nothing δ
+done-is ω δ y c l (Empty i) = nothing δ
+done-is ω δ y c l (Full i t) = nothing δ
+done-is ω δ y c l (Refused r) = nothing δ
+
+done-drain : (κ : Kind) (ω : ℕ) (q : Queue) (m : List ℕ) (s : Store) (x : Bool) → finishes-put (cond x quiet (event-of-drain κ ω q m s)) ≡ (if x then 0 else ofPut s)
+unfolding if_then_else_
+done-drain κ ω q m s true = refl
+done-drain κ ω q m (StoreWord b s j x) false = refl
+done-drain κ ω q m (StoreNote k) false = refl
+done-drain κ ω q m (StorePut r) false = refl
+done-drain κ ω q m (StoreOut r) false = refl
+done-drain κ ω q m (StoreHead i) false = refl
+done-drain κ ω q m (StoreTail i) false = refl
+
+done-in : (W : World) (c : Call) (a : Answer) → finishes-put (event-in W c a) ≡ arrivesAs W c a
+done-in W (begin i op) a = done-is (W .bench .words) (W .bench .delayed) (W .bench .waiting .count) (begin i op) _ a
+done-in W (step i) a = done-is (W .bench .words) (W .bench .delayed) (W .bench .waiting .count) (step i) _ a
+done-in W (dropLink i) a = done-is (W .bench .words) (W .bench .delayed) (W .bench .waiting .count) (dropLink i) _ a
+done-in W drain a = done-drain _ _ _ _ (oldest (W .bench .waiting)) (isRefused a)
 
 puts-is : (T : List Played) → finished-puts (events T) ≡ puts T
 puts-is [] = refl
-puts-is (s ∷ T) = omega (arith, puts-is T, done-is (s .before .bench .words) (s .call) (lineOf s) (s .answer))
+puts-is (s ∷ T) = omega (arith, puts-is T, done-in (s .before) (s .call) (s .answer))
+
+-- how many stores are put down, with delayed stores
+abbrev pub drain-sum : List Event → ℕ
+drain-sum [] = 0
+drain-sum (e ∷ l) = drain-sum l + drain-of e
 
 events-drop : (T : List Played) (n : ℕ) → drop n (events T) ≡ events (drop n T)
 events-drop T zero = refl
@@ -300,6 +410,75 @@ pub between-is : (T : List Played) (l j : ℕ) → finished-puts (events-between
 between-is T l j =
     ap (λ (x : List Event). finished-puts (take (j - suc l) x)) (events-drop T (suc l)) ∙ ap finished-puts (events-take (drop (suc l) T) (j - suc l))
     ∙ puts-is (between l j T)
+
+still-is : (ω y : ℕ) (c : Call) (l : Line) (a : Answer) → drain-of (event-of ω true y c l a) ≡ 0
+still-is ω y c l Accepted = refl
+still-is ω y (begin zero (Put p)) l (Numbered n) = refl
+still-is ω y (begin (suc k) (Put p)) l (Numbered n) = refl
+still-is ω y (begin i Take) l (Numbered n) = refl
+still-is ω y (begin i Steal) l (Numbered n) = refl
+still-is ω y (step i) l (Numbered n) = refl
+still-is ω y (dropLink i) l (Numbered n) = refl
+still-is ω y drain l (Numbered n) = refl
+still-is ω y (begin i op) l GoesOn = refl
+still-is ω y (dropLink i) l GoesOn = refl
+still-is ω y drain l GoesOn = refl
+still-is ω y (step i) l GoesOn = go (is-line-1 l) (is-compare l)
+  where
+    go : (x z : Bool) → drain-of (cond x (line-1 i) (cond z (failed-compare i) quiet)) ≡ 0
+    go true z = refl
+    go false true = refl
+    go false false = refl
+still-is ω y c l (Finished i t) = refl
+still-is ω y c l (HandedOut i t) = let r = out-is c l t in ap drain-of (r .1)
+still-is ω y c l (Empty i) = refl
+still-is ω y c l (Full i t) = refl
+still-is ω y c l (Refused r) = refl
+
+drain-one : (κ : Kind) (ω : ℕ) (q : Queue) (m : List ℕ) (s : Store) (x : Bool) → drain-of (cond x quiet (event-of-drain κ ω q m s)) ≡ (if x then 0 else 1)
+unfolding if_then_else_
+drain-one κ ω q m s true = refl
+drain-one κ ω q m (StoreWord b s j x) false = refl
+drain-one κ ω q m (StoreNote k) false = refl
+drain-one κ ω q m (StorePut r) false = refl
+drain-one κ ω q m (StoreOut r) false = refl
+drain-one κ ω q m (StoreHead i) false = refl
+drain-one κ ω q m (StoreTail i) false = refl
+
+drain-in : (W : World) (c : Call) (a : Answer) → W .bench .delayed ≡ true → drain-of (event-in W c a) ≡ drainsAs c a
+drain-in W (begin i op) a e = ap (λ (δ : Bool). drain-of (event-of (W .bench .words) δ (W .bench .waiting .count) (begin i op) (lineAt (W .bench .workers) i) a)) e ∙ still-is _ _ (begin i op) _ a
+drain-in W (step i) a e = ap (λ (δ : Bool). drain-of (event-of (W .bench .words) δ (W .bench .waiting .count) (step i) (lineAt (W .bench .workers) i) a)) e ∙ still-is _ _ (step i) _ a
+drain-in W (dropLink i) a e = ap (λ (δ : Bool). drain-of (event-of (W .bench .words) δ (W .bench .waiting .count) (dropLink i) (lineAt (W .bench .workers) i) a)) e ∙ still-is _ _ (dropLink i) _ a
+drain-in W drain a e = drain-one _ _ _ _ (oldest (W .bench .waiting)) (isRefused a)
+
+-- all calls of the list have delayed stores
+abbrev pub Delayed : List Played → Type 0
+Delayed [] = Unit {0}
+Delayed (s ∷ T) = (s .before .bench .delayed ≡ true) × Delayed T
+
+delayed-take : (T : List Played) (n : ℕ) → Delayed T → Delayed (take n T)
+delayed-take T zero D = tt
+delayed-take [] (suc n) D = tt
+delayed-take (s ∷ T) (suc n) D = (D .0, delayed-take T n (D .1))
+
+delayed-drop : (T : List Played) (n : ℕ) → Delayed T → Delayed (drop n T)
+delayed-drop T zero D = D
+delayed-drop [] (suc n) D = tt
+delayed-drop (s ∷ T) (suc n) D = delayed-drop T n (D .1)
+
+pub delayed-all : (cs : List Call) (W : World) → W .bench .delayed ≡ true → Delayed (played W cs)
+unfolding played
+delayed-all [] W e = tt
+delayed-all (c ∷ cs) W e = (e, delayed-all cs (callOf W c .world) (call-like W c .delayed ∙ e))
+
+drains-is : (T : List Played) → Delayed T → drain-sum (events T) ≡ drains T
+drains-is [] D = refl
+drains-is (s ∷ T) D = omega (arith, drains-is T (D .1), drain-in (s .before) (s .call) (s .answer) (D .0))
+
+pub drained-is : (T : List Played) (l j : ℕ) → Delayed T → drain-sum (events-between l j (events T)) ≡ drains (between l j T)
+drained-is T l j D =
+    ap (λ (x : List Event). drain-sum (take (j - suc l) x)) (events-drop T (suc l)) ∙ ap drain-sum (events-take (drop (suc l) T) (j - suc l))
+    ∙ drains-is (between l j T) (delayed-take (drop (suc l) T) (j - suc l) (delayed-drop T (suc l) D))
 
 -- attempts
 pub ev-attempt : (cs : List Call) (W : World) (i l j : ℕ) → EventLine1 (events (played W cs)) i l j → Attempt (played W cs) i l j

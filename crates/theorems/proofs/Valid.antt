@@ -2,10 +2,10 @@
 use mathlib.Core.Path.{_≡_, refl, sym, subst}
 use mathlib.Core.Bool.{Bool, true, false, not}
 use mathlib.Core.Logic.{inl, inr}
-use mathlib.Core.List.{List}
+use mathlib.Core.List.{List, [], _∷_}
 use Prim.Native.Nat.{ℕ, zero, suc, _+_, _-_, _^_, _≤_, _<_}
 use native.Mathlib.Omega.{arith}
-use lib.Dec.{ltb}
+use lib.Dec.{ltb, leb}
 use lib.ListN.{length}
 use borrow.Author.Tests.{eq-eqb, le-leb, lt-ltb, ltb-false}
 use Rattle.model.specs.declared.Kind.{Kind}
@@ -13,18 +13,26 @@ use Rattle.model.specs.declared.Kind.the-variants.{Lifo, Fifo, Deque}
 use Rattle.model.specs.declared.Line.{Line}
 use Rattle.model.specs.declared.Line.the-variants.{Idle, PutRead, PutTail, PutTest, PutWord, PutFinish, Claim, Note, Copy, Publish, TakeRead, TakeTail, TakeTest, TakeWord, TakeFinish, StealRead, StealTail, StealTest, StealNote, StealWord, StealNext, StealCompare}
 use Rattle.model.specs.declared.Queue.{Queue}
+use Rattle.model.specs.declared.Region.{Region}
+use Rattle.model.specs.declared.Store.{Store}
+use Rattle.model.specs.declared.Store.the-variants.{StoreWord, StoreNote, StorePut, StoreOut, StoreHead, StoreTail}
+use Rattle.model.specs.Memory.{sizeAt}
 use Rattle.model.specs.declared.Worker.{Worker}
 use Rattle.model.specs.declared.Anchor.{Anchor}
 use Rattle.model.specs.declared.Task.{Task}
 use Rattle.model.proofs.Tasks.{none-from}
-use Rattle.model.specs.Tests.{if_then_else_, _or_}
+use Rattle.model.specs.Tests.{if_then_else_, _and_, _or_}
 use Rattle.model.proofs.Tests.{and-both, or-either}
 use Rattle.model.specs.Lines.{size, holdsLink}
+use Rattle.model.specs.Stores.{Shared, inLine}
 use Rattle.model.specs.World.{World, tagBits, lineAt, isIdle}
-use Rattle.model.specs.Limits.{kindOk, linkOk, linksOk, taskOk, anchorOk, readOk, headOk, roomOk, someOk, notedOk, slotOk, isDeque, nextOk, ownerOk, thiefOk, thievesOk, validOf}
+use Rattle.model.specs.Limits.{kindOk, linkOk, linksOk, taskOk, numberOk, anchorOk, readOk, headOk, roomOk, someOk, notedOk, slotOk, isDeque, nextOk, ownerOk, thiefOk, thievesOk, hasAnchor, storesOk, benchOk, validOf}
+use Rattle.theorems.proofs.Folds.{places, laid, words, landed-is}
 use Rattle.model.specs.Figures.{anchor}
-use Rattle.theorems.proofs.Directory.{Arrays}
-use Rattle.theorems.proofs.Shape.{tail, Bounded, Head, OwnRead, Room, Some, Span, Early, ThiefRead, Slot, Double, After, Known, pending, Spent, OwnShape, ThiefShape, Shape}
+use Rattle.theorems.proofs.Directory.{Arrays, tidy-below}
+use Rattle.theorems.proofs.Shape.{tail, Bounded, Head, OwnRead, Room, Some, Span, Early, ThiefRead, Slot, Double, After, Known, pending, Spent, OwnShape, ThiefShape, tails, lows, FitAnchor, FitHead, FitTail, Path, Shape}
+use Rattle.theorems.proofs.ShapeLay.{shape-settle, tails-is}
+use Rattle.theorems.proofs.ShapeClaim.{path-places}
 
 -- the last head that a FIFO's owner read is no higher than the tail
 abbrev LowOk : Kind → ℕ → ℕ → Type 0
@@ -32,21 +40,20 @@ LowOk Lifo low τ = Unit {0}
 LowOk Fifo low τ = low ≤ τ
 LowOk Deque low τ = Unit {0}
 
-low-ok : (κ : Kind) (w z low : ℕ) (q : Queue) → Bounded κ w z low (q .anchor) → LowOk κ low (tail κ q)
+low-ok : (κ : Kind) (w z low : ℕ) (a : Anchor) → Bounded κ w z low a → LowOk κ low (tail κ a)
 low-ok Lifo w z low q A = tt
-low-ok Fifo w z low q (a, b, d, e) = omega arith
+low-ok Fifo w z low r (a, b, d, e) = omega arith
 low-ok Deque w z low q A = tt
 
-tail-ok : (κ : Kind) (q : Queue) (o : Line) (used : ℕ) → pending o ≤ 1 → used ≤ 65535 → Spent κ (q .anchor .count) o used → tail κ q + pending o ≤ 65535
-tail-ok Lifo q o used p u s = omega arith
-tail-ok Fifo q o used p u s = omega arith
-tail-ok Deque q o used p u s = omega arith
+tail-ok : (κ : Kind) (a : Anchor) (o : Line) (used : ℕ) → pending o ≤ 1 → used ≤ 65535 → Spent κ (tail κ a) o used → tail κ a + pending o ≤ 65535
+tail-ok Lifo a o used p u s = omega arith
+tail-ok Fifo a o used p u s = omega arith
+tail-ok Deque a o used p u s = omega arith
 
-ok-anchor : (κ : Kind) (w z low : ℕ) (q : Queue) → tail κ q ≤ 65535 → Bounded κ w z low (q .anchor)
-    → anchorOk κ w z (q .anchor) ≡ true
-ok-anchor Lifo w z low q τ (a, b, d) = and-both _ _ (and-both _ _ (eq-eqb _ _ a) (and-both _ _ (le-leb _ _ b) (lt-ltb _ _ d))) refl
-ok-anchor Fifo w z low q τ (a, b, d, e) = and-both _ _ (and-both _ _ (le-leb _ _ b) (and-both _ _ (le-leb _ _ τ) (eq-eqb _ _ e))) (le-leb (q .anchor .count - q .anchor .head) z (omega arith))
-ok-anchor Deque w z low q τ (a, b, d) = and-both _ _ (and-both _ _ (lt-ltb _ _ a) (and-both _ _ (le-leb _ _ b) (lt-ltb _ _ d))) refl
+ok-anchor : (κ : Kind) (w z low : ℕ) (r : Anchor) → tail κ r ≤ 65535 → Bounded κ w z low r → anchorOk κ w z r ≡ true
+ok-anchor Lifo w z low r τ (a, b, d) = and-both _ _ (and-both _ _ (eq-eqb _ _ a) (and-both _ _ (le-leb _ _ b) (lt-ltb _ _ d))) refl
+ok-anchor Fifo w z low r τ (a, b, d, e) = and-both _ _ (and-both _ _ (le-leb _ _ b) (and-both _ _ (le-leb _ _ τ) (eq-eqb _ _ e))) (le-leb (r .count - r .head) z (omega arith))
+ok-anchor Deque w z low r τ (a, b, d) = and-both _ _ (and-both _ _ (lt-ltb _ _ a) (and-both _ _ (le-leb _ _ b) (lt-ltb _ _ d))) refl
 
 ok-head : (κ : Kind) (h low τ : ℕ) → τ ≤ 65535 → LowOk κ low τ → Head κ h low → headOk κ h ≡ true
 ok-head Lifo h low τ b l s = absurd s
@@ -209,6 +216,57 @@ pending-le (StealCompare r e t) = omega arith
 abbrev pub thieves : List Worker → ℕ → Line
 thieves l k = lineAt l (suc k)
 
+-- THE STORES THAT WAIT. Tails rise
+path-tails : (κ : Kind) (w ω : ℕ) (l : List Region) (c low p τ : ℕ) (ss : List Store) → Path κ w ω l c low p τ ss → τ ≤ tails ss τ
+path-tails κ w ω l c low p τ [] P = omega arith
+path-tails κ w ω l c low p τ (StoreWord b s j x ∷ ss) P = path-tails κ w ω l c low p τ ss (P .1)
+path-tails κ w ω l c low p τ (StoreNote k ∷ ss) P = path-tails κ w ω l c low (k + 1) τ ss (P .1)
+path-tails κ w ω l c low p τ (StorePut r ∷ ss) P = path-tails κ w ω l c low p τ ss (P .1)
+path-tails κ w ω l c low p τ (StoreOut r ∷ ss) P = path-tails κ w ω l c low p τ ss (P .1)
+path-tails κ w ω l c low p τ (StoreHead i ∷ ss) P = path-tails κ w ω l c i p τ ss (P .1)
+path-tails Lifo w ω l c low p τ (StoreTail i ∷ ss) P = absurd (P .0)
+path-tails Fifo w ω l c low p τ (StoreTail i ∷ ss) P = omega (arith, P .0 .0, path-tails Fifo w ω l c low p i ss (P .1))
+path-tails Deque w ω l c low p τ (StoreTail i ∷ ss) P = absurd (P .0)
+
+ok-whole : (κ : Kind) (w z z′ : ℕ) (r : Anchor) → z ≤ z′ → FitAnchor κ w z r → hasAnchor κ and readOk κ w z′ r ≡ true
+ok-whole Lifo w z z′ r l (a, b, d) = and-both _ _ refl (and-both _ _ (eq-eqb (r .head) 0 a) (and-both _ _ (le-leb (r .count) z′ (omega arith)) (lt-ltb (r .tag) (2 ^ w) d)))
+ok-whole Fifo w z z′ r l f = absurd f
+ok-whole Deque w z z′ r l (a, b, d) = and-both _ _ refl (and-both _ _ (lt-ltb (r .head) 2048 a) (and-both _ _ (le-leb (r .count) z′ (omega arith)) (lt-ltb (r .tag) (2 ^ w) d)))
+
+ok-head-store : (κ : Kind) (low τ i : ℕ) (a : Anchor) → τ ≤ tail κ a → tail κ a ≤ 65535 → FitHead κ low τ i → headOk κ i and leb i (a .count) ≡ true
+ok-head-store Lifo low τ i a h l f = absurd f
+ok-head-store Fifo low τ i a h l f = and-both _ _ (le-leb i 65535 (omega (arith, f .1))) (le-leb i (a .count) (omega (arith, f .1)))
+ok-head-store Deque low τ i a h l f = absurd f
+
+ok-tail-store : (κ : Kind) (z low τ i : ℕ) → i ≤ 65535 → FitTail κ z low τ i → headOk κ i ≡ true
+ok-tail-store Lifo z low τ i h f = absurd f
+ok-tail-store Fifo z low τ i h f = le-leb i 65535 h
+ok-tail-store Deque z low τ i h f = absurd f
+
+ok-word : (j x : ℕ) → (j ≡ 0 → x ≤ 65535) → ltb 0 j or numberOk x ≡ true
+ok-word zero x f = or-either _ _ (inr (le-leb x 65535 (f refl)))
+ok-word (suc j) x f = or-either _ _ (inl (lt-ltb 0 (suc j) (omega arith)))
+
+-- each against the queue v as the owner reads it
+ok-stores : (κ : Kind) (w ω low p τ : ℕ) (v : Queue) (ss : List Store) → ((j k : ℕ) → j ≤ k → k < v .claimed → sizeAt ω (v .arrays) j ≤ sizeAt ω (v .arrays) k) → 0 < p → p ≤ v .claimed
+    → v .published ≡ places ss p → tail κ (v .anchor) ≡ tails ss τ → tail κ (v .anchor) ≤ 65535 → Path κ w ω (v .arrays) (v .claimed) low p τ ss → storesOk κ w ω v ss ≡ true
+ok-stores κ w ω low p τ v [] mono pos h ep et hv P = refl
+ok-stores κ w ω low p τ v (StoreWord b s j x ∷ ss) mono pos h ep et hv (f, P) =
+    and-both _ _ (and-both _ _ (lt-ltb b (v .claimed) (f .0)) (and-both _ _ (lt-ltb s _ (f .1)) (and-both _ _ (le-leb j ω (f .2)) (ok-word j x (f .3))))) (ok-stores κ w ω low p τ v ss mono pos h ep et hv P)
+ok-stores κ w ω low p τ v (StoreNote k ∷ ss) mono pos h ep et hv (f, P) =
+    let y = path-places κ w ω _ _ low (k + 1) τ ss (omega (arith, f .0, f .1)) P in
+    and-both _ _ (lt-ltb k (v .published) (omega (arith, ep, y .0))) (ok-stores κ w ω low (k + 1) τ v ss mono (omega arith) (omega (arith, f .0, f .1)) ep et hv P)
+ok-stores κ w ω low p τ v (StorePut r ∷ ss) mono pos h ep et hv (f, P) =
+    let y = path-places κ w ω _ _ low p τ ss h P in
+    and-both _ _ (ok-whole κ w _ (size ω v) r (mono (p - 1) (v .published - 1) (omega (arith, ep, y .0)) (omega (arith, ep, y .1, y .0))) f) (ok-stores κ w ω low p τ v ss mono pos h ep et hv P)
+ok-stores κ w ω low p τ v (StoreOut r ∷ ss) mono pos h ep et hv (f, P) =
+    let y = path-places κ w ω _ _ low p τ ss h P in
+    and-both _ _ (ok-whole κ w _ (size ω v) r (mono (p - 1) (v .published - 1) (omega (arith, ep, y .0)) (omega (arith, ep, y .1, y .0))) f) (ok-stores κ w ω low p τ v ss mono pos h ep et hv P)
+ok-stores κ w ω low p τ v (StoreHead i ∷ ss) mono pos h ep et hv (f, P) =
+    and-both _ _ (ok-head-store κ low τ i (v .anchor) (omega (arith, et, path-tails κ w ω _ _ i p τ ss P)) hv f) (ok-stores κ w ω i p τ v ss mono pos h ep et hv P)
+ok-stores κ w ω low p τ v (StoreTail i ∷ ss) mono pos h ep et hv (f, P) =
+    and-both _ _ (ok-tail-store κ _ low τ i (omega (arith, et, path-tails κ w ω _ _ low p i ss P)) f) (ok-stores κ w ω low p i v ss mono pos h ep et hv P)
+
 -- a world's state, store and log
 pub record Whole (W : World) : Type 0 where
   pub kinds : kindOk (W .bench .kind) (W .bench .queue .linked) ≡ true
@@ -220,7 +278,16 @@ pub record Whole (W : World) : Type 0 where
   pub used : W .bench .used ≤ 65535
   pub logged : W .bench .written ≤ length (W .log)
   pub links : LinksOk (W .bench .kind) (W .bench .queue) (W .bench .workers)
-  pub shape : Shape (W .bench .kind) (tagBits (W .bench)) (W .bench .words) (W .bench .used) (W .bench .queue) (W .store) (lineAt (W .bench .workers) 0) (thieves (W .bench .workers))
+  pub stores : length (W .bench .waiting .stores) ≡ 8
+  pub line : W .bench .waiting .count ≤ 8
+  pub mode : W .bench .delayed ≡ false → W .bench .waiting .count ≡ 0
+  pub low : ℕ
+  pub shape : Shape (W .bench .kind) (tagBits (W .bench)) (W .bench .words) (W .bench .used) low (W .bench .queue) (W .store) (inLine (W .bench .waiting)) (lineAt (W .bench .workers) 0) (thieves (W .bench .workers))
+
+ok-count : (δ : Bool) (n : ℕ) → n ≤ 8 → (δ ≡ false → n ≡ 0) → leb n (if δ then 8 else 0) ≡ true
+unfolding if_then_else_
+ok-count true n h f = le-leb n 8 h
+ok-count false n h f = le-leb n 0 (omega (arith, f refl))
 
 -- a queue that is not linked has a tag
 pub tagged : {W : World} → Whole W → W .bench .queue .linked ≡ false → 0 < tagBits (W .bench)
@@ -230,17 +297,20 @@ tagged {W} H e = subst (λ (x : Bool). 0 < (if x then 0 else W .bench .width)) (
 pub valid : (W : World) → Whole W → validOf W ≡ true
 unfolding validOf
 valid W H =
-    and-both _ _ (H .kinds)
+    subst (λ (S : Shared). benchOk (W .bench) (W .bench .queue) (S .queue) (W .store) (W .log) ≡ true) (sym (landed-is ω q (W .store) ss))
+    (and-both _ _ (H .kinds)
     (and-both _ _ (and-both _ _ (lt-ltb _ _ (H .width .0)) (le-leb _ _ (H .width .1)))
     (and-both _ _ (and-both _ _ (lt-ltb _ _ (H .words .0)) (le-leb _ _ (H .words .1)))
     (and-both _ _ (and-both _ _ (lt-ltb _ _ (H .crew .0)) (le-leb _ _ (H .crew .1)))
-    (and-both _ _ (and-both _ _ (lt-ltb _ _ (A .some)) (and-both _ _ (le-leb _ _ (A .few)) (and-both _ _ (eq-eqb _ _ (S .claims)) (and-both _ _ (A .tidied) (and-both _ _ (le-leb _ _ (A .room)) (eq-eqb _ _ (A .kept)))))))
+    (and-both _ _ (and-both _ _ (lt-ltb _ _ (A .some)) (and-both _ _ (le-leb _ _ (pl .0)) (and-both _ _ (le-leb _ _ (A .few)) (and-both _ _ (eq-eqb _ _ (S .own .claims)) (and-both _ _ (A .tidied) (and-both _ _ (le-leb _ _ (A .room)) (eq-eqb _ _ (A .kept))))))))
     (and-both _ _ (le-leb _ _ (H .logged))
-    (and-both _ _ (ok-anchor κ w (size ω q) (S .low) q (omega (arith, T)) (S .anchor))
+    (and-both _ _ (ok-anchor κ w (size ω q) (H .low) (q .anchor) (omega (arith, T, ts, te)) (S .anchor))
+    (and-both _ _ (ok-anchor κ w (size ω v) _ (v .anchor) (omega (arith, T)) (B .anchor))
     (and-both _ _ (le-leb _ _ (H .used))
+    (and-both _ _ (and-both _ _ (ok-count (W .bench .delayed) (W .bench .waiting .count) (H .line) (H .mode)) (ok-stores κ w ω (H .low) (q .published) _ v ss mono (A .some) (A .below) refl (sym te) (omega (arith, T)) (S .path)))
     (and-both _ _ (ok-links κ q (W .bench .workers) (H .links) 8)
-    (and-both _ _ (ok-owner κ w ω q (S .low) (tail κ q) o T (low-ok κ w (size ω q) (S .low) q (S .anchor)) (S .own))
-    (ok-thieves κ w ω q (tail κ q) (W .bench .crew) (W .bench .workers) (omega (arith, T)) (S .th) (H .rest) 7))))))))))
+    (and-both _ _ (ok-owner κ w ω v _ (tail κ (v .anchor)) o T (low-ok κ w (size ω v) _ (v .anchor) (B .anchor)) (B .own .shape))
+    (ok-thieves κ w ω q (tail κ (q .anchor)) (W .bench .crew) (W .bench .workers) (omega (arith, T, ts, te)) (S .th) (H .rest) 7)))))))))))))
   where
     κ : Kind
     κ = W .bench .kind
@@ -254,14 +324,35 @@ valid W H =
     q : Queue
     q = W .bench .queue
 
+    ss : List Store
+    ss = inLine (W .bench .waiting)
+
+    v : Queue
+    v = laid ss q
+
     o : Line
     o = lineAt (W .bench .workers) 0
 
-    S : Shape κ w ω (W .bench .used) q (W .store) o (thieves (W .bench .workers))
+    S : Shape κ w ω (W .bench .used) (H .low) q (W .store) ss o (thieves (W .bench .workers))
     S = H .shape
+
+    B : Shape κ w ω (W .bench .used) (lows ss (H .low)) v (words ω (q .arrays) ss (W .store)) [] o (thieves (W .bench .workers))
+    B = shape-settle κ ss S
 
     A : Arrays ω q (W .store)
     A = S .arrays
 
-    T : tail κ q + pending o ≤ 65535
-    T = tail-ok κ q o (W .bench .used) (pending-le o) (H .used) (S .spent)
+    T : tail κ (v .anchor) + pending o ≤ 65535
+    T = tail-ok κ (v .anchor) o (W .bench .used) (pending-le o) (H .used) (B .own .spent)
+
+    te : tails ss (tail κ (q .anchor)) ≡ tail κ (v .anchor)
+    te = tails-is κ w ω _ _ (H .low) _ ss (q .anchor) (S .path)
+
+    ts : tail κ (q .anchor) ≤ tails ss (tail κ (q .anchor))
+    ts = path-tails κ w ω _ _ (H .low) _ _ ss (S .path)
+
+    pl : (q .published ≤ v .published) × (v .published ≤ q .claimed)
+    pl = path-places κ w ω _ _ (H .low) (q .published) _ ss (A .below) (S .path)
+
+    mono : (j k : ℕ) → j ≤ k → k < q .claimed → sizeAt ω (q .arrays) j ≤ sizeAt ω (q .arrays) k
+    mono j k h l = tidy-below ω (q .arrays) (q .claimed) j k (A .tidied) h l .1

@@ -2,26 +2,23 @@
 use mathlib.Core.Path.{_≡_, refl, sym, ap, subst, _∙_}
 use mathlib.Core.Bool.{Bool, true, false, not}
 use mathlib.Core.List.{List, [], _∷_}
-use Prim.Native.Nat.{ℕ, zero, suc, _+_, _≤_, _<_}
+use Prim.Native.Nat.{ℕ, zero, suc, _+_, _≤_}
 use native.Mathlib.Omega.{arith}
-use lib.Dec.{eqb, ltb, leb}
+use lib.Dec.{eqb, leb}
 use lib.ListN.{length, replicate, length-set}
 use borrow.Author.Tests.{eqb-true, eqb-false, leb-true, leb-false, lt-ltb}
-use Rattle.model.specs.declared.Tally.{Tally}
 use Rattle.model.specs.declared.Tally.the-variants.{Counted}
-use Rattle.model.specs.declared.Refusal.{Refusal}
 use Rattle.model.specs.Tests.{if_then_else_, _and_}
 use Rattle.model.specs.Lines.{failsCompare}
 use Rattle.model.specs.World.{World, Outcome, lineAt}
-use Rattle.model.specs.Calls.{freshOf, oneMore, restartsOf, raised, whoOf, Call, begin, step, dropLink, callOf}
+use Rattle.model.specs.Calls.{freshOf, oneMore, restartsOf, raised, whoOf, Call, begin, step, dropLink, drain, callOf}
 use Rattle.model.specs.Run.{played, after}
-use Rattle.model.specs.Listing.{isRefused}
 use Rattle.model.proofs.Tests.{if-true}
 use Rattle.theorems.specs.Restarts.{beats, beaten, upTo, WhoCounts}
-use Rattle.theorems.proofs.Cases.{begin-cases, step-cases, drop-cases}
+use Rattle.theorems.proofs.Cases.{begin-cases, step-cases, drop-cases, drain-cases}
 use Rattle.theorems.proofs.Restarts.{counted}
 use Rattle.theorems.proofs.Fresh.{fresh-is}
-use Rattle.theorems.proofs.NeverForeign.{line-answers, never-foreign}
+use Rattle.theorems.proofs.NeverForeign.{effect-answers, never-foreign}
 
 -- THE CEILING. Counting up to it
 up-small : (n : ℕ) → n ≤ 4294967295 → upTo n ≡ n
@@ -94,6 +91,8 @@ call-counts W (begin i op) k h =
 call-counts W (dropLink i) k h =
     drop-cases (Counts k W (dropLink i)) W (λ r l. record { crew = refl; many = refl; count = refl }) i
     (record { crew = refl; many = refl; count = refl })
+call-counts W drain k h =
+    drain-cases (Counts k W drain) W (λ r l. record { crew = refl; many = refl; count = refl }) (λ some. record { crew = refl; many = refl; count = refl })
 call-counts W (step i) k h =
     step-cases (Counts k W (step i)) W (λ r l. record { crew = refl; many = refl; count = refl }) i
     (λ M.
@@ -105,7 +104,7 @@ call-counts W (step i) k h =
       count =
           counted ns i k x (omega (arith, M .member, h))
           ∙ sym (ap (λ (y : Bool). if y then oneMore (restartsOf ns k) else restartsOf ns k)
-          (accepted _ (eqb k i and x) (line-answers _ _ _ _ _ i (lineAt (W .bench .workers) i))));
+          (accepted _ (eqb k i and x) (effect-answers W i)));
     })
 
 -- A LIST

@@ -2,11 +2,11 @@
 use mathlib.Core.Path.{_≡_, refl, sym, _∙_, ap, subst, subst₂, fun-ext}
 use mathlib.Core.Bool.{Bool, true, false, true≢false}
 use mathlib.Core.Logic.{_≢_, _⊎_, inl, inr}
-use mathlib.Core.List.{List, [], _∷_}
+use mathlib.Core.List.{List, [], _∷_, _++_, map}
 use Prim.Native.Nat.{ℕ, zero, suc, _+_, _≤_, _<_}
 use native.Mathlib.Omega.{arith}
 use lib.Dec.{eqb, ltb}
-use lib.ListN.{length, set, length-set}
+use lib.ListN.{length, set, take, length-set}
 use lib.Seq.{getD-set-other, getD-set-same}
 use borrow.Author.Tests.{ltb-true, ltb-false, eqb-true}
 use Rattle.model.specs.declared.Kind.{Kind}
@@ -14,29 +14,37 @@ use Rattle.model.specs.declared.Kind.the-variants.{Lifo, Fifo, Deque}
 use Rattle.model.specs.declared.Line.{Line}
 use Rattle.model.specs.declared.Line.the-variants.{Idle, PutRead, PutTail, PutTest, PutWord, PutFinish, Claim, Note, Copy, Publish, TakeRead, TakeTail, TakeTest, TakeWord, TakeFinish, StealRead, StealTail, StealTest, StealNote, StealWord, StealNext, StealCompare}
 use Rattle.model.specs.declared.Queue.{Queue}
+use Rattle.model.specs.declared.Store.{Store}
+use Rattle.model.specs.declared.Pending.{Pending}
+use Rattle.model.specs.declared.Waiting.{Waiting}
 use Rattle.model.specs.declared.Worker.{Worker}
 use Rattle.model.specs.declared.Operation.{Operation}
 use Rattle.model.specs.declared.Operation.the-variants.{Put, Take, Steal}
+use Rattle.model.specs.declared.Payload.{Payload}
 use Rattle.model.specs.Tests.{if_then_else_, _and_, _or_}
+use Rattle.model.specs.Tasks.{task, firstWords}
 use Rattle.model.specs.Answers.{entryOf, ends, entryLength, entryWords, logged}
-use Rattle.model.specs.Lines.{holdsLink}
+use Rattle.model.specs.Stores.{inLine, joined, oldest}
+use Rattle.model.specs.Lines.{Effect, holdsLink}
 use Rattle.model.specs.World.{World, Outcome, tagBits, resting, lineAt, isIdle, isSteal1, isPast1}
-use Rattle.model.specs.Limits.{kindOk, linkOk}
-use Rattle.model.specs.Calls.{linkSet, relinked, logFull, usedBy, firstLine, begun, Call, callOf}
+use Rattle.model.specs.Limits.{linkOk}
+use Rattle.model.specs.Calls.{linkSet, relinked, joining, landing, logFull, usedBy, firstLine, begun, Call, callOf}
 use Rattle.model.specs.Run.{after}
 use Rattle.model.proofs.Tests.{or-false}
-use Rattle.model.specs.declared.Payload.{Payload}
-use Rattle.model.specs.Tasks.{task, firstWords}
 use Rattle.model.proofs.Tasks.{gathered-again, first-number}
-use Rattle.theorems.proofs.Effects.{Left, leftBy, nextLeft}
-use Rattle.theorems.proofs.Words.{set-all-length}
-use Rattle.theorems.proofs.Cases.{dropped, MayBegin, MayStep, call-cases}
-use Rattle.theorems.proofs.Shape.{tail, Spent, Known, Shape}
-use Rattle.theorems.proofs.Links.{held-set, LinksKept, line-links, Held, link-parts, link-as, linked-now}
-use Rattle.theorems.proofs.ShapeOwner.{own-shaped, stay, spent-put, shape-relink}
-use Rattle.theorems.proofs.ShapeThief.{thief-shaped, thief-stay}
-use Rattle.theorems.proofs.Valid.{thieves, LinksOk, Whole}
 use Rattle.theorems.proofs.Remainders.{le-or-lt}
+use Rattle.theorems.proofs.Folds.{laid, words}
+use Rattle.theorems.proofs.Words.{set-all-length}
+use Rattle.theorems.proofs.Directory.{arrays-anchor}
+use Rattle.theorems.proofs.Cases.{dropped, effectOf, queueThen, storeThen, stepTo, drainTo, MayBegin, MayStep, call-cases}
+use Rattle.theorems.proofs.Shape.{tail, Spent, Known, lowOf, lows, ThiefShape, thief-keep, Shape}
+use Rattle.theorems.proofs.ShapeLay.{shape-lay, shape-settle}
+use Rattle.theorems.proofs.ShapeOwner.{spent-put}
+use Rattle.theorems.proofs.ShapeThief.{thief-shaped, thief-stay}
+use Rattle.theorems.proofs.ShapeStep.{no-more, not-both, claim-only, own-shaped}
+use Rattle.theorems.proofs.Held.{line-join, joined-length, line-drain, drained-length}
+use Rattle.theorems.proofs.Links.{held-set, links-held, own-unlinked, link-parts, link-as, linked-now}
+use Rattle.theorems.proofs.Valid.{thieves, LinksOk, Whole}
 
 pub idle-is : (o : Line) → isIdle o ≡ true → o ≡ Idle
 idle-is Idle e = refl
@@ -89,46 +97,85 @@ not-thief k e = absurd (omega (arith, eqb-true (suc k) 0 e))
 pub not-owner : {A : Type 0} → ltb 0 0 ≡ true → A
 not-owner e = absurd (omega (arith, ltb-true 0 0 e))
 
+-- another worker's link
+pub shape-relink : {κ : Kind} {w ω used low : ℕ} {q : Queue} {m : List ℕ} {ss : List Store} {o : Line} {φ : ℕ → Line} (i : ℕ) (x : Bool) → Shape κ w ω used low q m ss o φ → Shape κ w ω used low (linkSet q i x) m ss o φ
+shape-relink {κ} {w} {ω} {used} {low} {q} {m} {ss} {o} {φ} i x S =
+    record {
+      anchor = S .anchor;
+      arrays = arrays-anchor _ _ (S .arrays);
+      path = S .path;
+      own = S .own;
+      th = λ k. thief-keep κ w ω q (linkSet q i x) (record { sized = omega arith; later = omega arith; more = omega arith; same = λ j h. refl }) (φ k) (S .th k);
+    }
+
+-- a step's stores: those that join, those that are put down at once
+own-landed : (κ : Kind) (w ω used low : ℕ) (q : Queue) (m : List ℕ) (o : Line) (φ : ℕ → Line) (δ : Bool) (l : Waiting) (rr : List Store) → (δ ≡ false → l .count ≡ 0) → l .count ≤ length (l .stores)
+    → Shape κ w ω used low q m (inLine l ++ rr) o φ
+    → (low′ : ℕ) × Shape κ w ω used low′ (laid (landing δ 0 rr) q) (words ω (q .arrays) (landing δ 0 rr) m) (inLine (joined l (joining δ 0 rr))) o φ
+own-landed κ w ω used low q m o φ true l rr none h S = (low, subst (λ (ss : List Store). Shape κ w ω used low q m ss o φ) (sym (line-join l rr h)) S)
+own-landed κ w ω used low q m o φ false l rr none h S =
+    (lows rr low, subst (λ (ss : List Store). Shape κ w ω used (lows rr low) (laid rr q) (words ω (q .arrays) rr m) ss o φ) (sym empty′) (shape-settle κ rr S′))
+  where
+    empty : inLine l ≡ []
+    empty = ap (λ (k : ℕ). map (λ (p : Pending). p .store) (take k (l .stores))) (none refl)
+
+    empty′ : inLine (joined l []) ≡ []
+    empty′ = line-join l [] h ∙ ap (λ (y : List Store). y ++ []) empty
+
+    S′ : Shape κ w ω used low q m rr o φ
+    S′ = subst (λ (y : List Store). Shape κ w ω used low q m (y ++ rr) o φ) empty S
+
+pub none-join : (l : Waiting) (k : ℕ) (δ : Bool) (rr : List Store) → l .count ≤ length (l .stores)
+    → (inLine (joined l (joining δ (suc k) rr)) ≡ inLine l) × (landing δ (suc k) rr ≡ rr) × (length (joining δ (suc k) rr) ≡ 0)
+none-join l k true rr h = (line-join l [] h ∙ no-more (inLine l), refl, refl)
+none-join l k false rr h = (line-join l [] h ∙ no-more (inLine l), refl, refl)
+
+none-now : (δ : Bool) (i : ℕ) (rr : List Store) → δ ≡ false → length (joining δ i rr) ≡ 0
+none-now true i rr e = not-both true e refl
+none-now false i rr e = refl
+
 module _ {W : World} (H : Whole W) where
   pub in-crew : (i : ℕ) → i < W .bench .crew → i < length (W .bench .workers)
   in-crew i l = omega (arith, H .workers, H .crew .1)
+
+  pub in-line : W .bench .waiting .count ≤ length (W .bench .waiting .stores)
+  in-line = omega (arith, H .line, H .stores)
 
   rested : (i : ℕ) (x : Line) → i < W .bench .crew → (k : ℕ) → W .bench .crew ≤ k → isIdle (lineAt (set (W .bench .workers) i (record { line = x })) k) ≡ true
   rested i x l k h = rw (line-other (W .bench .workers) i k x (omega arith)) (H .rest k h)
 
   -- BEGIN
   abbrev ShapeOf : ℕ → Line → (ℕ → Line) → Type 0
-  ShapeOf n o φ = Shape (W .bench .kind) (tagBits (W .bench)) (W .bench .words) n (W .bench .queue) (W .store) o φ
+  ShapeOf n o φ = Shape (W .bench .kind) (tagBits (W .bench)) (W .bench .words) n (H .low) (W .bench .queue) (W .store) (inLine (W .bench .waiting)) o φ
 
   idle-shape : isIdle (lineAt (W .bench .workers) 0) ≡ true → ShapeOf (W .bench .used) Idle (thieves (W .bench .workers))
   idle-shape e = subst (λ (o : Line). ShapeOf (W .bench .used) o (thieves (W .bench .workers))) (idle-is _ e) (H .shape)
 
   -- a put takes a number
-  put-shape : (p : Payload) (κ : Kind) (w ω used : ℕ) (q : Queue) (m : List ℕ) (φ : ℕ → Line) → used < 65535 → ω ≤ 4 → Shape κ w ω used q m Idle φ
-      → Shape κ w ω (used + 1) q m (PutRead (firstWords (ω + 1) (task (used + 1) p))) φ
-  put-shape p κ w ω used q m φ l wide S =
-      record { low = S .low; anchor = S .anchor; arrays = S .arrays; claims = S .claims; spent = go κ (S .spent); own = known; th = S .th }
+  put-shape : (p : Payload) (κ : Kind) (w ω used low : ℕ) (q : Queue) (m : List ℕ) (ss : List Store) (φ : ℕ → Line) → used < 65535 → ω ≤ 4 → Shape κ w ω used low q m ss Idle φ
+      → Shape κ w ω (used + 1) low q m ss (PutRead (firstWords (ω + 1) (task (used + 1) p))) φ
+  put-shape p κ w ω used low q m ss φ l wide S =
+      record { anchor = S .anchor; arrays = S .arrays; path = S .path; own = record { claims = S .own .claims; spent = go κ _ (S .own .spent); shape = known }; th = S .th }
     where
-      go : (κ : Kind) → Spent κ (q .anchor .count) Idle used → Spent κ (q .anchor .count) (PutRead (firstWords (ω + 1) (task (used + 1) p))) (used + 1)
-      go Lifo s = tt
-      go Fifo s = omega arith
-      go Deque s = tt
+      go : (κ : Kind) (c : ℕ) → Spent κ c Idle used → Spent κ c (PutRead (firstWords (ω + 1) (task (used + 1) p))) (used + 1)
+      go Lifo c s = tt
+      go Fifo c s = omega arith
+      go Deque c s = tt
 
       known : Known (ω + 1) (firstWords (ω + 1) (task (used + 1) p))
       known = (omega (arith, first-number ω (task (used + 1) p)), gathered-again (ω + 1) _ (omega arith))
+
+  take-shape : (κ : Kind) (w ω used low : ℕ) (q : Queue) (m : List ℕ) (ss : List Store) (φ : ℕ → Line) → Shape κ w ω used low q m ss Idle φ → Shape κ w ω used low q m ss TakeRead φ
+  take-shape κ w ω used low q m ss φ S =
+      record { anchor = S .anchor; arrays = S .arrays; path = S .path; own = record { claims = S .own .claims; spent = spent-put κ _ used Idle TakeRead refl (S .own .spent); shape = tt }; th = S .th }
 
   first-shape : (i : ℕ) (op : Operation) → MayBegin W i op → let x = firstLine op (W .bench .words) (W .bench .used) in
       ShapeOf (usedBy op (W .bench .used)) (lineAt (set (W .bench .workers) i (record { line = x })) 0) (thieves (set (W .bench .workers) i (record { line = x })))
   first-shape zero (Put p) B =
       own-back (ShapeOf (W .bench .used + 1)) (W .bench .workers) _ (in-crew 0 (B .member))
-      (put-shape p _ _ _ _ _ _ _ (ltb-true (W .bench .used) 65535 (B .number)) (H .words .1) (idle-shape (B .idle)))
+      (put-shape p _ _ _ _ _ _ _ _ _ (ltb-true (W .bench .used) 65535 (B .number)) (H .words .1) (idle-shape (B .idle)))
   first-shape (suc k) (Put p) B = not-thief k (B .hand)
-  first-shape zero Take B =
-      own-back (ShapeOf (W .bench .used)) (W .bench .workers) TakeRead (in-crew 0 (B .member))
-      (stay S TakeRead refl (spent-put (W .bench .kind) (W .bench .queue .anchor .count) (W .bench .used) Idle TakeRead refl (S .spent)) tt)
-    where
-      S : ShapeOf (W .bench .used) Idle (thieves (W .bench .workers))
-      S = idle-shape (B .idle)
+  first-shape zero Take B = own-back (ShapeOf (W .bench .used)) (W .bench .workers) TakeRead (in-crew 0 (B .member)) (take-shape _ _ _ _ _ _ _ _ _ (idle-shape (B .idle)))
   first-shape (suc k) Take B = not-thief k (B .hand)
   first-shape zero Steal B = not-owner (B .hand)
   first-shape (suc k) Steal B =
@@ -175,91 +222,134 @@ module _ {W : World} (H : Whole W) where
         rest = rested i (firstLine op (W .bench .words) (W .bench .used)) (B .member);
         used = used-in op i B;
         logged = H .logged;
+        stores = H .stores;
+        line = H .line;
+        mode = H .mode;
+        low = H .low;
         shape = first-shape i op B;
       }
 
   -- STEP
-  abbrev ShapeAfter : Left → Line → (ℕ → Line) → Type 0
-  ShapeAfter E o φ = Shape (W .bench .kind) (tagBits (W .bench)) (W .bench .words) (W .bench .used) (E .queue) (E .store) o φ
+  abbrev ShapeAfter : ℕ → ℕ → Line → (ℕ → Line) → Type 0
+  ShapeAfter i low o φ =
+      Shape (W .bench .kind) (tagBits (W .bench)) (W .bench .words) (W .bench .used) low (queueThen W i (effectOf W i)) (storeThen W i (effectOf W i)) (inLine (stepTo W i .world .bench .waiting)) o φ
 
-  line-shape : (i : ℕ) → i < W .bench .crew → let x = nextLeft W i .line in
-      ShapeAfter (nextLeft W i) (lineAt (set (W .bench .workers) i (record { line = x })) 0) (thieves (set (W .bench .workers) i (record { line = x })))
-  line-shape zero l =
-      own-back (ShapeAfter (nextLeft W 0)) (W .bench .workers) (nextLeft W 0 .line) (in-crew 0 l)
-      (own-shaped _ _ _ _ _ _ _ (lineAt (W .bench .workers) 0) (H .words .1) (H .shape))
+  own-after : (low : ℕ) × ShapeAfter 0 low (effectOf W 0 .line) (thieves (W .bench .workers))
+  own-after =
+      let E = effectOf W 0 in
+      let S = own-shaped (W .bench .kind) (tagBits (W .bench)) (W .bench .words) (W .bench .used) (H .low) (W .bench .queue) (W .store) (inLine (W .bench .waiting)) (lineAt (W .bench .workers) 0) (thieves (W .bench .workers)) (H .words .1) (H .shape) in
+      own-landed (W .bench .kind) (tagBits (W .bench)) (W .bench .words) (W .bench .used) (S .0) _ _ (E .line) (thieves (W .bench .workers)) (W .bench .delayed) (W .bench .waiting) (E .stores) (H .mode) in-line (S .1)
+
+  -- a thief claims nothing, and its stores are put down
+  pub thief-calm : (k : ℕ) → effectOf W (suc k) .claims ≡ false
+  thief-calm k = go (effectOf W (suc k) .claims) refl
+    where
+      go : (x : Bool) → effectOf W (suc k) .claims ≡ x → effectOf W (suc k) .claims ≡ false
+      go false e = e
+      go true e =
+          let C = claim-only (W .bench .kind) (tagBits (W .bench)) (W .bench .words) (W .bench .queue) (W .store) (suc k) (lineAt (W .bench .workers) (suc k)) e in
+          absurd (subst (λ (θ : Line). ThiefShape (W .bench .kind) (tagBits (W .bench)) (W .bench .words) (W .bench .queue) (tail (W .bench .kind) (W .bench .queue .anchor)) θ) (C .1) (H .shape .th k))
+
+  pub thief-lands : (k : ℕ) → (inLine (stepTo W (suc k) .world .bench .waiting) ≡ inLine (W .bench .waiting)) × (landing (W .bench .delayed) (suc k) (effectOf W (suc k) .stores) ≡ effectOf W (suc k) .stores)
+  thief-lands k = let N = none-join (W .bench .waiting) k (W .bench .delayed) (effectOf W (suc k) .stores) in-line in (N .0, N .1)
+
+  line-shape : (i : ℕ) → i < W .bench .crew → (low : ℕ) × ShapeAfter i low (lineAt (stepTo W i .world .bench .workers) 0) (thieves (stepTo W i .world .bench .workers))
+  line-shape zero l = (own-after .0, own-back (ShapeAfter 0 (own-after .0)) (W .bench .workers) (effectOf W 0 .line) (in-crew 0 l) (own-after .1))
   line-shape (suc k) l =
-      thief-back (ShapeAfter (nextLeft W (suc k))) (W .bench .workers) k (nextLeft W (suc k) .line) (in-crew (suc k) l)
-      (thief-shaped _ _ _ _ _ _ _ _ k (lineAt (W .bench .workers) (suc k)) (H .words .1) (H .kinds) (H .shape) (H .shape .th k))
+      (H .low, thief-back (ShapeAfter (suc k) (H .low)) (W .bench .workers) k (E .line) (in-crew (suc k) l) (λ φ′ is rest. kept (T φ′ is rest)))
+    where
+      E : Effect
+      E = effectOf W (suc k)
 
-  pub kept-links : (i : ℕ) → LinksKept (W .bench .queue) (nextLeft W i)
-  kept-links i = line-links (W .bench .kind) (tagBits (W .bench)) (W .bench .words) (W .bench .queue) (W .store) i (lineAt (W .bench .workers) i)
+      T : (φ′ : ℕ → Line) → φ′ k ≡ E .line → ((i : ℕ) → i ≢ k → φ′ i ≡ thieves (W .bench .workers) i)
+          → Shape (W .bench .kind) (tagBits (W .bench)) (W .bench .words) (W .bench .used) (H .low) (laid (E .stores) (W .bench .queue)) (words (W .bench .words) (W .bench .queue .arrays) (E .stores) (W .store)) (inLine (W .bench .waiting)) (lineAt (W .bench .workers) 0) φ′
+      T = thief-shaped _ _ _ _ _ _ _ _ _ _ k (lineAt (W .bench .workers) (suc k)) (H .words .1) (H .kinds) (H .shape) (H .shape .th k)
 
-  -- a line keeps the tag's bits
-  pub same-tag : (i : ℕ) → tagBits (W .bench) ≡ tagBits (leftBy W i (nextLeft W i) .world .bench)
-  same-tag i = ap (λ (x : Bool). if x then 0 else W .bench .width) (sym (kept-links i .linked))
-
-  shape-tag : (i : ℕ) {q : Queue} {o : Line} {φ : ℕ → Line} → Shape (W .bench .kind) (tagBits (W .bench)) (W .bench .words) (W .bench .used) q (nextLeft W i .store) o φ
-      → Shape (W .bench .kind) (tagBits (leftBy W i (nextLeft W i) .world .bench)) (W .bench .words) (W .bench .used) q (nextLeft W i .store) o φ
-  shape-tag i {q} {o} {φ} S = subst (λ (w : ℕ). Shape (W .bench .kind) w (W .bench .words) (W .bench .used) q (nextLeft W i .store) o φ) (same-tag i) S
-
-  held-by : (i : ℕ) → Held (W .bench .kind) (tagBits (W .bench)) (W .bench .words) (W .bench .queue) (H .shape .low) (tail (W .bench .kind) (W .bench .queue)) (lineAt (W .bench .workers) i)
-  held-by zero = inl (H .shape .own)
-  held-by (suc k) = inr (H .shape .th k)
+      kept : {φ′ : ℕ → Line}
+          → Shape (W .bench .kind) (tagBits (W .bench)) (W .bench .words) (W .bench .used) (H .low) (laid (E .stores) (W .bench .queue)) (words (W .bench .words) (W .bench .queue .arrays) (E .stores) (W .store)) (inLine (W .bench .waiting)) (lineAt (W .bench .workers) 0) φ′
+          → ShapeAfter (suc k) (H .low) (lineAt (W .bench .workers) 0) φ′
+      kept S = rw (thief-calm k, thief-lands k .0, thief-lands k .1) S
 
   -- worker i holds a link after its step
-  pub linked-step : (i : ℕ) → let E = nextLeft W i in
-      (isPast1 (E .line) and ((E .queue .linked and isSteal1 (lineAt (W .bench .workers) i)) or holdsLink (E .queue) i)) ≡ true
-      → ((lineAt (W .bench .workers) i ≡ StealRead) ⊎ (holdsLink (E .queue) i ≡ true))
-      × (linkOk (W .bench .kind) (relinked (E .queue) i (lineAt (W .bench .workers) i) (E .line)) (E .line) ≡ true)
-  linked-step i x = linked-now (W .bench .kind) (tagBits (W .bench)) (W .bench .words) (W .bench .queue) (W .store) i _ _ (lineAt (W .bench .workers) i) (H .kinds) (held-by i) (H .links i) x
+  abbrev Linked : ℕ → Type 0
+  Linked i =
+      (isPast1 (effectOf W i .line) and ((W .bench .queue .linked and isSteal1 (lineAt (W .bench .workers) i)) or holdsLink (queueThen W i (effectOf W i)) i)) ≡ true
 
-  stepped-links : (i : ℕ) → i < W .bench .crew → LinksOk (W .bench .kind) (leftBy W i (nextLeft W i) .world .bench .queue) (leftBy W i (nextLeft W i) .world .bench .workers)
-  stepped-links i l k h = go (held-set (nextLeft W i .queue .links) i k _ h)
+  pub linked-step : (i : ℕ) → Linked i
+      → ((lineAt (W .bench .workers) i ≡ StealRead) ⊎ (holdsLink (queueThen W i (effectOf W i)) i ≡ true))
+      × (linkOk (W .bench .kind) (relinked (queueThen W i (effectOf W i)) i (lineAt (W .bench .workers) i) (effectOf W i .line)) (effectOf W i .line) ≡ true)
+  linked-step zero x = absurd (own-unlinked (W .bench .kind) _ _ _ _ _ (effectOf W 0 .line) _ (own-after .1 .own .shape) x)
+  linked-step (suc k) x = go x
     where
-      E : Left
-      E = nextLeft W i
+      E : Effect
+      E = effectOf W (suc k)
+
+      Now : Queue → Type 0
+      Now Q =
+          (isPast1 (E .line) and ((W .bench .queue .linked and isSteal1 (lineAt (W .bench .workers) (suc k))) or holdsLink Q (suc k))) ≡ true
+          → ((lineAt (W .bench .workers) (suc k) ≡ StealRead) ⊎ (holdsLink Q (suc k) ≡ true))
+          × (linkOk (W .bench .kind) (relinked Q (suc k) (lineAt (W .bench .workers) (suc k)) (E .line)) (E .line) ≡ true)
+
+      here : Now (laid (E .stores) (W .bench .queue))
+      here = linked-now (W .bench .kind) (tagBits (W .bench)) (W .bench .words) (W .bench .queue) (W .store) (suc k) (H .low) _ (lineAt (W .bench .workers) (suc k)) (H .kinds) (inr (H .shape .th k)) (H .links (suc k))
+
+      go : Now (queueThen W (suc k) E)
+      go = rw (thief-calm k, thief-lands k .1) here
+
+  stepped-links : (i : ℕ) → i < W .bench .crew → LinksOk (W .bench .kind) (stepTo W i .world .bench .queue) (stepTo W i .world .bench .workers)
+  stepped-links i l k h = go (held-set (queueThen W i (effectOf W i) .links) i k _ h)
+    where
+      E : Effect
+      E = effectOf W i
 
       q′ : Queue
-      q′ = relinked (E .queue) i (lineAt (W .bench .workers) i) (E .line)
+      q′ = relinked (queueThen W i (effectOf W i)) i (lineAt (W .bench .workers) i) (effectOf W i .line)
 
-      go : ((k ≡ i) × ((isPast1 (E .line) and ((E .queue .linked and isSteal1 (lineAt (W .bench .workers) i)) or holdsLink (E .queue) i)) ≡ true)) ⊎ ((k ≢ i) × (holdsLink (E .queue) k ≡ true))
-          → linkOk (W .bench .kind) q′ (lineAt (set (W .bench .workers) i (record { line = E .line })) k) ≡ true
-      go (inl (e, x)) = link-line (W .bench .kind) q′ i k (E .line) l (λ q. linked-step i x .1) (λ ne. absurd (ne e))
+      go : ((k ≡ i) × Linked i) ⊎ ((k ≢ i) × (holdsLink (queueThen W i (effectOf W i)) k ≡ true))
+          → linkOk (W .bench .kind) q′ (lineAt (set (W .bench .workers) i (record { line = effectOf W i .line })) k) ≡ true
+      go (inl (e, x)) = link-line (W .bench .kind) q′ i k (effectOf W i .line) l (λ q. linked-step i x .1) (λ ne. absurd (ne e))
       go (inr (ne, x)) =
-          link-line (W .bench .kind) q′ i k (E .line) l (λ q. absurd (ne q))
-          (λ n. let (a, b, c) = kept-links i .held k x in
+          link-line (W .bench .kind) q′ i k (effectOf W i .line) l (λ q. absurd (ne q))
+          (λ n. let (a, b, c) = links-held (landing (W .bench .delayed) i (effectOf W i .stores)) (W .bench .queue .links) (W .bench .queue .anchor) k x in
           let θ = lineAt (W .bench .workers) k in
           let o = H .links k a in
-          link-as (W .bench .kind) (W .bench .queue) q′ θ θ (kept-links i .linked) b (link-parts (W .bench .kind) (W .bench .queue) θ o .1) refl o)
+          link-as (W .bench .kind) (W .bench .queue) q′ θ θ refl b (link-parts (W .bench .kind) (W .bench .queue) θ o .1) refl o)
 
   -- the log's length stays within the slice
-  written-in : (i : ℕ) (E : Left) (x y : Bool) → ends (E .answer) ≡ x → logFull (W .bench .words) (W .log) (W .bench .written) ≡ y → x and y ≡ false
-      → leftBy W i E .world .bench .written ≤ length (logged (W .bench .words) (W .log) (W .bench .written) (E .answer))
+  written-in : (i : ℕ) (x y : Bool) → ends (effectOf W i .answer) ≡ x → logFull (W .bench .words) (W .log) (W .bench .written) ≡ y → x and y ≡ false
+      → stepTo W i .world .bench .written ≤ length (logged (W .bench .words) (W .log) (W .bench .written) (effectOf W i .answer))
   unfolding _and_ if_then_else_
-  written-in i E true true ex ey nb = absurd (let z : _≡_ {A = ℕ} 0 1 = cc in omega arith)
-  written-in i E true false ex ey nb =
+  written-in i true true ex ey nb = absurd (let z : _≡_ {A = ℕ} 0 1 = cc in omega arith)
+  written-in i true false ex ey nb =
       rw ex
       (omega (
         arith,
         ltb-false (length (W .log)) (W .bench .written + entryLength (W .bench .words)) (or-false (ltb (length (W .log)) (W .bench .written + entryLength (W .bench .words))) _ ey .0),
-        set-all-length (W .log) (W .bench .written) (entryWords (W .bench .words) (entryOf (E .answer))),
+        set-all-length (W .log) (W .bench .written) (entryWords (W .bench .words) (entryOf (effectOf W i .answer))),
       ))
-  written-in i E false y ex ey nb = rw ex (H .logged)
+  written-in i false y ex ey nb = rw ex (H .logged)
 
-  stepped-whole : (i : ℕ) → MayStep W i → Whole (leftBy W i (nextLeft W i) .world)
+  stepped-whole : (i : ℕ) → MayStep W i → Whole (stepTo W i .world)
   stepped-whole i M =
       record {
-        kinds = subst (λ (x : Bool). kindOk (W .bench .kind) x ≡ true) (sym (kept-links i .linked)) (H .kinds);
+        kinds = H .kinds;
         links = stepped-links i (M .member);
         width = H .width;
         words = H .words;
         crew = H .crew;
         workers = length-set (W .bench .workers) i _ ∙ H .workers;
-        rest = rested i (nextLeft W i .line) (M .member);
+        rest = rested i (effectOf W i .line) (M .member);
         used = H .used;
-        logged = written-in i (nextLeft W i) _ _ refl refl (M .room);
-        shape = shape-tag i (shape-relink i _ (line-shape i (M .member)));
+        logged = written-in i _ _ refl refl (M .room);
+        stores = joined-length (W .bench .waiting) (joining (W .bench .delayed) i (effectOf W i .stores)) (omega (arith, room, H .stores)) ∙ H .stores;
+        line = room;
+        mode = λ e. omega (arith, H .mode e, none-now (W .bench .delayed) i (effectOf W i .stores) e);
+        low = line-shape i (M .member) .0;
+        shape = shape-relink i _ (line-shape i (M .member) .1);
       }
+    where
+      room : W .bench .waiting .count + length (joining (W .bench .delayed) i (effectOf W i .stores)) ≤ 8
+      room = ltb-false 8 _ (M .line)
 
   -- LINK DROPPED
   dropped-whole : (i : ℕ) → Whole (dropped W i)
@@ -274,6 +364,10 @@ module _ {W : World} (H : Whole W) where
         rest = H .rest;
         used = H .used;
         logged = H .logged;
+        stores = H .stores;
+        line = H .line;
+        mode = H .mode;
+        low = H .low;
         shape = shape-relink i false (H .shape);
       }
     where
@@ -282,8 +376,38 @@ module _ {W : World} (H : Whole W) where
       go k (inl (e, x)) = absurd (true≢false (sym x))
       go k (inr (ne, x)) = H .links k x
 
+  -- DRAIN
+  drained-whole : 0 < W .bench .waiting .count → Whole (drainTo W)
+  drained-whole some =
+      record {
+        kinds = H .kinds;
+        links = links;
+        width = H .width;
+        words = H .words;
+        crew = H .crew;
+        workers = H .workers;
+        rest = H .rest;
+        used = H .used;
+        logged = H .logged;
+        stores = drained-length (W .bench .waiting .stores) (omega (arith, H .stores)) ∙ H .stores;
+        line = omega (arith, H .line);
+        mode = λ e. omega (arith, H .mode e);
+        low = lowOf (oldest (W .bench .waiting)) (H .low);
+        shape =
+            shape-lay (W .bench .kind) (oldest (W .bench .waiting))
+            (subst (λ (ss : List Store). Shape (W .bench .kind) (tagBits (W .bench)) (W .bench .words) (W .bench .used) (H .low) (W .bench .queue) (W .store) ss (lineAt (W .bench .workers) 0) (thieves (W .bench .workers)))
+            (line-drain (W .bench .waiting) some in-line) (H .shape));
+      }
+    where
+      links : LinksOk (W .bench .kind) (drainTo W .bench .queue) (W .bench .workers)
+      links k h =
+          let (a, b, c) = links-held (oldest (W .bench .waiting) ∷ []) (W .bench .queue .links) (W .bench .queue .anchor) k h in
+          let θ = lineAt (W .bench .workers) k in
+          let o = H .links k a in
+          link-as (W .bench .kind) (W .bench .queue) (drainTo W .bench .queue) θ θ refl b (link-parts (W .bench .kind) (W .bench .queue) θ o .1) refl o
+
   pub call-whole : (c : Call) → Whole (callOf W c .world)
-  call-whole c = call-cases (λ (D : Outcome). Whole (D .world)) W (λ r l. H) begun-whole stepped-whole dropped-whole c
+  call-whole c = call-cases (λ (D : Outcome). Whole (D .world)) W (λ r l. H) begun-whole stepped-whole dropped-whole drained-whole c
 
 pub whole-run : (cs : List Call) (W : World) → Whole W → Whole (after W cs)
 unfolding after

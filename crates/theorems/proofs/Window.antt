@@ -9,7 +9,7 @@ use Rattle.model.specs.declared.Task.{Task}
 use Rattle.model.specs.Tasks.{gathered, firstWords}
 use Rattle.model.proofs.Tasks.{same-words}
 use Rattle.theorems.proofs.Remainders.{le-or-lt}
-use Rattle.theorems.proofs.Events.{Event, quiet, line-1, finished-put, handed-out, failed-compare, found-empty, began-put, found-full, History, Out}
+use Rattle.theorems.proofs.Events.{Event, quiet, line-1, finished-put, handed-out, failed-compare, found-empty, began-put, found-full, waiting-put, drained, History, Out, Told}
 use Rattle.theorems.proofs.Words.{cell}
 
 -- the payload words of a task, the store, the directory (n arrays of d are published), the current array and the owner's window
@@ -49,6 +49,8 @@ NotDone (failed-compare j) = Unit {0}
 NotDone (found-empty j) = Unit {0}
 NotDone (began-put t) = Unit {0}
 NotDone (found-full t) = Unit {0}
+NotDone (waiting-put t y) = Unit {0}
+NotDone drained = Unit {0}
 
 -- events that neither finish a put nor hand out
 abbrev pub Plain : Event → Type 0
@@ -60,6 +62,8 @@ Plain (failed-compare j) = Unit {0}
 Plain (found-empty j) = Unit {0}
 Plain (began-put t) = Unit {0}
 Plain (found-full t) = Unit {0}
+Plain (waiting-put t y) = Unit {0}
+Plain drained = Unit {0}
 
 pub plain-done : (e : Event) → Plain e → NotDone e
 plain-done quiet c = tt
@@ -70,6 +74,8 @@ plain-done (failed-compare j) c = tt
 plain-done (found-empty j) c = tt
 plain-done (began-put t) c = tt
 plain-done (found-full t) c = tt
+plain-done (waiting-put t y) c = tt
+plain-done drained c = tt
 
 pub later : {t : Task} {h : History} (e : Event) → Out t h → Out t (e ∷ h)
 later e o = (o .0, List·Memᴰ·tail (o .1))
@@ -81,14 +87,42 @@ old-done {t} {e} {h} nd d = go (List·Memᴰ·cases-cons d)
     go (inl q) = absurd (subst NotDone (sym q) nd)
     go (inr r) = r
 
--- the put of t, of ω payload words, is begun, and its number is larger than all of finished puts
+-- events that answer no put finished
+abbrev pub NotTold : Event → Type 0
+NotTold quiet = Unit {0}
+NotTold (line-1 j) = Unit {0}
+NotTold (finished-put t) = ⊥
+NotTold (handed-out j t) = Unit {0}
+NotTold (failed-compare j) = Unit {0}
+NotTold (found-empty j) = Unit {0}
+NotTold (began-put t) = Unit {0}
+NotTold (found-full t) = Unit {0}
+NotTold (waiting-put t y) = ⊥
+NotTold drained = Unit {0}
+
+pub told-before : (e : Event) (h : History) → NotTold e → (u : Task) → Told u (e ∷ h) → Told u h
+told-before e h n u (inl d) = inl (go (List·Memᴰ·cases-cons d))
+  where
+    go : (finished-put u ≡ e) ⊎ List·Memᴰ (finished-put u) h → List·Memᴰ (finished-put u) h
+    go (inl q) = absurd (subst NotTold (sym q) n)
+    go (inr x) = x
+told-before e h n u (inr (m, d)) = inr (m, go (List·Memᴰ·cases-cons d))
+  where
+    go : (waiting-put u m ≡ e) ⊎ List·Memᴰ (waiting-put u m) h → List·Memᴰ (waiting-put u m) h
+    go (inl q) = absurd (subst NotTold (sym q) n)
+    go (inr x) = x
+
+-- the put of t, of ω payload words, is begun, and its number is larger than all that were answered finished
 pub record Begun (ω : ℕ) (t : Task) (h : History) : Type 0 where
   pub begun : List·Memᴰ (began-put t) h
-  pub newer : (u : Task) → List·Memᴰ (finished-put u) h → u .number < t .number
+  pub newer : (u : Task) → Told u h → u .number < t .number
   pub cut : firstWords (ω + 1) t ≡ t
 
-pub begun-later : {ω : ℕ} {t : Task} {h : History} (e : Event) → NotDone e → Begun ω t h → Begun ω t (e ∷ h)
-begun-later e nd B = record { begun = List·Memᴰ·tail (B .begun); newer = λ u d. B .newer u (old-done nd d); cut = B .cut }
+pub begun-told : {ω : ℕ} {t : Task} {h : History} (e : Event) → ((u : Task) → Told u (e ∷ h) → Told u h) → Begun ω t h → Begun ω t (e ∷ h)
+begun-told e f B = record { begun = List·Memᴰ·tail (B .begun); newer = λ u d. B .newer u (f u d); cut = B .cut }
+
+pub begun-later : {ω : ℕ} {t : Task} {h : History} (e : Event) → NotTold e → Begun ω t h → Begun ω t (e ∷ h)
+begun-later {ω} {t} {h} e n B = begun-told e (told-before e h n) B
 
 -- another window inside the owner's window: what leaves the window has been handed out
 pub core-window : {v : View} {lo hi : ℕ} {h : History} (e : Event) (own-lo own-hi a c : ℕ) → NotDone e → Core v lo hi h
@@ -124,6 +158,44 @@ core-window {v} {lo} {hi} {h} e own-lo own-hi a c nd C h1 h2 h3 h4 h5 leave =
         out k = subst (λ (t : Task). Out t (e ∷ h)) x (leave i l r k)
 
         pick : (a ≤ i) ⊎ (i < a) → (c ≤ i) ⊎ (i < c) → Out t (e ∷ h) ⊎ ((i : ℕ) × (a ≤ i) × (i < c) × (taskAt v i ≡ t))
+        pick (inr k) q = inl (out (inl k))
+        pick (inl k) (inl q) = inl (out (inr q))
+        pick (inl k) (inr q) = inr (i, k, q, x)
+
+-- the same, where what leaves had been handed out before
+pub core-shrink : {v : View} {lo hi : ℕ} {h : History} (own-lo own-hi a c : ℕ) → Core v lo hi h
+    → v .own-lo ≤ own-lo → own-lo ≤ a → a ≤ c → c ≤ own-hi → own-hi ≤ v .own-hi
+    → ((i : ℕ) → lo ≤ i → i < hi → (i < a) ⊎ (c ≤ i) → Out (taskAt v i) h)
+    → Core (record { words = v .words; store = v .store; base = v .base; slots = v .slots; directory = v .directory; published = v .published; own-lo = own-lo; own-hi = own-hi }) a c h
+core-shrink {v} {lo} {hi} {h} own-lo own-hi a c C h1 h2 h3 h4 h5 leave =
+    record {
+      low = h2;
+      mid = h3;
+      high = h4;
+      fit = omega (arith, C .fit);
+      whole = λ i p q. C .whole i (omega arith) (omega arith);
+      outL = λ i p q. gone i (omega arith) (omega arith) (inl q);
+      outH = λ i p q. gone i (omega arith) (omega arith) (inr p);
+      all = λ t d. keep t (C .all t d);
+    }
+  where
+    gone : (i : ℕ) → v .own-lo ≤ i → i < v .own-hi → (i < a) ⊎ (c ≤ i) → Out (taskAt v i) h
+    gone i p q x = pick (le-or-lt lo i) (le-or-lt hi i)
+      where
+        pick : (lo ≤ i) ⊎ (i < lo) → (hi ≤ i) ⊎ (i < hi) → Out (taskAt v i) h
+        pick (inr l) r = C .outL i p l
+        pick (inl l) (inl r) = C .outH i r q
+        pick (inl l) (inr r) = leave i l r x
+
+    keep : (t : Task) → Out t h ⊎ ((i : ℕ) × (lo ≤ i) × (i < hi) × (taskAt v i ≡ t))
+        → Out t h ⊎ ((i : ℕ) × (a ≤ i) × (i < c) × (taskAt v i ≡ t))
+    keep t (inl o) = inl o
+    keep t (inr (i, l, r, x)) = pick (le-or-lt a i) (le-or-lt c i)
+      where
+        out : (i < a) ⊎ (c ≤ i) → Out t h
+        out k = subst (λ (t : Task). Out t h) x (leave i l r k)
+
+        pick : (a ≤ i) ⊎ (i < a) → (c ≤ i) ⊎ (i < c) → Out t h ⊎ ((i : ℕ) × (a ≤ i) × (i < c) × (taskAt v i ≡ t))
         pick (inr k) q = inl (out (inl k))
         pick (inl k) (inl q) = inl (out (inr q))
         pick (inl k) (inr q) = inr (i, k, q, x)

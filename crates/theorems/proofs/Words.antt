@@ -2,14 +2,22 @@
 use mathlib.Core.Path.{_≡_, refl, _∙_, ap}
 use mathlib.Core.Logic.{_≢_, _⊎_, inl, inr}
 use mathlib.Core.List.{List, [], _∷_, _++_}
-use Prim.Native.Nat.{ℕ, suc, _+_, _*_, _%_, _/_, _≤_, _<_}
+use Prim.Native.Nat.{ℕ, suc, _+_, _-_, _*_, _%_, _/_, _≤_, _<_}
 use native.Mathlib.Omega.{arith}
 use native.Mathlib.Nat.{mod-lt, mul-le-mul-left, mul-div-cancel-left}
 use lib.ListN.{length, getD, set, take, drop, replicate, List·getD-append, length-set, length-append, length-take, length-drop, length-replicate}
 use lib.Seq.{getD-set-other, getD-set-same, getD-take, length-take-le}
 use Rattle.model.specs.declared.Region.{Region}
-use Rattle.model.specs.Memory.{setAll, zeros, wordAt, setWord, nowhere, offsetAt, lengthAt, sizeAt}
+use Rattle.model.specs.declared.Queue.{Queue}
+use Rattle.model.specs.Memory.{setAll, zeros, wordAt, nowhere, offsetAt, lengthAt, sizeAt}
 use Rattle.theorems.proofs.Remainders.{le-or-lt}
+
+-- the current array's offset and its length in words
+abbrev pub off : Queue → ℕ
+off q = offsetAt (q .arrays) (q .published - 1)
+
+abbrev pub len : Queue → ℕ
+len q = lengthAt (q .arrays) (q .published - 1)
 
 -- slots of n words each: an earlier one ends before a later one begins; two words lie apart
 pub earlier-slot : (n a c j : ℕ) → a < c → j < n → n * a + j < n * c
@@ -17,7 +25,7 @@ earlier-slot n a c j h l =
     let up : suc a ≤ c = omega arith in
     omega (arith, mul-le-mul-left n up)
 
-slots-apart : (n a c j l : ℕ) → a ≢ c → j < n → l < n → n * a + j ≢ n * c + l
+pub slots-apart : (n a c j l : ℕ) → a ≢ c → j < n → l < n → n * a + j ≢ n * c + l
 slots-apart n a c j l ne hj hl = go (le-or-lt a c)
   where
     go : (a ≤ c) ⊎ (c < a) → n * a + j ≢ n * c + l
@@ -80,22 +88,19 @@ unfolding zeros
 zeros-low m a n i h l =
     List·getD-append (take a m) (replicate n 0 ++ drop (a + n) m) 0 i (omega (arith, length-take-le a m l)) ∙ getD-take a m i 0 h
 
-pub W-zeros : (ω : ℕ) (m : List ℕ) (a n b z i j : ℕ) → 0 < z → j < ω + 1 → b + (ω + 1) * z ≤ a → a ≤ length m → cell ω (zeros m a n) b z i j ≡ cell ω m b z i j
-unfolding cell
-W-zeros ω m a n b z i j hz hj h l = zeros-low m a n _ (omega (arith, addr-in ω b z i j hz hj)) l
-
 pub zeros-length : (m : List ℕ) (a n : ℕ) → a + n ≤ length m → length (zeros m a n) ≡ length m
 unfolding zeros
 zeros-length m a n l = simp (length-append, length-take, length-drop, length-replicate) (omega arith)
+
+-- two indices with one slot
+pub W-mod : (ω : ℕ) (m : List ℕ) (b z i k j : ℕ) → i % z ≡ k % z → cell ω m b z i j ≡ cell ω m b z k j
+unfolding cell
+W-mod ω m b z i k j e = rw e
 
 -- a slot's words
 pub word-W : (ω : ℕ) (m : List ℕ) (b z t i j : ℕ) → t ≡ i % z → wordAt m ω b t j ≡ cell ω m b z i j
 unfolding cell wordAt
 word-W ω m b z t i j e = rw e
-
-pub set-W : (ω : ℕ) (m : List ℕ) (b z t i j x : ℕ) → t ≡ i % z → setWord m ω b t j x ≡ put-word ω m b z i j x
-unfolding put-word setWord
-set-W ω m b z t i j x e = rw e
 
 -- the directory after an entry is set
 pub set-place : (ω : ℕ) (l : List Region) (n k b c : ℕ) → k ≢ n

@@ -1,5 +1,6 @@
--- Demand 3: no sequence of begins, steps and dropped links can lose or invent a task. Stated of the calls of a list, their answers and
--- the accepted steps, by the calls' places in the list.
+-- Demand 3: no sequence of begins, steps, dropped links and drains can lose or invent a task. Stated of the calls of a list, of
+-- their answers and of the accepted steps, by the calls' places in the list. Where stores are not delayed, what is said here of
+-- drains adds nothing (AsBefore).
 use mathlib.Core.Path.{_≡_}
 use mathlib.Core.Logic.{_⊎_}
 use mathlib.Core.List.{List, [], _∷_}
@@ -13,6 +14,8 @@ use Rattle.model.specs.declared.Task.{Task}
 use Rattle.model.specs.declared.Anchor.{Anchor}
 use Rattle.model.specs.declared.Line.{Line}
 use Rattle.model.specs.declared.Line.the-variants.{TakeRead, StealRead, StealCompare}
+use Rattle.model.specs.declared.Store.{Store}
+use Rattle.model.specs.declared.Store.the-variants.{StoreWord, StoreNote, StorePut, StoreOut, StoreHead, StoreTail}
 use Rattle.model.specs.declared.Operation.the-variants.{Put}
 use Rattle.model.specs.declared.Refusal.{Refusal}
 use Rattle.model.specs.declared.Answer.{Answer}
@@ -26,9 +29,12 @@ use Rattle.model.specs.declared.Answer.the-variants.{
   Full,
   Refused,
 }
+use Rattle.model.specs.Tests.{if_then_else_}
 use Rattle.model.specs.Tasks.{task, firstWords}
+use Rattle.model.specs.Stores.{oldest}
 use Rattle.model.specs.World.{World, tagBits, lineAt}
-use Rattle.model.specs.Calls.{freshOf, Call, begin, step}
+use Rattle.model.specs.Calls.{freshOf, Call, begin, step, dropLink, drain}
+use Rattle.model.specs.Listing.{isRefused}
 use Rattle.model.specs.Run.{Played, played, after}
 use Rattle.model.specs.Window.{windowSize, windowTask}
 
@@ -88,15 +94,44 @@ Out T k t = At T k (HandsOut t)
 abbrev pub FinishedBefore : List Played → ℕ → Task → Type 0
 FinishedBefore T j t = (b k : ℕ) × (k < j) × Done T b k t
 
--- every put finished by place l was handed out before place j
-abbrev pub AllOut : List Played → ℕ → ℕ → Type 0
-AllOut T l j = (b k : ℕ) (t : Task) → Done T b k t → k ≤ l → (o : ℕ) × (o < j) × Out T o t
+-- the calls between places l and j
+abbrev pub between : ℕ → ℕ → List Played → List Played
+between l j T = take (j - suc l) (drop (suc l) T)
 
--- the task stands whole in a slot of the window
+-- DELAYED STORES. How many accepted drains a part of the list has: each puts the oldest waiting store to its place
+abbrev pub drainsAs : Call → Answer → ℕ
+drainsAs (begin i op) a = 0
+drainsAs (step i) a = 0
+drainsAs (dropLink i) a = 0
+drainsAs drain a = if isRefused a then 0 else 1
+
+abbrev pub drains : List Played → ℕ
+drains [] = 0
+drains (s ∷ T) = drains T + drainsAs (s .call) (s .answer)
+
+-- the step s finishes a put, and its anchor store (FIFO: tail store) joins the end of the line: so many wait then, and so many
+-- drains later it is in memory; where stores are not delayed it is there at once
+abbrev pub waits : Played → ℕ
+waits s = if s .before .bench .delayed then s .before .bench .waiting .count + 1 else 0
+
+-- the put that was finished at place k was drained by place l
+abbrev pub DrainedBy : List Played → ℕ → ℕ → Type 0
+DrainedBy T k l = At T k (λ s. waits s ≤ drains (between k l T))
+
+-- worker i's EMPTY concerns the put that was finished at place k: the owner's every one, a thief's those drained by place l
+abbrev pub Concerned : List Played → ℕ → ℕ → ℕ → Type 0
+Concerned T zero k l = Unit {0}
+Concerned T (suc i) k l = DrainedBy T k l
+
+-- every put finished by place l that worker i's EMPTY concerns was handed out before place j
+abbrev pub AllOut : List Played → ℕ → ℕ → ℕ → Type 0
+AllOut T i l j = (b k : ℕ) (t : Task) → Done T b k t → k ≤ l → Concerned T i k l → (o : ℕ) × (o < j) × Out T o t
+
+-- the task stands whole in a slot of the window, as the owner reads it
 abbrev pub Stands : World → Task → Type 0
 Stands W t = (i : ℕ) × (i < windowSize W) × (windowTask W i ≡ t)
 
--- how many puts a part of the list finishes
+-- how many puts an answer finishes
 abbrev pub finishes : Answer → ℕ
 finishes Accepted = 0
 finishes (Numbered n) = 0
@@ -107,16 +142,29 @@ finishes (Empty i) = 0
 finishes (Full i t) = 0
 finishes (Refused r) = 0
 
+-- how many puts a store is the anchor store of (FIFO: tail store)
+abbrev pub ofPut : Store → ℕ
+ofPut (StoreWord k t j x) = 0
+ofPut (StoreNote k) = 0
+ofPut (StorePut r) = 1
+ofPut (StoreOut r) = 0
+ofPut (StoreHead i) = 0
+ofPut (StoreTail i) = 1
+
+-- how many puts a call brings to memory: those it finishes; where stores are delayed, those whose anchor store it drains
+abbrev pub arrivesAs : World → Call → Answer → ℕ
+arrivesAs W (begin i op) a = if W .bench .delayed then 0 else finishes a
+arrivesAs W (step i) a = if W .bench .delayed then 0 else finishes a
+arrivesAs W (dropLink i) a = if W .bench .delayed then 0 else finishes a
+arrivesAs W drain a = if isRefused a then 0 else ofPut (oldest (W .bench .waiting))
+
+-- how many puts a part of the list brings to memory
 abbrev pub puts : List Played → ℕ
 puts [] = 0
-puts (s ∷ T) = puts T + finishes (s .answer)
+puts (s ∷ T) = puts T + arrivesAs (s .before) (s .call) (s .answer)
 
--- the calls between places l and j
-abbrev pub between : ℕ → ℕ → List Played → List Played
-between l j T = take (j - suc l) (drop (suc l) T)
-
--- THE PREMISE: with a tag of w bits, fewer than 2^w puts finish between any steal attempt's line 1 and its compare. FIFO
--- has none; nor have the linked kinds, whose tag has 0 bits
+-- THE PREMISE: with a tag of w bits, fewer than 2^w puts finish (are drained, where stores are delayed) between any steal
+-- attempt's line 1 and its compare. FIFO has none; nor have the linked kinds, whose tag has 0 bits
 abbrev pub Few : Kind → ℕ → ℕ → Type 0
 Few Lifo w d = 0 < w → d < 2 ^ w
 Few Fifo w d = Unit {0}
@@ -133,8 +181,9 @@ pub record Demand3 (W : World) (cs : List Call) : Type 0 where
   pub kept : (b j : ℕ) (t : Task) → Done (played W cs) b j t → ((k : ℕ) × Out (played W cs) k t) ⊎ Stands (after W cs) t
   -- each task handed out belongs to a put finished before it
   pub belongs : (j : ℕ) (t : Task) → Out (played W cs) j t → FinishedBefore (played W cs) j t
-  -- each EMPTY was answered only if every put finished by that attempt's line 1 had been handed out before that EMPTY
-  pub none-left : (j i : ℕ) → At (played W cs) j (Empties i) → (l : ℕ) × Attempt (played W cs) i l j × AllOut (played W cs) l j
+  -- each EMPTY was answered only if every put finished by that attempt's line 1 (a thief's: and drained by it) had been handed
+  -- out before that EMPTY
+  pub none-left : (j i : ℕ) → At (played W cs) j (Empties i) → (l : ℕ) × Attempt (played W cs) i l j × AllOut (played W cs) i l j
   -- what makes 'the put it belongs to' exact: an entry of kind 1 ends a put that was begun, and no two puts have one number
   pub ended : (j : ℕ) (t : Task) → At (played W cs) j (Finishes t) → (b : ℕ) × Done (played W cs) b j t
   pub numbers : (a b : ℕ) (t u : Task) → At (played W cs) a (Begins t) → At (played W cs) b (Begins u) → t .number ≡ u .number → a ≡ b

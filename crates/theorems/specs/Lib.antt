@@ -1,4 +1,5 @@
 pub mod Demand3
 pub mod Corollaries
+pub mod AsBefore
 pub mod Reached
 pub mod Restarts

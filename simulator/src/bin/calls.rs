@@ -1,12 +1,11 @@
 //! Plays a list of library calls and prints their answers.
 //!
-//!     calls [--check] [--delayed] < list > answers
+//!     calls [--check] < list > answers
 //!
 //! A line that is not of the form is named on standard error and ends it; the
 //! answers to what was played before stay printed. With `--check` what was played
 //! is also checked by demand 3, the restarts of each worker are counted from its
-//! history, and so on; what was found is said on standard error. With `--delayed`
-//! the list may have delayed stores, which the library has not yet.
+//! history, and so on; what was found is said on standard error.
 //!
 //! Exit status: 0; 1 if the list can't be read or the answers can't be written;
 //! 2 if a check failed, demand 3 while its premise held; 64 for a flag it does not
@@ -22,21 +21,17 @@ use simulator::witness::{Blind, Witness};
 
 fn main() -> ExitCode {
     let mut check = false;
-    let mut delayed = false;
     for flag in std::env::args().skip(1) {
-        match &flag[..] {
-            "--check" => check = true,
-            "--delayed" => delayed = true,
-            _ => {
-                eprintln!("usage: calls [--check] [--delayed] < list > answers");
-                return ExitCode::from(64);
-            }
+        if flag != "--check" {
+            eprintln!("usage: calls [--check] < list > answers");
+            return ExitCode::from(64);
         }
+        check = true;
     }
     if !check {
-        return play(&mut started(Blind, delayed));
+        return play(&mut Calls::new(Blind));
     }
-    let mut calls = started(Checks::new(), delayed);
+    let mut calls = Calls::new(Checks::new());
     let status = play(&mut calls);
     let checks = calls.witness();
     eprintln!("{checks}");
@@ -44,15 +39,6 @@ fn main() -> ExitCode {
         ExitCode::from(2)
     } else {
         status
-    }
-}
-
-fn started<W: Witness>(witness: W, delayed: bool) -> Calls<W> {
-    let calls = Calls::new(witness);
-    if delayed {
-        calls.with_delayed_stores()
-    } else {
-        calls
     }
 }
 

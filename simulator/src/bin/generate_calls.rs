@@ -1,14 +1,13 @@
 //! Writes a random list of library calls.
 //!
-//!     generate_calls [--delayed] SEED [CALLS]
+//!     generate_calls SEED [CALLS]
 //!
 //! The same seed gives the same list. CALLS is about how many calls it makes;
-//! without it the seed decides. With `--delayed` most benches have delayed stores,
-//! which the library has not yet. A list has stretches, each with a bench of its
-//! own on the same memory. In a stretch workers are paused where the queues are
-//! delicate, as in the runs of `generate`, and links fail; between that stand
-//! calls that the program has no line for, and looks at the shared state and at
-//! the log.
+//! without it the seed decides. A list has stretches, each with a bench of its own
+//! on the same memory; in a third of the lists most of them delay their stores. In
+//! a stretch workers are paused where the queues are delicate, as in the runs of
+//! `generate`, and links fail; between that stand calls that the program has no
+//! line for, and looks at the shared state and at the log.
 
 use std::io::Write;
 use std::process::ExitCode;
@@ -19,21 +18,16 @@ use simulator::random::Random;
 use simulator::script::{Drains, Looks, Script};
 
 fn main() -> ExitCode {
-    let mut words: Vec<String> = std::env::args().skip(1).collect();
-    let delayed = words.first().is_some_and(|word| word == "--delayed");
-    if delayed {
-        words.remove(0);
-    }
-    let values: Vec<Option<u64>> = words.iter().map(|text| text.parse().ok()).collect();
+    let values: Vec<Option<u64>> = std::env::args().skip(1).map(|text| text.parse().ok()).collect();
     let (seed, calls) = match values[..] {
         [Some(seed)] => (seed, None),
         [Some(seed), Some(calls)] => (seed, Some(calls)),
         _ => {
-            eprintln!("usage: generate_calls [--delayed] SEED [CALLS]");
+            eprintln!("usage: generate_calls SEED [CALLS]");
             return ExitCode::from(64);
         }
     };
-    let text = list(seed, calls, delayed);
+    let text = list(seed, calls);
     if let Err(error) = std::io::stdout().write_all(&text) {
         eprintln!("generate_calls: the list can't be written: {error}");
         return ExitCode::FAILURE;
@@ -41,7 +35,7 @@ fn main() -> ExitCode {
     ExitCode::SUCCESS
 }
 
-fn list(seed: u64, calls: Option<u64>, delayed: bool) -> Vec<u8> {
+fn list(seed: u64, calls: Option<u64>) -> Vec<u8> {
     let mut random = Random::new(seed);
     let (first, store, log) = match random.below(100) {
         // With one or two payload words it can be the size alone that forbids a
@@ -52,13 +46,14 @@ fn list(seed: u64, calls: Option<u64>, delayed: bool) -> Vec<u8> {
     };
     let looks = looks(&mut random, store, log);
     let calls = calls.unwrap_or_else(|| u64::from(random.between(300, 4000)));
-    let mut script = Script::calls(random, store, log, delayed);
+    let delayed = random.chance(34);
+    let mut script = Script::calls(random, store, log);
     script.looks = looks;
     if script.random.chance(40) {
         strays(&mut script);
     }
     let shape = shape(&mut script.random, store);
-    let shape = with_line(&mut script, shape);
+    let shape = if delayed { with_line(&mut script, shape) } else { shape };
     match first {
         First::LargestArray => {
             let size = *script.random.pick(&[512, 1024]);
@@ -75,7 +70,7 @@ fn list(seed: u64, calls: Option<u64>, delayed: bool) -> Vec<u8> {
         First::Any => {}
     }
     while script.steps() < calls {
-        stretch(&mut script, store);
+        stretch(&mut script, store, delayed);
     }
     the_end(&mut script);
     script.into_text()
@@ -138,9 +133,9 @@ fn looks(random: &mut Random, store: u32, log: u32) -> Looks {
 }
 
 /// A bench, what is done with it, and looks at what it leaves.
-fn stretch(script: &mut Script, store: u32) {
+fn stretch(script: &mut Script, store: u32, delayed: bool) {
     let shape = shape(&mut script.random, store);
-    let shape = with_line(script, shape);
+    let shape = if delayed { with_line(script, shape) } else { shape };
     let shape = if script.random.chance(25) { damaged(&mut script.random, shape) } else { shape };
     if !script.fresh(shape) {
         return strays(script);
@@ -225,12 +220,8 @@ fn shape(random: &mut Random, store: u32) -> Shape {
     Shape { kind: random.between(1, 5), width, size: 1 << exponent, crew, payload_words, delayed: false }
 }
 
-/// The same with delayed stores, mostly, and how they drain; with neither in a
-/// list that may have none.
+/// The same with delayed stores, mostly, and how they drain.
 fn with_line(script: &mut Script, shape: Shape) -> Shape {
-    if !script.delayed_stores() {
-        return shape;
-    }
     script.drains = Drains {
         now_and_then: *script.random.pick(&[0, 5, 20, 20, 40, 70]),
         go_on: *script.random.pick(&[50, 90, 95, 100]),
@@ -267,10 +258,7 @@ fn strays(script: &mut Script) {
             8 => script.random.between(8, 300),
             _ => *script.random.pick(&[256, 257, 1 << 31, u32::MAX - 1, u32::MAX]),
         };
-        if script.delayed_stores() && script.random.chance(20) {
-            script.drain();
-        }
-        match script.random.below(11) {
+        match script.random.below(12) {
             0 | 1 => script.begin_put(worker),
             2 | 3 => script.begin_take(worker),
             4 | 5 => script.steal(worker),
@@ -280,6 +268,7 @@ fn strays(script: &mut Script) {
             }
             7 | 8 => script.drop_link(worker),
             9 => script.who(worker),
+            10 => script.drain(),
             _ => {
                 let count = script.random.below(25);
                 script.step(worker, count);
@@ -298,13 +287,11 @@ fn the_end(script: &mut Script) {
                 "", " ", "end", "put 1", "step 0", "step 0 1 1", "step 0 1 ", "step  0 1",
                 "step 0 4294967296", "step 0 18446744073709551617", "step 0 -1", "step 0 x",
                 "begin 0", "begin 0 put", "begin 0 put x", "begin 0 put 1 2 3 4 5", "begin 0 drop",
-                "drop", "drop 1 1", "drop x", "unlink 1", "fresh 1 1 1 1", "fresh 1 1 1 1 1 1",
-                "who", "who ", "who 1 1", "who x", "who 01", "who 4294967296", "whom 1", "begin 1 who",
+                "drop", "drop 1 1", "drop x", "unlink 1", "fresh 1 1 1 1", "fresh 1 1 1 1 1 1 1",
+                "fresh 1 1 1 1 1 2", "drain 0", "begin 0 drain", "who", "who ", "who 1 1", "who x", "who 01", "who 4294967296", "whom 1", "begin 1 who",
                 "memory 2 4", "State", "front 0",
             ]);
-            // With delayed stores a sixth number is of the form.
-            let seventh = script.delayed_stores() && line == "fresh 1 1 1 1 1 1";
-            script.say(if seventh { "fresh 1 1 1 1 1 1 1" } else { line });
+            script.say(line);
             script.unplayed(b"step 0 1\nstate\nfront\n");
         }
         1 => script.drop_last_newline(),

@@ -16,8 +16,8 @@ Inv-loop buf₀ store₀ log₀ out₀ next₀ turns₀ buf store log out next t
 abbrev μ-loop : tie.MeasureT-loop
 μ-loop buf₀ store₀ log₀ out₀ next₀ turns₀ buf store log out next turns = turns
 
-fresh-requires : tie.Need-fresh-requires Inv-loop μ-loop
-fresh-requires c κs = search needs
+unbegun-requires : tie.Need-unbegun-requires Inv-loop μ-loop
+unbegun-requires c κs = search needs
 
 loop-holds : tie.Need-loop-holds Inv-loop μ-loop
 loop-holds c = search needs
@@ -70,7 +70,7 @@ run-spec =
     (tie.spec
     Inv-loop
     μ-loop
-    fresh-requires
+    unbegun-requires
     loop-holds
     sub-turns
     play-some-requires

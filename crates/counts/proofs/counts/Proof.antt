@@ -1,13 +1,15 @@
-use mathlib.Core.Path.{_≡_}
+use mathlib.Core.Path.{_≡_, sym, ap, _∙_}
 use Prim.Native.Nat.{ℕ, _+_}
 use native.Mathlib.Omega.{arith}
 use native.Mathlib.Nat.{mul-div-le}
 use Rattle.model.specs.declared.Counts.{Counts}
 use Rattle.model.specs.World.{World}
-use Rattle.model.specs.Window.{windowSize}
-use Rattle.model.specs.Calls.{restartsOf}
+use Rattle.model.specs.Stores.{Shared}
+use Rattle.model.specs.Window.{tasks, windowSize}
+use Rattle.model.specs.Calls.{lent, restartsOf}
 use Rattle.model.specs.Counts.{isKind, outFirst, isLost, entriesIn, countBelow, sumBelow, countsOf}
 use borrow.Author.Needs.{needs}
+use Rattle.counts.proofs.Places.{reads-memory}
 use Rattle.counts.proofs.counts.Statement.{statement}
 use Rattle.counts.proofs.counts.Tie as tie
 
@@ -54,7 +56,7 @@ restarts-of-requires : tie.Need-restarts-of-requires
 restarts-of-requires c κs = search needs
 
 returns : tie.Need-returns
-returns c = counted _ _ _ _ _ _ _ (c .before .before .before .before .before .before .before .before .before .entries-of .ensures) (c .before .before .before .before .before .before .before .before .entries-of2 .ensures) (c .before .before .before .before .before .before .different-out .ensures .0) (c .before .before .before .before .window-size .ensures) (c .before .before .lost-of .ensures) (c .restarts-of .ensures)
+returns c = let start = c .before .before .before .before .before .before .before .before .before .before .before .before .before in let a = start .args in counted _ _ _ _ _ _ _ (c .before .before .before .before .before .before .before .before .before .entries-of .ensures) (c .before .before .before .before .before .before .before .before .entries-of2 .ensures) (c .before .before .before .before .before .before .different-out .ensures .0) (c .before .before .before .before .window-size .ensures ∙ ap (λ (S : Shared). tasks (a .bench .kind) (S .queue .anchor)) (sym (reads-memory (lent (a .bench) (a .store .now) (a .log .now)) (start .pre)))) (c .before .before .lost-of .ensures) (c .restarts-of .ensures)
 
 pub counts-spec : {M : Type 1} → statement M
 counts-spec =

@@ -39,9 +39,9 @@ add-next : tie.Need-add-next Inv-loop μ-loop
 add-next c = omega arith
 
 returns : tie.Need-returns Inv-loop μ-loop
-returns c = let l = c .before .before .before .before .loop in let a = c .before .before .before .before .before .before .before .before .before .before .before .before .args in
+returns c = let l = c .before .before .before .before .loop in let start = c .before .before .before .before .before .before .before .before .before .before .before .before in let a = start .args in
     some-at _ _ (l .j) (c .before .before .before .loop-test .taken) (c .before .same-task .ensures ∙ ap (λ (t : Task). sameTask t (a .task)) (c .before .before .window-task .ensures)) (c .if1 .taken)
-    ∙ stands-is (a .bench) (a .store .now) (a .task) _ _ (c .before .before .before .before .before .before .before .before .current .ensures) (c .before .before .before .before .before .before .before .window-size .ensures)
+    ∙ stands-is (a .bench) (a .store .now) (a .task) _ _ (start .pre) (c .before .before .before .before .before .before .before .before .current .ensures) (c .before .before .before .before .before .before .before .window-size .ensures)
 
 loop-less : tie.Need-loop-less Inv-loop μ-loop
 loop-less c = omega arith
@@ -54,9 +54,9 @@ stands-below-requires : tie.Need-stands-below-requires Inv-loop μ-loop
 stands-below-requires c κs = search needs
 
 returns-2 : tie.Need-returns-2 Inv-loop μ-loop
-returns-2 c = let l = c .before .before .loop in let a = c .before .before .before .before .before .before .before .before .before .before .args in
+returns-2 c = let l = c .before .before .loop in let start = c .before .before .before .before .before .before .before .before .before .before in let a = start .args in
     up-all _ _ _ (l .j) (l .inv .1) (l .inv .0) (c .before .loop-test .left) (c .stands-below .ensures)
-    ∙ stands-is (a .bench) (a .store .now) (a .task) _ _ (c .before .before .before .before .before .before .current .ensures) (c .before .before .before .before .before .window-size .ensures)
+    ∙ stands-is (a .bench) (a .store .now) (a .task) _ _ (start .pre) (c .before .before .before .before .before .before .current .ensures) (c .before .before .before .before .before .window-size .ensures)
 
 pub in-window-spec : {M : Type 1} → statement M
 in-window-spec =

@@ -21,11 +21,11 @@ begin-requires c κs = search needs
 loop-holds : tie.Need-loop-holds Inv-loop μ-loop
 loop-holds c = search needs
 
-step-requires : tie.Need-step-requires Inv-loop μ-loop
-step-requires c κs = search needs
-
 add-line : tie.Need-add-line Inv-loop μ-loop
 add-line c = search needs
+
+step-requires : tie.Need-step-requires Inv-loop μ-loop
+step-requires c κs = search needs
 
 loop-less : tie.Need-loop-less Inv-loop μ-loop
 loop-less c = search needs
@@ -51,8 +51,8 @@ put-spec =
     payload-of-requires
     begin-requires
     loop-holds
-    step-requires
     add-line
+    step-requires
     loop-less
     loop-again
     same-length

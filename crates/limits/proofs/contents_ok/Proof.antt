@@ -1,22 +1,15 @@
-use mathlib.Core.Bool.{Bool, true, false}
-use mathlib.Core.Path.{_≡_, sym, ap, _∙_}
-use Prim.Native.Nat.{ℕ, _-_, _*_, _^_, _%_, _≤_}
+use mathlib.Core.Path.{refl, sym, ap, _∙_}
+use Prim.Native.Nat.{ℕ, _-_, _*_, _^_, _%_, _<_}
 use native.Mathlib.Omega.{arith}
-use borrow.Author.Needs.{needs}
-use Rattle.model.specs.Tests.{if_then_else_, _and_}
+use Rattle.model.specs.Tests.{_and_}
 use Rattle.model.specs.World.{tagBits}
 use Rattle.model.specs.Limits.{anchorOk, linksOk}
 use Rattle.model.proofs.Tests.{holds, fails, passed, refused}
 use Rattle.limits.specs.Parts.{workersOk}
-use Rattle.limits.proofs.Directory.{current}
+use Rattle.limits.proofs.Contents.{narrow, in-memory, in-view, doubles, doubles-view}
+use borrow.Author.Needs.{needs}
 use Rattle.limits.proofs.contents_ok.Statement.{statement}
 use Rattle.limits.proofs.contents_ok.Tie as tie
-
--- no bits or as many as the width
-narrow : (x : Bool) (w : ℕ) {r : ℕ} → r ≡ (if x then 0 else w) → w ≤ 16 → r ≤ 16
-unfolding if_then_else_
-narrow true w e h = omega (arith, e)
-narrow false w e h = omega (arith, e, h)
 
 tag-bits-requires : tie.Need-tag-bits-requires
 tag-bits-requires c κs = search needs
@@ -28,49 +21,72 @@ shl-tasks : tie.Need-shl-tasks
 shl-tasks c = search needs
 
 anchor-ok-requires : tie.Need-anchor-ok-requires
-anchor-ok-requires c κs = narrow (c .before .before .before .before .before .args .bench .queue .linked) (c .before .before .before .before .before .args .bench .width) (c .before .before .tag-bits .ensures) (c .before .before .before .before .before .pre .0 .0)
+anchor-ok-requires c κs = let start = c .before .before .before .before in narrow (start .args .bench .queue .linked) (start .args .bench .width) (c .before .tag-bits .ensures) (start .pre .0 .0)
 
 returns : tie.Need-returns
-returns c =
-    let start = c .before .before .before .before .before .before .before in
+returns c = λ p e f.
+    let start = c .before .before .before .before .before .before in
     let b = start .args .bench in
-    let z = current (b .words) (b .queue) (start .pre .1 .1 .0) (start .pre .1 .0 .0) in
-    let bits = c .before .before .before .before .tag-bits .ensures in
-    let now = c .before .anchor-ok .ensures ∙ ap (λ (w : ℕ). anchorOk (b .kind) w (b .queue .initial * 2 ^ (b .queue .published - 1) % 2 ^ 32) (b .queue .anchor)) bits ∙ ap (λ (z : ℕ). anchorOk (b .kind) (tagBits b) z (b .queue .anchor)) z in
+    let h = start .pre in
+    let D = h .1 .1 .1 .0 in
+    let bits = c .before .before .before .tag-bits .ensures in
+    let z = in-memory b D (h .1 .0 .0) (omega (arith, h .1 .0 .1, h .1 .1 .0 .0)) in
+    let now =
+    c .before .anchor-ok .ensures
+    ∙ ap (λ (w : ℕ). anchorOk (b .kind) w (b .queue .initial * 2 ^ (b .queue .published - 1) % 2 ^ 32) (b .queue .anchor)) bits
+    ∙ ap (λ (z : ℕ). anchorOk (b .kind) (tagBits b) z (b .queue .anchor)) z in
     sym (fails _ (refused now (c .if1 .taken)))
 
 number-ok-requires : tie.Need-number-ok-requires
 number-ok-requires c κs = search needs
 
 returns-2 : tie.Need-returns-2
-returns-2 c =
-    let start = c .before .before .before .before .before .before .before .before .before in
+returns-2 c = λ p e f.
+    let start = c .before .before .before .before .before .before .before .before in
     let b = start .args .bench in
-    let z = current (b .words) (b .queue) (start .pre .1 .1 .0) (start .pre .1 .0 .0) in
-    let bits = c .before .before .before .before .before .before .tag-bits .ensures in
-    let now = c .before .before .before .anchor-ok .ensures ∙ ap (λ (w : ℕ). anchorOk (b .kind) w (b .queue .initial * 2 ^ (b .queue .published - 1) % 2 ^ 32) (b .queue .anchor)) bits ∙ ap (λ (z : ℕ). anchorOk (b .kind) (tagBits b) z (b .queue .anchor)) z in
+    let h = start .pre in
+    let D = h .1 .1 .1 .0 in
+    let bits = c .before .before .before .before .before .tag-bits .ensures in
+    let z = in-memory b D (h .1 .0 .0) (omega (arith, h .1 .0 .1, h .1 .1 .0 .0)) in
+    let now =
+    c .before .before .before .anchor-ok .ensures
+    ∙ ap (λ (w : ℕ). anchorOk (b .kind) w (b .queue .initial * 2 ^ (b .queue .published - 1) % 2 ^ 32) (b .queue .anchor)) bits
+    ∙ ap (λ (z : ℕ). anchorOk (b .kind) (tagBits b) z (b .queue .anchor)) z in
     sym (holds (passed now (c .before .before .if1 .left)) ∙ fails _ (refused (c .before .number-ok .ensures) (c .if2 .taken)))
+
+sub-last : tie.Need-sub-last
+sub-last c = search needs
+
+shl-most : tie.Need-shl-most
+shl-most c = search needs
 
 workers-ok-requires : tie.Need-workers-ok-requires
 workers-ok-requires c κs =
-    let start = c .before .before .before .before .before .before .before .before .before in
+    let start = c .before .before .before .before .before .before .before .before in
     let b = start .args .bench in
-    let z = current (b .words) (b .queue) (start .pre .1 .1 .0) (start .pre .1 .0 .0) in
-    let bits = c .before .before .before .before .before .before .tag-bits .ensures in
-    let pre = start .pre in
-    ((narrow (b .queue .linked) (b .width) bits (pre .0 .0), pre .0 .1), (pre .1 .0 .1, (pre .1 .1 .0, (z, pre .1 .1 .1))))
+    let h = start .pre in
+    let D = h .1 .1 .1 .0 in
+    let bits = c .before .before .before .before .before .tag-bits .ensures in
+    let z = in-memory b D (h .1 .0 .0) (omega (arith, h .1 .0 .1, h .1 .1 .0 .0)) in
+    ((narrow (b .queue .linked) (b .width) bits (h .0 .0), h .0 .1), ((omega (arith, h .1 .0 .1, h .1 .1 .0), omega (arith, h .1 .1 .0)), ((refl, doubles b D (omega (arith, h .1 .0 .1, h .1 .1 .0 .0)), z), h .1 .1 .1 .1)))
 
 returns-3 : tie.Need-returns-3
-returns-3 c =
-    let start = c .before .before .before .before .before .before .before .before .before .before in
+returns-3 c = λ p e f.
+    let start = c .before .before .before .before .before .before .before .before .before in
     let b = start .args .bench in
-    let z = current (b .words) (b .queue) (start .pre .1 .1 .0) (start .pre .1 .0 .0) in
-    let bits = c .before .before .before .before .before .before .before .tag-bits .ensures in
-    let now = c .before .before .before .before .anchor-ok .ensures ∙ ap (λ (w : ℕ). anchorOk (b .kind) w (b .queue .initial * 2 ^ (b .queue .published - 1) % 2 ^ 32) (b .queue .anchor)) bits ∙ ap (λ (z : ℕ). anchorOk (b .kind) (tagBits b) z (b .queue .anchor)) z in
-    c .workers-ok .ensures
-    ∙ ap (λ (w : ℕ). linksOk (b .kind) (b .queue) (b .workers) 8 and workersOk (b .kind) w (b .words) (b .queue) (b .crew) (b .workers) 8) bits
-    ∙ sym
-    (holds (passed now (c .before .before .before .if1 .left)) ∙ holds (passed (c .before .before .number-ok .ensures) (c .before .if2 .left)))
+    let h = start .pre in
+    let D = h .1 .1 .1 .0 in
+    let bits = c .before .before .before .before .before .before .tag-bits .ensures in
+    let z = in-memory b D (h .1 .0 .0) (omega (arith, h .1 .0 .1, h .1 .1 .0 .0)) in
+    let now =
+    c .before .before .before .before .anchor-ok .ensures
+    ∙ ap (λ (w : ℕ). anchorOk (b .kind) w (b .queue .initial * 2 ^ (b .queue .published - 1) % 2 ^ 32) (b .queue .anchor)) bits
+    ∙ ap (λ (z : ℕ). anchorOk (b .kind) (tagBits b) z (b .queue .anchor)) z in
+    let n = start .args .seen in
+    let some : 0 < n = omega (arith, h .1 .0) in
+    c .workers-ok .ensures p (e, doubles-view b D n p e f some (h .1 .1 .0 .0), in-view b D n p e f some (h .1 .1 .0 .0))
+    ∙ ap (λ (w : ℕ). linksOk (b .kind) (b .queue) (b .workers) 8 and workersOk (b .kind) w (b .words) (b .queue) p (b .crew) (b .workers) 8) bits
+    ∙ sym (holds (passed now (c .before .before .before .if1 .left)) ∙ holds (passed (c .before .before .number-ok .ensures) (c .before .if2 .left)))
 
 pub contents-ok-spec : {M : Type 1} → statement M
 contents-ok-spec =
@@ -83,5 +99,7 @@ contents-ok-spec =
     returns
     number-ok-requires
     returns-2
+    sub-last
+    shl-most
     workers-ok-requires
     returns-3)

@@ -14,45 +14,54 @@ returns-2 : tie.Need-returns-2
 returns-2 c =
     let q = c .before .before .before .args .queue in sym (holds (lt-ltb 0 (q .published) (omega arith)) ∙ fails _ (lt-leb _ _ (c .if2 .taken)))
 
+returns-3 : tie.Need-returns-3
+returns-3 c =
+    let q = c .before .before .before .before .args .queue in
+    sym
+    (holds (lt-ltb 0 (q .published) (omega arith)) ∙ holds (le-leb _ _ (c .before .if2 .left)) ∙ fails _ (lt-leb _ _ (c .if3 .taken)))
+
 claims-ok-requires : tie.Need-claims-ok-requires
 claims-ok-requires c κs = search needs
 
-returns-3 : tie.Need-returns-3
-returns-3 c =
-    let q = c .before .before .before .before .before .args .queue in
+returns-4 : tie.Need-returns-4
+returns-4 c =
+    let q = c .before .before .before .before .before .before .args .queue in
     sym
     (holds (lt-ltb 0 (q .published) (omega arith))
-    ∙ holds (le-leb _ _ (c .before .before .if2 .left))
-    ∙ fails _ (sym (c .before .claims-ok .ensures) ∙ not-true _ (c .if3 .taken)))
+    ∙ holds (le-leb _ _ (c .before .before .before .if2 .left))
+    ∙ holds (le-leb _ _ (c .before .before .if3 .left))
+    ∙ fails _ (sym (c .before .claims-ok .ensures) ∙ not-true _ (c .if4 .taken)))
 
 tidy-requires : tie.Need-tidy-requires
 tidy-requires c κs =
-    let p = reaches _ _ _ (sym (c .before .claims-ok .ensures) ∙ not-false _ (c .if3 .left)) in
-    (c .before .before .before .before .before .pre, (omega arith, c .before .before .if2 .left))
-
-returns-4 : tie.Need-returns-4
-returns-4 c =
-    let q = c .before .before .before .before .before .before .before .args .queue in
-    sym
-    (holds (lt-ltb 0 (q .published) (omega arith))
-    ∙ holds (le-leb _ _ (c .before .before .before .before .if2 .left))
-    ∙ holds (sym (c .before .before .before .claims-ok .ensures) ∙ not-false _ (c .before .before .if3 .left))
-    ∙ and-swap _ _ _ ∙ fails _ (sym (c .before .tidy .ensures) ∙ not-true _ (c .if4 .taken)))
-
-fits-requires : tie.Need-fits-requires
-fits-requires c κs =
-    let p = reaches _ _ _ (sym (c .before .before .before .claims-ok .ensures) ∙ not-false _ (c .before .before .if3 .left)) in
-    (omega arith, c .before .before .before .before .if2 .left)
+    let p = reaches _ _ _ (sym (c .before .claims-ok .ensures) ∙ not-false _ (c .if4 .left)) in
+    (c .before .before .before .before .before .before .pre, (omega (arith, p, c .before .before .before .if2 .left), c .before .before .if3 .left))
 
 returns-5 : tie.Need-returns-5
 returns-5 c =
     let q = c .before .before .before .before .before .before .before .before .args .queue in
+    sym
+    (holds (lt-ltb 0 (q .published) (omega arith))
+    ∙ holds (le-leb _ _ (c .before .before .before .before .before .if2 .left))
+    ∙ holds (le-leb _ _ (c .before .before .before .before .if3 .left))
+    ∙ holds (sym (c .before .before .before .claims-ok .ensures) ∙ not-false _ (c .before .before .if4 .left))
+    ∙ and-swap _ _ _ ∙ fails _ (sym (c .before .tidy .ensures) ∙ not-true _ (c .if5 .taken)))
+
+fits-requires : tie.Need-fits-requires
+fits-requires c κs =
+    let p = reaches _ _ _ (sym (c .before .before .before .claims-ok .ensures) ∙ not-false _ (c .before .before .if4 .left)) in
+    (omega (arith, p, c .before .before .before .before .before .if2 .left), c .before .before .before .before .if3 .left)
+
+returns-6 : tie.Need-returns-6
+returns-6 c =
+    let q = c .before .before .before .before .before .before .before .before .before .args .queue in
     c .fits2 .ensures
     ∙ sym
     (holds (lt-ltb 0 (q .published) (omega arith))
-    ∙ holds (le-leb _ _ (c .before .before .before .before .before .if2 .left))
-    ∙ holds (sym (c .before .before .before .before .claims-ok .ensures) ∙ not-false _ (c .before .before .before .if3 .left))
-    ∙ and-swap _ _ _ ∙ holds (sym (c .before .before .tidy .ensures) ∙ not-false _ (c .before .if4 .left)))
+    ∙ holds (le-leb _ _ (c .before .before .before .before .before .before .if2 .left))
+    ∙ holds (le-leb _ _ (c .before .before .before .before .before .if3 .left))
+    ∙ holds (sym (c .before .before .before .before .claims-ok .ensures) ∙ not-false _ (c .before .before .before .if4 .left))
+    ∙ and-swap _ _ _ ∙ holds (sym (c .before .before .tidy .ensures) ∙ not-false _ (c .before .if5 .left)))
 
 pub directory-ok-spec : {M : Type 1} → statement M
 directory-ok-spec =
@@ -60,9 +69,10 @@ directory-ok-spec =
     (tie.spec
     returns
     returns-2
-    claims-ok-requires
     returns-3
-    tidy-requires
+    claims-ok-requires
     returns-4
+    tidy-requires
+    returns-5
     fits-requires
-    returns-5)
+    returns-6)

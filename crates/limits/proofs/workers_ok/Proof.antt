@@ -5,24 +5,28 @@ use Prim.Native.Nat.{suc, _-_, _≤_}
 use native.Mathlib.Numerals.{add-one}
 use native.Mathlib.Omega.{arith}
 use borrow.Author.Needs.{needs}
+use Rattle.model.specs.declared.Queue.{Queue}
 use Rattle.model.specs.Limits.{linksOk}
 use Rattle.model.specs.Tests.{_and_}
 use Rattle.model.proofs.Tests.{and-both, and-false, fails, passed, refused}
-use Rattle.limits.specs.Parts.{workersOk}
+use Rattle.limits.specs.Parts.{workersOk, Reached}
 use Rattle.limits.proofs.Held.{next-unheld, next-link, no-links}
 use Rattle.limits.proofs.Crew.{idle-passes, member, next-worker, no-workers}
 use Rattle.limits.proofs.workers_ok.Statement.{statement}
 use Rattle.limits.proofs.workers_ok.Tie as tie
 
 abbrev Inv-loop : tie.InvT-loop
-Inv-loop bits first tasks bench kind linked anchor links scope worker₀ worker =
-    (worker ≤ 8) × (linksOk (bench .kind) (bench .queue) (bench .workers) worker ≡ true) × (workersOk (bench .kind) bits (bench .words) (bench .queue) (bench .crew) (bench .workers) worker ≡ true)
+Inv-loop bits bench kind linked anchor links scope worker₀ worker =
+    (worker ≤ 8)
+    × (linksOk (bench .kind) (bench .queue) (bench .workers) worker ≡ true)
+    × ((p : Queue) → Reached (scope .owner) (scope .words) (scope .first) p
+    → workersOk (bench .kind) bits (bench .words) (bench .queue) p (bench .crew) (bench .workers) worker ≡ true)
 
 abbrev μ-loop : tie.MeasureT-loop
-μ-loop bits first tasks bench kind linked anchor links scope worker₀ worker = 8 - worker
+μ-loop bits bench kind linked anchor links scope worker₀ worker = 8 - worker
 
 loop-holds : tie.Need-loop-holds Inv-loop μ-loop
-loop-holds c = (omega arith, refl, refl)
+loop-holds c = (omega arith, refl, λ p R. refl)
 
 cast-k : tie.Need-cast-k Inv-loop μ-loop
 cast-k c = search needs
@@ -40,7 +44,7 @@ link-ok-requires : tie.Need-link-ok-requires Inv-loop μ-loop
 link-ok-requires c κs = search needs
 
 returns : tie.Need-returns Inv-loop μ-loop
-returns c =
+returns c = λ p R.
     let start = c .before .before .before .before .before .before .before .before in
     let b = start .args .t1 in
     let l = c .before .before .before .before .before .loop in
@@ -68,20 +72,18 @@ element-copy-out-busy-ok c = search needs
 busy-ok-requires : tie.Need-busy-ok-requires Inv-loop μ-loop
 busy-ok-requires c κs =
     let pre = c .before .before .before .before .before .before .before .before .before .pre in
-    (pre .0, (pre .1 .0, (pre .1 .1 .1 .1, refused (c .before .before .rests .ensures) (c .before .if3 .taken))))
+    (pre .0, (pre .1 .0, (pre .1 .1 .1, refused (c .before .before .rests .ensures) (c .before .if3 .taken))))
 
 returns-2 : tie.Need-returns-2 Inv-loop μ-loop
-returns-2 c =
+returns-2 c = λ p R.
     let start = c .before .before .before .before .before .before .before .before .before .before .before in
     let b = start .args .t1 in
-    let d = start .pre .1 .1 .0 in
-    let t = start .pre .1 .1 .1 .0 in
     let l = c .before .before .before .before .before .before .before .before .loop in
     sym
     (ap (λ (x : Bool). linksOk (b .kind) (b .queue) (b .workers) 8 and x)
-    (no-workers (b .kind) (start .args .bits) (b .words) (b .queue) (b .crew) (b .workers) (suc (l .worker)) 8 (omega (arith, c .before .before .before .before .before .before .before .loop-test .taken))
-    (next-worker (b .kind) (start .args .bits) (b .words) (b .queue) (b .crew) (b .workers) false (l .worker) (l .inv .2)
-    (refused {t = member (b .kind) (start .args .bits) (b .words) (b .queue) (b .crew) (b .workers) (l .worker)} (c .before .busy-ok .ensures (b .queue) (refl, d, t)) (c .if4 .taken))))
+    (no-workers (b .kind) (start .args .bits) (b .words) (b .queue) p (b .crew) (b .workers) (suc (l .worker)) 8 (omega (arith, c .before .before .before .before .before .before .before .loop-test .taken))
+    (next-worker (b .kind) (start .args .bits) (b .words) (b .queue) p (b .crew) (b .workers) false (l .worker) (l .inv .2 p R)
+    (refused {t = member (b .kind) (start .args .bits) (b .words) (b .queue) p (b .crew) (b .workers) (l .worker)} (c .before .busy-ok .ensures (b .queue) p (start .pre .1 .1 .0, R)) (c .if4 .taken))))
     ∙ and-false (linksOk (b .kind) (b .queue) (b .workers) 8))
 
 add-worker : tie.Need-add-worker Inv-loop μ-loop
@@ -94,28 +96,27 @@ loop-again : tie.Need-loop-again Inv-loop μ-loop
 loop-again c =
     let start = c .before .before .before .before .before .before .before .before in
     let b = start .args .t1 in
-    let d = start .pre .1 .1 .0 in
-    let t = start .pre .1 .1 .1 .0 in
     let l = c .before .before .before .before .before .loop in (
       omega (arith, c .before .before .before .before .loop-test .taken),
       rw add-one
           (⊎-elim (λ x. next-link (b .kind) (b .queue) (b .workers) (l .worker) true (l .inv .1) (x .0 .taken) (passed (x .2 .ensures (b .queue) refl refl) (x .3 .left)))
           (λ x. next-unheld (b .kind) (b .queue) (b .workers) (l .worker) (l .inv .1) (x .left)) (c .before .before .before .if1 .came)),
-      rw add-one
-          (next-worker (b .kind) (start .args .bits) (b .words) (b .queue) (b .crew) (b .workers) true (l .worker) (l .inv .2)
-          (⊎-elim (λ x. passed {t = member (b .kind) (start .args .bits) (b .words) (b .queue) (b .crew) (b .workers) (l .worker)} (x .2 .ensures (b .queue) (refl, d, t)) (x .3 .left))
-          (λ x. idle-passes (b .kind) (start .args .bits) (b .words) (b .queue) (b .crew) (b .workers) (l .worker) (passed (c .before .rests .ensures) (x .left))) (c .if3 .came))),
+      λ p R.
+          rw add-one
+          (next-worker (b .kind) (start .args .bits) (b .words) (b .queue) p (b .crew) (b .workers) true (l .worker) (l .inv .2 p R)
+          (⊎-elim (λ x. passed {t = member (b .kind) (start .args .bits) (b .words) (b .queue) p (b .crew) (b .workers) (l .worker)} (x .2 .ensures (b .queue) p (start .pre .1 .1 .0, R)) (x .3 .left))
+          (λ x. idle-passes (b .kind) (start .args .bits) (b .words) (b .queue) p (b .crew) (b .workers) (l .worker) (passed (c .before .rests .ensures) (x .left))) (c .if3 .came))),
     )
 
 returns-3 : tie.Need-returns-3 Inv-loop μ-loop
-returns-3 c =
+returns-3 c = λ p R.
     let start = c .before .before .before .before in
     let b = start .args .t1 in
     let l = c .before .loop in
     let all : 8 ≡ l .worker = omega (arith, c .loop-test .left, l .inv .0) in
     sym
     (and-both _ _ (ap (linksOk (b .kind) (b .queue) (b .workers)) all ∙ l .inv .1)
-    (ap (workersOk (b .kind) (start .args .bits) (b .words) (b .queue) (b .crew) (b .workers)) all ∙ l .inv .2))
+    (ap (workersOk (b .kind) (start .args .bits) (b .words) (b .queue) p (b .crew) (b .workers)) all ∙ l .inv .2 p R))
 
 pub workers-ok-spec : {M : Type 1} → statement M
 workers-ok-spec =

@@ -8,10 +8,10 @@ use lib.Seq.{length-take-le}
 use Rattle.model.specs.declared.Answer.the-variants.{GoesOn, Refused}
 use Rattle.model.specs.Calls.{lent}
 use Rattle.model.specs.Listing.{isRefused, stepsOf}
-use Rattle.theorems.specs.Reached.{Reached}
 use Rattle.state.specs.declared.Returned.{Returned}
 use Rattle.machine.proofs.Stepping.{steppable, made-not-refused, settles, refuses, restarts, replaces}
 use Rattle.listing.specs.Listing as spec
+use Rattle.listing.specs.Consuming.{Live}
 use Rattle.replies.specs.Sessions.{worldOf, programOf}
 use Rattle.replies.specs.Choices.{RefusedAtOnce}
 use Rattle.listing.proofs.Lines.{front-fits}
@@ -19,14 +19,14 @@ use Rattle.replies.proofs.Fronts.{back-length}
 use Rattle.replies.proofs.Shows.{shows-none}
 use Rattle.listing.proofs.Stepping.{Stepping, stepping-start, stepping-room, stepping-over, stepping-stops, stepping-on}
 use Rattle.listing.proofs.Consuming.{nothing-open}
-use Rattle.listing.proofs.Standing.{sessionOf, Standing, standing-start, standing-on, standing-over, at-once-by, asked-live, steps-by, reached-of, crew-of, valid-front, stepped-front, consumed-so-far, reached-step, reach-over, valid-of, refusal-room}
+use Rattle.listing.proofs.Standing.{sessionOf, Standing, standing-start, standing-on, standing-over, at-once-by, asked-live, steps-by, reached-of, crew-of, once-of, none-of, valid-front, stepped-front, consumed-so-far, reached-step, reach-over, valid-of, refusal-room}
 use Rattle.listing.proofs.consume.Statement.{statement}
 use Rattle.listing.proofs.consume.Tie as tie
 
 abbrev Inv-loop : tie.InvT-loop
 Inv-loop buf store₀ log₀ out₀ live long bench₀ used wrote₀ stops most end worker times i n left₀ store log out bench wrote left =
     Stepping (stepsOf (worldOf (sessionOf live long bench₀) store₀ log₀) worker times) (sessionOf live long bench) store log worker left out₀ wrote₀ wrote out
-    × Reached (lent bench (take long store) log) × (length store ≡ length store₀) × (length log ≡ length log₀) × (length out ≡ length out₀)
+    × Live (lent bench (take long store) log) × (length store ≡ length store₀) × (length log ≡ length log₀) × (length out ≡ length out₀)
 
 abbrev μ-loop : tie.MeasureT-loop
 μ-loop buf store₀ log₀ out₀ live long bench₀ used wrote₀ stops most end worker times i n left₀ store log out bench wrote left = left
@@ -128,7 +128,7 @@ play-requires c κs =
     let at-ask = c .before .before .before .before .before .before .before .before in
     let l = at-lines .lines in
     let s = sessionOf (l .live) (l .long) (l .bench) in
-    ((let z : l .wrote + 256 ≤ length (l .out) = omega (arith, l .inv .0 .fits, l .inv .3, at-if1 .if1 .left) in z), sym (at-ask .ask .ensures) ∙ c .before .before .before .before .before .before .enum-told .given .1)
+    ((let z : l .wrote + 256 ≤ length (l .out) = omega (arith, l .inv .0 .fits, l .inv .3, at-if1 .if1 .left) in z), (sym (at-ask .ask .ensures) ∙ c .before .before .before .before .before .before .enum-told .given .1, none-of s (l .store) (l .log) (l .inv .0 .reach)))
 
 lines-less-2 : tie.Need-lines-less-2 Inv-loop μ-loop Inv-lines μ-lines
 lines-less-2 c =
@@ -218,7 +218,8 @@ step-in-requires c κs =
     let k = at-loop .loop in
     let e = at-span .span .ensures ∙ ap (min (l .long)) (sym (k .inv .2)) in
     steppable (lent (k .bench) (take (at-span .span .result) (k .store)) (k .log)) (at-asked .asked .given .0 .0) (at-place-of .place-of .result)
-    (valid-front (k .bench) (l .long) _ (k .store) (k .log) e (k .inv .1)) (at-place-of .place-of .ensures .1)
+    (valid-front (k .bench) (l .long) _ (k .store) (k .log) e (k .inv .1))
+    (once-of (k .bench) (l .long) (k .store) (k .log) (at-asked .asked .given .0 .0) (k .inv .1)) (at-place-of .place-of .ensures .1)
 
 sub-left : tie.Need-sub-left Inv-loop μ-loop Inv-lines μ-lines
 sub-left c = omega (arith, c .before .before .before .before .before .before .before .before .before .loop-test .taken)
@@ -248,7 +249,7 @@ show-requires-2 c κs =
     let made = at-step .step-in .result .made in
     let step =
     stepped-front b (l .long) _ (k .store) (k .log) _ _ i place to made e (at-step .step-in .kept .1 .1 .1 .1 .1 .1 .1 .1 .0) (k .inv .1)
-    (at-step .step-in .ensures .1 (b .used) place (b .restarts) (b .workers) (at-place-of .place-of .ensures .1) refl) in
+    (at-step .step-in .ensures .1 (b .delayed) (b .waiting) (b .used) place (b .restarts) (b .workers) (once-of b (l .long) (k .store) (k .log) i (k .inv .1)) (at-place-of .place-of .ensures .1) refl) in
     let by = refuses b place to made step _ (c .before .before .made .given .1) in
     stepping-room _ _ _ _ _ _ (k .left) _ _ _ _ (k .inv .0) _ (let z : l .wrote + 256 ≤ length (l .out) = omega (arith, l .inv .0 .fits, l .inv .3, at-if1 .if1 .left) in z) (c .before .before .before .before .before .before .before .before .before .before .before .before .before .before .loop-test .taken)
     by
@@ -282,7 +283,7 @@ lines-again-4 c =
     let made = at-step .step-in .result .made in
     let step =
     stepped-front b (l .long) _ (k .store) (k .log) _ _ i place to made e (at-step .step-in .kept .1 .1 .1 .1 .1 .1 .1 .1 .0) (k .inv .1)
-    (at-step .step-in .ensures .1 (b .used) place (b .restarts) (b .workers) (at-place-of .place-of .ensures .1) refl) in
+    (at-step .step-in .ensures .1 (b .delayed) (b .waiting) (b .used) place (b .restarts) (b .workers) (once-of b (l .long) (k .store) (k .log) i (k .inv .1)) (at-place-of .place-of .ensures .1) refl) in
     let s = sessionOf (l .live) (l .long) (l .bench) in
     let t = sessionOf (l .live) (l .long) b in
     let why = c .before .before .before .before .before .made .given .0 .0 in
@@ -340,7 +341,7 @@ loop-again c =
     let made = at-step .step-in .result .made in
     let step =
     stepped-front b (l .long) _ (k .store) (k .log) _ _ i place to made e (at-step .step-in .kept .1 .1 .1 .1 .1 .1 .1 .1 .0) (k .inv .1)
-    (at-step .step-in .ensures .1 (b .used) place (b .restarts) (b .workers) (at-place-of .place-of .ensures .1) refl) in
+    (at-step .step-in .ensures .1 (b .delayed) (b .waiting) (b .used) place (b .restarts) (b .workers) (once-of b (l .long) (k .store) (k .log) i (k .inv .1)) (at-place-of .place-of .ensures .1) refl) in
     let t = sessionOf (l .live) (l .long) b in
     let by = restarts b place to made step (c .before .before .enum-told4 .given .1) (ap (set (b .restarts) place) (c .one-more .ensures)) in (
       stepping-on _ _ _ _ _ _ (k .left) _ _ _ _ (k .inv .0) (c .before .before .before .before .before .before .before .before .before .before .before .before .before .before .before .loop-test .taken) _ GoesOn _ _ by (k .inv .0 .live) _ _ (shows-none (k .out) (k .wrote)) refl,
@@ -374,7 +375,7 @@ show-requires-3 c κs =
     let made = at-step .step-in .result .made in
     let step =
     stepped-front b (l .long) _ (k .store) (k .log) _ _ i place to made e (at-step .step-in .kept .1 .1 .1 .1 .1 .1 .1 .1 .0) (k .inv .1)
-    (at-step .step-in .ensures .1 (b .used) place (b .restarts) (b .workers) (at-place-of .place-of .ensures .1) refl) in
+    (at-step .step-in .ensures .1 (b .delayed) (b .waiting) (b .used) place (b .restarts) (b .workers) (once-of b (l .long) (k .store) (k .log) i (k .inv .1)) (at-place-of .place-of .ensures .1) refl) in
     let by = settles b place to made step (c .before .before .settled .ensures) in
     stepping-room _ _ _ _ _ _ (k .left) _ _ _ _ (k .inv .0) _ (let z : l .wrote + 256 ≤ length (l .out) = omega (arith, l .inv .0 .fits, l .inv .3, at-if1 .if1 .left) in z) (c .before .before .before .before .before .before .before .before .before .before .before .before .before .before .before .loop-test .taken)
     by
@@ -400,7 +401,7 @@ loop-again-2 c =
     let made = at-step .step-in .result .made in
     let step =
     stepped-front b (l .long) _ (k .store) (k .log) _ _ i place to made e (at-step .step-in .kept .1 .1 .1 .1 .1 .1 .1 .1 .0) (k .inv .1)
-    (at-step .step-in .ensures .1 (b .used) place (b .restarts) (b .workers) (at-place-of .place-of .ensures .1) refl) in
+    (at-step .step-in .ensures .1 (b .delayed) (b .waiting) (b .used) place (b .restarts) (b .workers) (once-of b (l .long) (k .store) (k .log) i (k .inv .1)) (at-place-of .place-of .ensures .1) refl) in
     let t = sessionOf (l .live) (l .long) b in
     let done = c .before .before .before .before .before .settled .result in
     let by = settles b place to made step (c .before .before .before .before .before .settled .ensures) in
@@ -440,7 +441,7 @@ loop-again-3 c =
     let made = at-step .step-in .result .made in
     let step =
     stepped-front b (l .long) _ (k .store) (k .log) _ _ i place to made e (at-step .step-in .kept .1 .1 .1 .1 .1 .1 .1 .1 .0) (k .inv .1)
-    (at-step .step-in .ensures .1 (b .used) place (b .restarts) (b .workers) (at-place-of .place-of .ensures .1) refl) in
+    (at-step .step-in .ensures .1 (b .delayed) (b .waiting) (b .used) place (b .restarts) (b .workers) (once-of b (l .long) (k .store) (k .log) i (k .inv .1)) (at-place-of .place-of .ensures .1) refl) in
     let t = sessionOf (l .live) (l .long) b in
     let by = replaces b place to made step (c .enum-told3 .given .1) in (
       stepping-on _ _ _ _ _ _ (k .left) _ _ _ _ (k .inv .0) (c .before .before .before .before .before .before .before .before .before .before .before .loop-test .taken) _ GoesOn _ _ by (k .inv .0 .live) _ _ (shows-none (k .out) (k .wrote)) refl,

@@ -18,7 +18,7 @@ use Rattle.machine.proofs.step_in.Tie as tie
 
 returns : tie.Need-returns
 unfolding benchAfter answerAfter Fits
-returns c = (tt, λ u k n ws at e. sym (if-false _ (le-ltb _ _ (c .if1 .taken))))
+returns c = (tt, λ d s u k n ws once at e. sym (if-false _ (le-ltb _ _ (c .if1 .taken))))
 
 is-idle-requires : tie.Need-is-idle-requires
 is-idle-requires c κs = search needs
@@ -30,8 +30,8 @@ returns-2 c =
     let a = start .args in
     let h = c .before .before .if1 .left in (
       tt,
-      λ u k n ws at e.
-          idle-worker (benchOf (a .kind) (a .width) (a .words) (a .crew) (a .queue) (a .written) u n ws) (a .worker) (a .line) _ _
+      λ d s u k n ws once at e.
+          idle-worker (benchOf (a .kind) (a .width) (a .words) (a .crew) (a .queue) (a .written) d s u n ws) (a .worker) (a .line) _ _
           (ap (lineAt ws) (sym (at (omega (arith, h, start .pre .crew)))) ∙ e) h (sym (c .before .is-idle .ensures) ∙ c .if2 .taken),
     )
 
@@ -55,11 +55,11 @@ returns-3 c =
     let x = c .before .before .next-line .result in
     let h = c .before .before .before .before .before .before .if1 .left in (
       tt,
-      λ u k n ws at e.
-          let b = benchOf (a .kind) (a .width) (a .words) (a .crew) (a .queue) (a .written) u n ws in
+      λ d s u k n ws once at e.
+          let b = benchOf (a .kind) (a .width) (a .words) (a .crew) (a .queue) (a .written) d s u n ws in
           let is = at (omega (arith, h, start .pre .crew)) in
           ap (λ (j : ℕ). movedBy b j x made.Links m l) is
-          ∙ line-links b (a .worker) (a .line) m l (ap (lineAt ws) (sym is) ∙ e) h (start .pre .held h) x (c .before .before .next-line .ensures)
+          ∙ line-links b (a .worker) (a .line) m l (ap (lineAt ws) (sym is) ∙ e) h once (start .pre .held h) x (c .before .before .next-line .ensures)
           (sym (c .before .links .ensures) ∙ c .if3 .taken),
     )
 
@@ -91,19 +91,19 @@ returns-4 c =
     let m = a .store .now in
     let l = a .log .now in
     let x = c .before .before .before .before .before .before .before .before .before .before .before .before .next-line .result in
-    let d = at-decide .decide .result in
+    let act = at-decide .decide .result in
     let safe = at-decide .decide .ensures .1 .0 in
     let h = c .before .before .before .before .before .before .before .before .before .before .before .before .before .before .before .before .if1 .left in
     let made = at-act .act .ensures .0 in (
-      subst (Fits (a .words) (a .queue) (a .written)) (sym made) (fits (a .words) (a .queue) (a .written) (length m) l d (start .pre .ground .listed) safe),
-      λ u k n ws at e.
-          let b = benchOf (a .kind) (a .width) (a .words) (a .crew) (a .queue) (a .written) u n ws in
+      subst (Fits (a .words) (a .queue) (a .written)) (sym made) (fits (a .words) (a .queue) (a .written) (length m) l act (start .pre .ground .listed) safe),
+      λ d s u k n ws once at e.
+          let b = benchOf (a .kind) (a .width) (a .words) (a .crew) (a .queue) (a .written) d s u n ws in
           let is = at (omega (arith, h, start .pre .crew)) in
           same-moved b k x made (at-act .act .ensures .1 .0) (at-act .act .ensures .1 .1)
-          ∙ ap (λ (j : ℕ). movedBy b j x (actedBy (a .words) (a .written) l (a .queue) d) (leftBy (a .words) (shared (a .queue) m) d .store) (logAfter (a .words) (a .written) l d)) is
-          ∙ line-done b (a .worker) (a .line) m l (ap (lineAt ws) (sym is) ∙ e) h (start .pre .held h) x (c .before .before .before .before .before .before .before .before .before .before .before .before .next-line .ensures) d
+          ∙ ap (λ (j : ℕ). movedBy b j x (actedBy (a .words) (a .written) l (a .queue) act) (leftBy (a .words) (shared (a .queue) m) act .store) (logAfter (a .words) (a .written) l act)) is
+          ∙ line-done b (a .worker) (a .line) m l (ap (lineAt ws) (sym is) ∙ e) h once (start .pre .held h) x (c .before .before .before .before .before .before .before .before .before .before .before .before .next-line .ensures) act
           (sym (c .before .before .before .before .before .before .before .before .before .before .before .before .before .before .before .is-idle .ensures) ∙ c .before .before .before .before .before .before .before .before .before .before .before .before .before .before .if2 .left) (sym (c .before .before .before .before .before .before .before .before .before .before .before .links .ensures) ∙ c .before .before .before .before .before .before .before .before .before .before .if3 .left) safe
-          (subst (λ (w : ℕ). Does (a .words) (lineStep (a .kind) w (a .words) (a .queue) m (a .worker) (a .line)) d) (c .before .before .before .before .before .before .before .before .before .tag-bits .ensures) (at-decide .decide .ensures .0))
+          (subst (λ (w : ℕ). Does (a .words) (lineStep (a .kind) w (a .words) (a .queue) m (a .worker) (a .line)) act) (c .before .before .before .before .before .before .before .before .before .tag-bits .ensures) (at-decide .decide .ensures .0))
           (at-decide .decide .ensures .1 .1),
     )
 

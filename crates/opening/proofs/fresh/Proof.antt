@@ -107,8 +107,8 @@ returns-7 c = let start = c .before .before .before .before .before .before .bef
     same-returned
     (ap (λ (b : Bench). record { bench = b; answer = Accepted })
     (c .made .ensures
-    ∙ ap (λ (κ : Kind). blank κ (c .before .linked-of .result) (start .args .setup .width) (start .args .setup .size) (start .args .setup .crew) (start .args .setup .words)) (c .before .before .kind-of .ensures)
-    ∙ ap (λ (x : Bool). blank (kindOf (start .args .setup .kind)) x (start .args .setup .width) (start .args .setup .size) (start .args .setup .crew) (start .args .setup .words)) (c .before .linked-of .ensures)))
+    ∙ ap (λ (κ : Kind). blank κ (c .before .linked-of .result) (start .args .setup .width) (start .args .setup .size) (start .args .setup .crew) (start .args .setup .words) (start .args .setup .delayed)) (c .before .before .kind-of .ensures)
+    ∙ ap (λ (x : Bool). blank (kindOf (start .args .setup .kind)) x (start .args .setup .width) (start .args .setup .size) (start .args .setup .crew) (start .args .setup .words) (start .args .setup .delayed)) (c .before .linked-of .ensures)))
     (c .before .before .before .before .before .zero .ensures)
     refl
     ∙ sym (if-true _ (passed (c .before .before .before .before .before .before .before .before .before .before .before .before .before .before .before .before .before .kind-ok .ensures) (c .before .before .before .before .before .before .before .before .before .before .before .before .before .before .before .before .if1 .left)) ∙ if-true _ (passed (c .before .before .before .before .before .before .before .before .before .before .before .before .before .before .before .width-ok .ensures) (c .before .before .before .before .before .before .before .before .before .before .before .before .before .before .if2 .left)) ∙ if-true _ (passed (c .before .before .before .before .before .before .before .before .before .before .before .before .before .is-size .ensures) (c .before .before .before .before .before .before .before .before .before .before .before .before .if3 .left)) ∙ if-true _ (passed (c .before .before .before .before .before .before .before .before .before .before .before .crew-ok .ensures) (c .before .before .before .before .before .before .before .before .before .before .if4 .left)) ∙ if-true _ (passed (c .before .before .before .before .before .before .before .before .before .words-ok .ensures) (c .before .before .before .before .before .before .before .before .if5 .left)) ∙ if-true _ (le-leb _ _ (c .before .before .before .before .before .before .before .if6 .left)))

@@ -1,7 +1,7 @@
 use mathlib.Core.Path.{_∙_, sym, ap}
 use borrow.Author.Needs.{needs}
 use Rattle.model.specs.Calls.{callOf}
-use Rattle.plays.proofs.Said.{says-put, says-take, says-steal, says-drop, says-step}
+use Rattle.plays.proofs.Said.{says-put, says-take, says-steal, says-drop, says-drain, says-step}
 use Rattle.plays.proofs.call.Statement.{statement}
 use Rattle.plays.proofs.call.Tie as tie
 
@@ -53,8 +53,8 @@ same-length-8 c = search needs
 returns-4 : tie.Need-returns-4
 returns-4 c = c .drop-link .ensures ∙ sym (ap (callOf _) (says-drop _ _ _ (c .before .before .before .before .before .before .if1 .left) (c .before .before .before .before .before .if2 .left) (c .before .before .before .before .if3 .left) (c .before .before .before .if4 .taken)))
 
-step-requires : tie.Need-step-requires
-step-requires c κs = search needs
+drain-requires : tie.Need-drain-requires
+drain-requires c κs = search needs
 
 same-length-9 : tie.Need-same-length-9
 same-length-9 c = search needs
@@ -63,7 +63,19 @@ same-length-10 : tie.Need-same-length-10
 same-length-10 c = search needs
 
 returns-5 : tie.Need-returns-5
-returns-5 c = c .before .before .before .before .step .ensures ∙ sym (ap (callOf _) (says-step _ _ _ (c .before .before .before .before .before .before .before .before .before .before .if1 .left) (c .before .before .before .before .before .before .before .before .before .if2 .left) (c .before .before .before .before .before .before .before .before .if3 .left) (c .before .before .before .before .before .before .before .if4 .left)))
+returns-5 c = c .before .before .drain .ensures ∙ sym (ap (callOf _) (says-drain _ _ _ (c .before .before .before .before .before .before .before .before .before .if1 .left) (c .before .before .before .before .before .before .before .before .if2 .left) (c .before .before .before .before .before .before .before .if3 .left) (c .before .before .before .before .before .before .if4 .left) (c .before .before .before .before .before .if5 .taken)))
+
+step-requires : tie.Need-step-requires
+step-requires c κs = search needs
+
+same-length-11 : tie.Need-same-length-11
+same-length-11 c = search needs
+
+same-length-12 : tie.Need-same-length-12
+same-length-12 c = search needs
+
+returns-6 : tie.Need-returns-6
+returns-6 c = c .before .before .before .before .step .ensures ∙ sym (ap (callOf _) (says-step _ _ _ (c .before .before .before .before .before .before .before .before .before .before .before .if1 .left) (c .before .before .before .before .before .before .before .before .before .before .if2 .left) (c .before .before .before .before .before .before .before .before .before .if3 .left) (c .before .before .before .before .before .before .before .before .if4 .left) (c .before .before .before .before .before .before .before .if5 .left)))
 
 pub call-spec : {M : Type 1} → statement M
 call-spec =
@@ -85,7 +97,11 @@ call-spec =
     same-length-7
     same-length-8
     returns-4
-    step-requires
+    drain-requires
     same-length-9
     same-length-10
-    returns-5)
+    returns-5
+    step-requires
+    same-length-11
+    same-length-12
+    returns-6)

@@ -11,7 +11,7 @@ play-live-requires : tie.Need-play-live-requires
 play-live-requires c κs =
     let start = c .before .before .before .before .before .before .before in
     let a = start .args in
-    ((start .pre .0, c .before .before .before .if1 .taken), subst (λ (v : Bool). askedOf v (a .command) ≡ Other) (c .before .before .before .if1 .taken) (start .pre .1))
+    ((start .pre .0, c .before .before .before .if1 .taken), (subst (λ (v : Bool). askedOf v (a .command) ≡ Other) (c .before .before .before .if1 .taken) (start .pre .1 .0), start .pre .1 .1 (c .before .before .before .if1 .taken)))
 
 same-length : tie.Need-same-length
 same-length c = search needs

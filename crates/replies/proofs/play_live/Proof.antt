@@ -111,7 +111,7 @@ returns-6 : tie.Need-returns-6
 returns-6 c =
     let start = c .before .before .before .before .before .before .before .before in
     let a = start .args in
-    played-as (plays-bad _ (a .command) (start .pre .1) (c .before .before .before .before .match .keys6) ∙ ap bad (sym (program-live (a .session) (a .store .now) (a .log .now) (start .pre .0 .1))))
+    played-as (plays-bad _ (a .command) (start .pre .1 .0) (c .before .before .before .before .match .keys6) ∙ ap bad (sym (program-live (a .session) (a .store .now) (a .log .now) (start .pre .0 .1))))
     (c .before .before .refuse .ensures (a .store .now) (a .log .now))
 
 pub play-live-spec : {M : Type 1} → statement M

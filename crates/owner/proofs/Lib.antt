@@ -1,0 +1,4 @@
+pub mod Joining
+pub mod Places
+pub mod Committing
+pub mod Stepping
