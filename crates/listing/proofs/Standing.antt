@@ -1,27 +1,31 @@
 -- Where consuming stands between two lines, and what each way to play a line makes of it.
-use Prim.Native.Nat.{ℕ, _+_, _-_, _≤_, min}
+use Prim.Native.Nat.{ℕ, zero, suc, _+_, _-_, _≤_, min}
 use native.Mathlib.Omega.{arith}
 use mathlib.Core.Path.{_≡_, refl, ap, sym, subst, _∙_}
 use mathlib.Core.Bool.{Bool, true, false}
-use mathlib.Core.List.{List, _++_}
+use mathlib.Core.List.{List, [], _++_}
 use lib.ListN.{length, take, drop}
 use Rattle.model.specs.declared.Line.{Line}
 use Rattle.model.specs.declared.Bench.{Bench}
 use Rattle.model.specs.declared.Refusal.{Refusal}
+use Rattle.model.specs.declared.Refusal.the-variants.{WaitingFull}
 use Rattle.model.specs.declared.Command.{Command}
 use Rattle.model.specs.declared.Command.the-variants.{Open, BeginPut, BeginTake, BeginSteal, Steps, Who, End, Bad}
 use Rattle.model.specs.declared.Answer.{Answer}
 use Rattle.model.specs.declared.Answer.the-variants.{Refused}
 use Rattle.model.specs.Tests.{if_then_else_}
-use Rattle.model.specs.World.{World, Outcome}
+use Rattle.model.specs.Stores.{Shared}
+use Rattle.model.specs.Lines.{lineStep}
+use Rattle.model.specs.World.{World, Outcome, tagBits, lineAt}
 use Rattle.model.specs.Limits.{validOf}
-use Rattle.model.specs.Calls.{lent, step, stepIn, stepOf}
-use Rattle.model.specs.Listing.{Program, playing, printed, respond, stepsOf, Response}
+use Rattle.model.specs.Calls.{lent, step, nextEffect, stepIn, stepOf}
+use Rattle.model.specs.Listing.{Program, playing, printed, isRefused, respond, stepsOf, Response}
 use Rattle.state.specs.declared.Stop.the-variants.{Why}
 use Rattle.model.proofs.Tests.{if-true}
+use Rattle.theorems.proofs.NeverForeign.{effect-answers}
 use Rattle.machine.specs.declared.Made.{Made}
-use Rattle.machine.specs.Steps.{AtOnce, movedBy}
-use Rattle.machine.proofs.Stepping.{at-once}
+use Rattle.machine.specs.Steps.{benchOf, AtOnce, movedBy}
+use Rattle.machine.proofs.Stepping.{at-once, sees-memory, never-full}
 use Rattle.limits.proofs.Bounds.{bounds-of}
 use Rattle.text.specs.Numbers.{Placed}
 use Rattle.text.specs.Commands.{commandOf}
@@ -144,6 +148,26 @@ unfolding stepOf
 stepped-front b w n m l p l′ i k x d e f r o =
     ap (λ (y : List ℕ). movedBy b k x d y l′) (given-back w n m e p f) ∙ o ∙ ap (λ (y : List ℕ). stepIn (lent b y l) i) (lent-front w n m e)
     ∙ sym (if-true _ (live-valid r))
+
+-- no line of a worker whose stores land at once answers a refusal: a state in which nothing waits has the same line
+line-sound : (b : Bench) (m l : List ℕ) (i : ℕ) → AtOnce (b .delayed) (b .waiting) i → isRefused (nextEffect (lent b m l) i .answer) ≡ false
+line-sound b m l zero once =
+    ap (λ (S : Shared). isRefused (lineStep (b .kind) (tagBits b) (b .words) (S .queue) (S .store) 0 (lineAt (b .workers) 0) .answer))
+    (sees-memory (lent b m l) 0 once)
+    ∙ effect-answers
+    (lent (benchOf (b .kind) (b .width) (b .words) (b .crew) (b .queue) (b .written) (b .delayed) (record { stores = []; count = 0 }) (b .used) (b .restarts) (b .workers))
+    m l)
+    0
+line-sound b m l (suc i) once = effect-answers (lent b m l) (suc i)
+
+-- so the listing's steps are not refused 18
+pub not-full : (b : Bench) (w : ℕ) (m l : List ℕ) (i : ℕ) → Live (lent b (take w m) l) → (o : Outcome) → o ≡ stepOf (lent b (take w m) l) i
+    → Refused WaitingFull ≡ o .answer → ⊥
+unfolding stepOf
+not-full b w m l i r o e f =
+    let once : AtOnce (b .delayed) (b .waiting) i = once-of b w m l i r in
+    never-full b i (take w m) l once (line-sound b (take w m) l i once)
+    (f ∙ ap (λ (x : Outcome). x .answer) (e ∙ if-true _ (live-valid r)))
 
 -- consuming stops between two lines, the program not being over
 pub consumed-so-far : {P : Program} {buf m l out : List ℕ} {s : Session} {used wrote : ℕ} {b : Bool} → Standing P buf s m l out used wrote → b ≡ false → (wrote + 256 ≤ length out → spec.Open (drop used buf)) →

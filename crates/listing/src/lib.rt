@@ -116,6 +116,7 @@ pub fn consume(
                 bench.written,
                 worker,
                 line,
+                false,
                 &mut store[..n],
                 log,
             );

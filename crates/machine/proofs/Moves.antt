@@ -52,7 +52,7 @@ full-is v l n e = by (leb (n + entryLength v) (length l)) (leb (n + entryLength 
     by false z f g e = rw (lt-ltb (length l) (n + entryLength v) (leb-false _ _ f), sym e)
 
 -- an entry that has room is counted in 32 bits
-room-counts : (v k : ℕ) (l : List ℕ) → logFull v l k ≡ false → k + entryLength v ≤ 4294967295
+pub room-counts : (v k : ℕ) (l : List ℕ) → logFull v l k ≡ false → k + entryLength v ≤ 4294967295
 unfolding _or_
 room-counts v k l e = by (ltb (length l) (k + entryLength v)) (ltb 4294967295 (k + entryLength v)) refl e
   where
@@ -67,7 +67,7 @@ set-self [] i = refl
 set-self (x ∷ l) zero = refl
 set-self (x ∷ l) (suc i) = ap (λ (t : List Bool). x ∷ t) (set-self l i)
 
-link-kept : (q : Queue) (i : ℕ) (x : Bool) → holdsLink q i ≡ x → linkSet q i x ≡ q
+pub link-kept : (q : Queue) (i : ℕ) (x : Bool) → holdsLink q i ≡ x → linkSet q i x ≡ q
 link-kept q i x e =
     ap (linkSet q i) (sym e)
     ∙ ap (λ (l : List Bool).
@@ -82,7 +82,7 @@ link-kept q i x e =
     })
     (set-self (q .links) i)
 
-none-held : (n k : ℕ) → getD (replicate n false) k false ≡ false
+pub none-held : (n k : ℕ) → getD (replicate n false) k false ≡ false
 none-held zero k = refl
 none-held (suc n) zero = refl
 none-held (suc n) (suc k) = none-held n k
@@ -151,7 +151,7 @@ module _ (b : Bench) (i : ℕ) (from to : Line) (m l : List ℕ) (at : lineAt (b
       ∙ ap (landedAll (b .words) (claimedBy (E .claims) (shared (b .queue) m))) (D .stores))
 
   -- the line has room, as none joins it
-  roomy : (E : Effect) → Prompt b i E → crowded (lent b m l) i E ≡ false
+  pub roomy : (E : Effect) → Prompt b i E → crowded (lent b m l) i E ≡ false
   roomy E P =
       ap (λ (s : List Store). ltb 8 (b .waiting .count + length s)) (P .none)
       ∙ le-ltb 8 (b .waiting .count + 0) (let h = P .few in omega (arith, h))

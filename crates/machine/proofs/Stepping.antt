@@ -2,19 +2,21 @@
 use mathlib.Core.Bool.{Bool, true, false, true≢false}
 use mathlib.Core.List.{List, [], _∷_}
 use mathlib.Core.Path.{_≡_, refl, sym, ap, subst, _∙_}
-use Prim.Native.Nat.{ℕ, zero, suc, _<_}
+use Prim.Native.Nat.{ℕ, zero, suc, _≤_, _<_}
 use native.Mathlib.Omega.{arith}
+use lib.Dec.{ltb}
 use lib.ListN.{length}
 use borrow.Author.Tests.{lt-ltb}
 use denote.Enum.Declared.{tagOf}
 use types.Run.{OneOf, miss}
+use Rattle.model.specs.declared.Kind.{Kind}
 use Rattle.model.specs.declared.Store.{Store}
 use Rattle.model.specs.declared.Line.{Line}
-use Rattle.model.specs.declared.Line.the-variants.{StealRead}
+use Rattle.model.specs.declared.Line.the-variants.{Idle, StealRead}
 use Rattle.model.specs.declared.Bench.{Bench}
 use Rattle.model.specs.declared.Queue.{Queue}
 use Rattle.model.specs.declared.Refusal.{Refusal}
-use Rattle.model.specs.declared.Refusal.the-variants.{IdleWorker}
+use Rattle.model.specs.declared.Refusal.the-variants.{NoSuchWorker, IdleWorker, LogFull, WaitingFull}
 use Rattle.model.specs.declared.Answer.{Answer}
 use Rattle.model.specs.declared.Answer.the-variants.{Accepted, Numbered, GoesOn, Finished, HandedOut, Empty, Full, Refused}
 use Rattle.model.specs.Answers.{ends}
@@ -24,7 +26,7 @@ use Rattle.model.specs.Lines.{Effect, goes, holdsLink, lineStep, failsCompare}
 use Rattle.model.specs.Stores.{Shared, shared}
 use Rattle.model.specs.Limits.{validOf}
 use Rattle.model.specs.World.{World, Outcome, refuse, memory, viewOf, tagBits, lineAt, isIdle, isSteal1, isPast1}
-use Rattle.model.specs.Calls.{lent, raised, joining, landing, commit, nextEffect, stepIn}
+use Rattle.model.specs.Calls.{lent, raised, joining, landing, noRoom, stepped, commit, nextEffect, stepIn}
 use Rattle.model.proofs.Tests.{if-true, if-false, and-right}
 use Rattle.model.proofs.Attempts.{rests, stays, starts, only-first, idle-not, wins}
 use Rattle.lines.specs.declared.Action.{Action}
@@ -35,9 +37,10 @@ use Rattle.state.specs.declared.Returned.{Returned}
 use Rattle.state.specs.Outcomes.{returned}
 use Rattle.machine.specs.declared.Made.{Made}
 use Rattle.machine.specs.declared.Made.the-variants as made
-use Rattle.machine.specs.Steps.{AtOnce, moves, benchAfter, answerAfter, movedBy, leftBy, actedBy, logAfter, Fits, Steppable}
+use Rattle.machine.specs.declared.Moved.{Moved}
+use Rattle.machine.specs.Steps.{AtOnce, moves, benchAfter, answerAfter, movedBy, leftBy, actedBy, logAfter, Fits, Steppable, effectOn, PlannedBy}
 use Rattle.machine.proofs.Made.{the-type}
-use Rattle.machine.proofs.Moves.{Leads, Prompt, acted, linked-line}
+use Rattle.machine.proofs.Moves.{Leads, Prompt, roomy, acted, linked-line}
 
 -- in a state within the limits the stores of a thief land at once, and without the mode the owner's do
 pub at-once : (W : World) (i : ℕ) → validOf W ≡ true → (i ≡ 0 → W .bench .delayed ≡ false) → AtOnce (W .bench .delayed) (W .bench .waiting) i
@@ -61,7 +64,7 @@ prompt-of b i E A = record {
 }
 
 -- and what such a worker reads is memory
-sees-memory : (W : World) (i : ℕ) → AtOnce (W .bench .delayed) (W .bench .waiting) i → viewOf W i ≡ memory W
+pub sees-memory : (W : World) (i : ℕ) → AtOnce (W .bench .delayed) (W .bench .waiting) i → viewOf W i ≡ memory W
 sees-memory W zero A = reads-memory W (A .none refl .1)
 sees-memory W (suc i) A = refl
 
@@ -138,7 +141,64 @@ module _ (b : Bench) (i : ℕ) (y : Line) (m l : List ℕ) (own : lineAt (b .wor
         ∙ reads
         ∙ sym (if-true _ (lt-ltb _ _ h) ∙ if-false _ (ap isIdle (own ∙ first)))
 
--- a step that is not refused, by the numbers of its cases, does not answer a refusal
+-- a step of which nothing is done yet, by how it goes
+module _ {κ : Kind} {w v n : ℕ} {q : Queue} {m : List ℕ} {i : ℕ} {y : Line} {r : Moved} where
+  pub plans-outside : n ≤ i → r .made ≡ made.Refused NoSuchWorker → PlannedBy κ w v n q m i y r
+  plans-outside h e = record { outside = λ o. e; rests = λ o. absurd (omega (arith, h, o)); goes = λ o. absurd (omega (arith, h, o)) }
+
+  module _ (h : i < n) where
+    pub plans-rest : isIdle y ≡ true → r .made ≡ made.Refused IdleWorker → PlannedBy κ w v n q m i y r
+    plans-rest f e = record {
+      outside = λ o. absurd (omega (arith, h, o));
+      rests = λ o g. e;
+      goes = λ o g. absurd (true≢false (sym f ∙ g));
+    }
+
+    module _ (f : isIdle y ≡ false) where
+      pub plans-no-link : (q .linked and isSteal1 y) ≡ true → PlannedBy κ w v n q m i y r
+      plans-no-link e = record {
+        outside = λ o. absurd (omega (arith, h, o));
+        rests = λ o g. absurd (true≢false (sym g ∙ f));
+        goes = λ o g s. absurd (true≢false (sym (and-right (q .linked) _ e) ∙ s));
+      }
+
+      pub plans-action : (d : Action) → r .made ≡ made.Waits d → r .line ≡ effectOn κ w v q m i y .line
+          → Does v (effectOn κ w v q m i y) d → Doable v q (length m) d → PlannedBy κ w v n q m i y r
+      plans-action d e to does safe = record {
+        outside = λ o. absurd (omega (arith, h, o));
+        rests = λ o g. absurd (true≢false (sym g ∙ f));
+        goes = λ o g s. (d, e, to, does, safe);
+      }
+
+-- a step whose stores land at once is not refused 18
+clash : _≡_ {A = ℕ} 0 1 → ⊥
+clash e = omega (arith, e)
+
+module _ (b : Bench) (i : ℕ) (m l : List ℕ) (once : AtOnce (b .delayed) (b .waiting) i)
+    (sound : isRefused (nextEffect (lent b m l) i .answer) ≡ false) where
+  abbrev here : World
+  here = lent b m l
+
+  fullness : (o : Outcome) → stepIn here i ≡ o → (Refused WaitingFull ≡ o .answer → ⊥) → Refused WaitingFull ≡ stepIn here i .answer → ⊥
+  fullness o s other e = other (e ∙ ap (λ (x : Outcome). x .answer) s)
+
+  pub never-full : Refused WaitingFull ≡ stepIn here i .answer → ⊥
+  never-full = by (ltb i (b .crew)) (isIdle (lineAt (b .workers) i)) (noRoom here (nextEffect here i)) refl refl refl
+    where
+      by : (x y z : Bool) → ltb i (b .crew) ≡ x → isIdle (lineAt (b .workers) i) ≡ y → noRoom here (nextEffect here i) ≡ z
+          → Refused WaitingFull ≡ stepIn here i .answer → ⊥
+      by false y z f g h = fullness (refuse here NoSuchWorker) (if-false _ f) (λ t. clash (cc t))
+      by true true z f g h = fullness (refuse here IdleWorker) (if-true _ f ∙ if-true _ g) (λ t. clash (cc t))
+      by true false true f g h =
+          fullness (refuse here LogFull)
+          (if-true _ f ∙ if-false _ g ∙ if-false _ (roomy b i (lineAt (b .workers) i) Idle m l refl (nextEffect here i) (prompt-of b i _ once)) ∙ if-true _ h)
+          (λ t. clash (cc t))
+      by true false false f g h =
+          fullness (stepped here i (nextEffect here i))
+          (if-true _ f ∙ if-false _ g ∙ if-false _ (roomy b i (lineAt (b .workers) i) Idle m l refl (nextEffect here i) (prompt-of b i _ once)) ∙ if-false _ h)
+          (λ t. true≢false (ap isRefused t ∙ sound))
+
+-- a step that is not refused, by the numbers of its cases and not 18, does not answer a refusal
 ends-not-refused : (x : Answer) → ends x ≡ true → isRefused x ≡ false
 ends-not-refused Accepted e = refl
 ends-not-refused (Numbered n) e = refl
@@ -149,16 +209,18 @@ ends-not-refused (Empty i) e = refl
 ends-not-refused (Full i t) e = refl
 ends-not-refused (Refused r) e = cc e
 
-pub made-not-refused : (v : ℕ) (q : Queue) (k : ℕ) (d : Made) → Fits v q k d → OneOf (0 ∷ 2 ∷ 3 ∷ 4 ∷ 5 ∷ 6 ∷ 7 ∷ []) (tagOf the-type d) → isRefused (answerAfter d) ≡ false
+pub made-not-refused : (v : ℕ) (q : Queue) (k : ℕ) (d : Made) → (Refused WaitingFull ≡ answerAfter d → ⊥) → Fits v q k d
+    → OneOf (0 ∷ 2 ∷ 3 ∷ 4 ∷ 5 ∷ 6 ∷ 7 ∷ 8 ∷ []) (tagOf the-type d) → isRefused (answerAfter d) ≡ false
 unfolding Fits answerAfter
-made-not-refused v q k made.Nothing f h = refl
-made-not-refused v q k (made.Refused r) f h = absurd (miss (0 ∷ 2 ∷ 3 ∷ 4 ∷ 5 ∷ 6 ∷ 7 ∷ []) 1 tt h)
-made-not-refused v q k made.Fails f h = refl
-made-not-refused v q k made.Links f h = refl
-made-not-refused v q k (made.Claims a z) f h = refl
-made-not-refused v q k made.Publishes f h = refl
-made-not-refused v q k (made.Stops y) f h = ends-not-refused y (f .1)
-made-not-refused v q k (made.Ends a y) f h = ends-not-refused y (f .1)
+made-not-refused v q k made.Nothing n f h = refl
+made-not-refused v q k (made.Refused r) n f h = absurd (miss (0 ∷ 2 ∷ 3 ∷ 4 ∷ 5 ∷ 6 ∷ 7 ∷ 8 ∷ []) 1 tt h)
+made-not-refused v q k made.Fails n f h = refl
+made-not-refused v q k made.Links n f h = refl
+made-not-refused v q k (made.Claims a z) n f h = refl
+made-not-refused v q k made.Publishes n f h = refl
+made-not-refused v q k (made.Stops y) n f h = ends-not-refused y (f .1)
+made-not-refused v q k (made.Ends a y) n f h = ends-not-refused y (f .1)
+made-not-refused v q k (made.Waits d) n f h = absurd (n refl)
 
 -- a caller's state after a step: settled, as it was, with the worker's record replaced, or with a restart counted beside it
 module _ (b : Bench) (k : ℕ) (x : Line) (d : Made) {m l : List ℕ} {o : Outcome} (step : movedBy b k x d m l ≡ o) where

@@ -3,7 +3,7 @@ use mathlib.Core.Path.{_≡_}
 use mathlib.Core.Bool.{Bool, true, false}
 use mathlib.Core.List.{List}
 use Prim.Native.Nat.{ℕ, _+_, _≤_, _<_}
-use lib.ListN.{set}
+use lib.ListN.{length, set}
 use Rattle.model.specs.declared.Kind.{Kind}
 use Rattle.model.specs.declared.Store.{Store}
 use Rattle.model.specs.declared.Store.the-variants.{StoreWord, StoreNote, StorePut, StoreOut, StoreHead, StoreTail}
@@ -12,21 +12,22 @@ use Rattle.model.specs.declared.Queue.{Queue}
 use Rattle.model.specs.declared.Waiting.{Waiting}
 use Rattle.model.specs.declared.Worker.{Worker}
 use Rattle.model.specs.declared.Bench.{Bench}
-use Rattle.model.specs.declared.Refusal.the-variants.{LogFull}
+use Rattle.model.specs.declared.Refusal.the-variants.{NoSuchWorker, IdleWorker, LogFull, WaitingFull}
 use Rattle.model.specs.declared.Answer.{Answer}
 use Rattle.model.specs.declared.Answer.the-variants.{GoesOn, Refused}
 use Rattle.model.specs.Tests.{if_then_else_}
 use Rattle.model.specs.Memory.{setAll}
 use Rattle.model.specs.Answers.{ends, entryOf, entryLength, entryWords}
 use Rattle.model.specs.Stores.{Shared, anchored, publishing, landedAll, claimedBy}
-use Rattle.model.specs.Lines.{holdsLink}
-use Rattle.model.specs.World.{Outcome, isPast1}
+use Rattle.model.specs.Lines.{Effect, lineStep, holdsLink}
+use Rattle.model.specs.World.{Outcome, isIdle, isSteal1, isPast1}
 use Rattle.model.specs.Calls.{lent, raised, logFull, linkSet}
 use Rattle.lines.specs.declared.Action.{Action}
 use Rattle.lines.specs.declared.Action.the-variants as action
 use Rattle.anchors.specs.After.{afterStore}
-use Rattle.lines.specs.Actions.{storesBy, claimsBy, Ground, Ready}
+use Rattle.lines.specs.Actions.{storesBy, claimsBy, Does, Doable, Ground, Ready}
 use Rattle.machine.specs.declared.Made.{Made}
+use Rattle.machine.specs.declared.Moved.{Moved}
 use Rattle.machine.specs.declared.Made.the-variants as made
 
 -- a state of what a step is handed, with the mode d, the waiting line s, u numbers used, the counts n of restarts and the
@@ -80,6 +81,7 @@ benchAfter b i x (made.Claims a z) = moves b i x (withArray (b .queue) a z) (b .
 benchAfter b i x made.Publishes = moves b i x (publishing (b .queue) (b .queue .published)) (b .restarts) (b .written)
 benchAfter b i x (made.Stops y) = moves b i x (linkSet (b .queue) i false) (b .restarts) (b .written + entryLength (b .words))
 benchAfter b i x (made.Ends a y) = moves b i x (anchored (b .queue) a) (b .restarts) (b .written + entryLength (b .words))
+benchAfter b i x (made.Waits d) = b
 
 unfoldable pub answerAfter : Made → Answer
 answerAfter made.Nothing = GoesOn
@@ -90,6 +92,7 @@ answerAfter (made.Claims a z) = GoesOn
 answerAfter made.Publishes = GoesOn
 answerAfter (made.Stops y) = y
 answerAfter (made.Ends a y) = y
+answerAfter (made.Waits d) = Refused WaitingFull
 
 -- with the store m and the log l as the step left them
 abbrev pub movedBy : Bench → ℕ → Line → Made → List ℕ → List ℕ → Outcome
@@ -143,6 +146,7 @@ Fits v q k (made.Claims a z) = q .claimed < 11
 Fits v q k made.Publishes = q .published ≤ 11
 Fits v q k (made.Stops y) = (k + entryLength v ≤ 4294967295) × (ends y ≡ true)
 Fits v q k (made.Ends a y) = (k + entryLength v ≤ 4294967295) × (ends y ≡ true)
+Fits v q k (made.Waits d) = Unit {0}
 
 -- worker i, at the line y, can be stepped in a store of z words, in a crew of n
 pub record Steppable (κ : Kind) (w v n : ℕ) (q : Queue) (z i : ℕ) (y : Line) : Type 0 where
@@ -151,3 +155,15 @@ pub record Steppable (κ : Kind) (w v n : ℕ) (q : Queue) (z i : ℕ) (y : Line
   pub ground : Ground v q z
   pub ready : i < n → Ready κ v q z y
   pub held : i < n → holdsLink q i ≡ true → (q .linked ≡ true) × (isPast1 y ≡ true)
+
+-- the effect of the line y of worker i, on the queue q and the store m, where the tag has w bits
+abbrev pub effectOn : Kind → ℕ → ℕ → Queue → List ℕ → ℕ → Line → Effect
+effectOn κ w v q m i y = lineStep κ (if q .linked then 0 else w) v q m i y
+
+-- a step of worker i, at the line y of a queue q and a store m, of which nothing is done yet: refused 6 or 8, or its action
+-- waits; line 1 of a steal is never the owner's
+pub record PlannedBy (κ : Kind) (w v n : ℕ) (q : Queue) (m : List ℕ) (i : ℕ) (y : Line) (r : Moved) : Type 0 where
+  pub outside : n ≤ i → r .made ≡ made.Refused NoSuchWorker
+  pub rests : i < n → isIdle y ≡ true → r .made ≡ made.Refused IdleWorker
+  pub goes : i < n → isIdle y ≡ false → isSteal1 y ≡ false → (d : Action) × (r .made ≡ made.Waits d)
+      × (r .line ≡ effectOn κ w v q m i y .line) × Does v (effectOn κ w v q m i y) d × Doable v q (length m) d

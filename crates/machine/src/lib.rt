@@ -1,11 +1,11 @@
-// A step past the test of the limits, of a thief, or of the owner while its stores are not delayed. `step_in` is handed what a step
-// reads of the state, writes the store and the log, and answers what the step leaves of the state: the line that its worker is at,
-// and what it did beside. A caller that keeps its bench in a local can so replace the one record that most steps change; `settled`
-// has the other steps.
+// A step past the test of the limits. `step_in` is handed what a step reads of the state, and answers what the step leaves of it:
+// the line that its worker is at, and what it did beside. The stores of a thief, and of the owner while they are not delayed,
+// land at once, and the entry is logged; where they are delayed, `owner` finishes the step. A caller that keeps its bench in a
+// local can so replace the one record that most steps change; `settled` has the other steps.
 // Uses `model`, `answers`, `stages`, `anchors`, `slots`, `lines`, `memory` and `state`. It is used by `owner`, `queues` and
 // `listing`.
 ghost use mathlib.Core.Path.{_≡_};
-ghost use mathlib.Core.Bool.{Bool, not};
+ghost use mathlib.Core.Bool.{Bool, true, false, not};
 ghost use mathlib.Core.List.{List};
 ghost use Prim.Native.Nat.{ℕ, _≤_, _<_};
 ghost use lib.ListN.{length};
@@ -32,6 +32,7 @@ ghost use Rattle.machine.specs.Steps.{
   logAfter,
   Fits,
   Steppable,
+  PlannedBy,
 };
 use lines::Action;
 use model::Anchor;
@@ -48,7 +49,7 @@ use state::Returned;
 
 // What a step did beside moving its worker on: nothing that changes the state; it was refused; its compare failed; it linked the
 // anchor; it claimed an array or published it; or it ended its operation, with the anchor as it is or another one, and logged its
-// entry.
+// entry. Or nothing is done yet: the step's action waits for a caller that lets its stores join the waiting line.
 pub enum Made {
     Nothing,
     Refused { why: Refusal },
@@ -58,6 +59,7 @@ pub enum Made {
     Publishes,
     Stops { answer: Answer },
     Ends { anchor: Anchor, answer: Answer },
+    Waits { action: Action },
 }
 
 // What a step leaves: the line that its worker is at, and what it did beside.
@@ -67,7 +69,7 @@ pub struct Moved {
 }
 
 // Logs an answer's entry behind `written` words, and answers whether the log had room for it.
-fn log_answer(words: u32, written: u32, answer: Answer, log: &mut [u32]) -> bool
+pub fn log_answer(words: u32, written: u32, answer: Answer, log: &mut [u32]) -> bool
     requires { ⌜ Wide words ⌝ }
     ensures { λ r. ⌜ r ≡ not (logFull words (now (log .entry)) written) ⌝ }
     ensures { λ r. ⌜ now (log .exit) ≡ logBy words written (now (log .entry)) answer ⌝ }
@@ -107,7 +109,7 @@ fn land(words: u32, queue: Queue, landing: Store, store: &mut [u32]) -> Made
 }
 
 // Carries an action out: its stores land at once.
-pub fn act(
+fn act(
     words: u32,
     written: u32,
     queue: Queue,
@@ -169,8 +171,9 @@ fn links(linked: bool, line: Line) -> bool
     stages::stage(line) == 4
 }
 
-// A step of a worker that is at `line`, reads memory and whose stores land at once, past the test of the limits: refusals 6 and 8,
-// then the line, committed or refused 11.
+// A step of a worker that is at `line` and reads `queue` and the store, past the test of the limits: refusals 6 and 8, then the
+// line. Its stores land at once, and it is committed or refused 11; or, where they are to join the waiting line, its action is
+// handed back and nothing is done. Both go through this one function: a compiler then has one place for the line's code.
 pub fn step_in(
     kind: Kind,
     width: u32,
@@ -180,6 +183,7 @@ pub fn step_in(
     written: u32,
     worker: u32,
     line: Line,
+    joins: bool,
     store: &mut [u32],
     log: &mut [u32],
 ) -> Moved
@@ -187,10 +191,13 @@ pub fn step_in(
     ensures { λ r. ⌜ Fits words queue written (r .made) ⌝ }
     ensures { λ r.
         ⌜
-        ((d : Bool) (s : Waiting) (u k : ℕ) (n : List ℕ) (ws : List Worker) → AtOnce d s worker → (worker < 8 → k ≡ worker) → lineAt ws k ≡ line
+        (joins ≡ false
+        → (d : Bool) (s : Waiting) (u k : ℕ) (n : List ℕ) (ws : List Worker) → AtOnce d s worker → (worker < 8 → k ≡ worker) → lineAt ws k ≡ line
         → movedBy (benchOf kind width words crew queue written d s u n ws) k (r .line) (r .made) (now (store .exit)) (now (log .exit))
         ≡ stepIn (lent (benchOf kind width words crew queue written d s u n ws) (now (store .entry)) (now (log .entry))) worker)
         ⌝ }
+    ensures { λ r. ⌜ (joins ≡ true → PlannedBy kind width words crew queue (now (store .entry)) worker line r) ⌝ }
+    ensures { λ r. ⌜ (joins ≡ true → (now (store .exit) ≡ now (store .entry)) × (now (log .exit) ≡ now (log .entry))) ⌝ }
 {
     if crew <= worker {
         let why = Refusal::NoSuchWorker;
@@ -215,6 +222,12 @@ pub fn step_in(
     }
     let bits = stages::tag_bits(queue.linked, width);
     let action = lines::decide(kind, bits, words, queue, store, worker, line);
+    if joins {
+        return Moved {
+            line: to,
+            made: Made::Waits { action },
+        };
+    }
     let made = act(words, written, queue, action, store, log);
     Moved { line: to, made }
 }
@@ -256,8 +269,8 @@ fn beaten(bench: Bench, place: usize, line: Line) -> Bench
     next
 }
 
-// The state after a step that left the worker at `place` at `line`, and the answer. Callers make a step that did nothing beside, or
-// whose compare failed, in place; these cases are here too, so that this is all of a step.
+// The state after a step that left the worker at `place` at `line`, and the answer. Callers make a step that did nothing beside,
+// or whose compare failed, in place; these cases are here too, so that this is all of a step.
 pub fn settled(bench: Bench, place: usize, line: Line, made: Made) -> Returned
     requires { ⌜ place < 8 ⌝ }
     requires { ⌜ Fits (bench .words) (bench .queue) (bench .written) made ⌝ }
@@ -304,6 +317,7 @@ pub fn settled(bench: Bench, place: usize, line: Line, made: Made) -> Returned
                 answer,
             }
         }
+        Made::Waits { action: _ } => state::refused(bench, Refusal::WaitingFull),
         Made::Ends { anchor, answer } => {
             let left = state::with_anchor(queue, anchor);
             let length = written + (3 + bench.words);

@@ -1,6 +1,6 @@
 // The caller's memory: where a log entry goes, the log's written front, a task's words, a zeroed range of the store. Each is a
 // definition's short name, as code.
-// Uses `model` and `answers`. It is used by `opening`, `machine` and `queues`.
+// Uses `model` and `answers`. It is used by `opening`, `machine`, `owner` and `queues`.
 ghost use mathlib.Core.Path.{_≡_};
 ghost use Prim.Native.Nat.{_+_, _≤_, _<_};
 ghost use lib.Dec.{leb};

@@ -1,4 +1,4 @@
--- The calls: fresh, begin, step, a link that fails, who, and the log's front.
+-- The calls: fresh, begin, step, a link that fails, a drain, who, and the log's front.
 use mathlib.Core.Bool.{Bool, true, false}
 use mathlib.Core.List.{List, [], _∷_}
 use Prim.Native.Nat.{ℕ, zero, suc, _+_, _*_}

@@ -1,10 +1,10 @@
 -- A line of the owner committed while its stores are delayed: the stores join the waiting line, and the rest is done at once.
 use mathlib.Core.Bool.{Bool, true, false, true≢false}
 use mathlib.Core.List.{List, [], _∷_}
-use mathlib.Core.Path.{_≡_, refl, sym, ap, subst, _∙_}
-use Prim.Native.Nat.{ℕ, zero, suc, _+_, _≤_, _<_}
+use mathlib.Core.Path.{_≡_, refl, sym, ap, _∙_}
+use Prim.Native.Nat.{ℕ, _+_, _≤_, _<_}
 use native.Mathlib.Omega.{arith}
-use lib.Dec.{eqb, ltb}
+use lib.Dec.{ltb}
 use lib.ListN.{length, set}
 use borrow.Author.Tests.{ltb-true, eqb-true, ne-eqb, lt-ltb, le-ltb}
 use denote.Enum.Declared.{tagOf}
@@ -39,27 +39,22 @@ use Rattle.model.specs.declared.Line.the-variants.{
 use Rattle.model.specs.declared.Queue.{Queue}
 use Rattle.model.specs.declared.Waiting.{Waiting}
 use Rattle.model.specs.declared.Bench.{Bench}
-use Rattle.model.specs.declared.Answer.{Answer}
-use Rattle.model.specs.declared.Answer.the-variants as answer
-use Rattle.model.specs.declared.Refusal.{Refusal}
 use Rattle.model.specs.declared.Refusal.the-variants.{WaitingFull, LogFull}
 use Rattle.model.specs.Tests.{if_then_else_, _and_}
 use Rattle.model.specs.Answers.{ends, entryLength, logged}
 use Rattle.model.specs.Stores.{Shared, shared, landedAll, joined, claimedBy}
 use Rattle.model.specs.Lines.{Effect, holdsLink, failsCompare}
-use Rattle.model.specs.World.{World, Outcome, refuse, lineAt, stage, isIdle, isSteal1, isPast1, isOwners}
-use Rattle.model.specs.Calls.{lent, restarted, relinked, joining, landing, stored, lineAfter, stepped, logFull, noRoom, crowded, commit}
-use Rattle.model.proofs.Tests.{if-true, if-false, and-both, and-false}
+use Rattle.model.specs.World.{Outcome, refuse, lineAt, stage, isIdle, isPast1, isOwners}
+use Rattle.model.specs.Calls.{lent, restarted, relinked, joining, landing, stored, lineAfter, stepped, noRoom, crowded, commit}
+use Rattle.model.proofs.Tests.{if-true, if-false, and-false}
 use Rattle.model.proofs.Attempts.{idle-not}
 use Rattle.lines.specs.declared.Action.{Action}
 use Rattle.lines.specs.declared.Action.the-variants as action
-use Rattle.lines.specs.Actions.{storesBy, claimsBy, answerBy, failsBy, Does, Claimable, Doable}
+use Rattle.lines.proofs.Action.{the-type}
+use Rattle.lines.specs.Actions.{storesBy, claimsBy, answerBy, failsBy, Does, Doable}
 use Rattle.lines.proofs.Views.{Same}
-use Rattle.machine.specs.declared.Made.{Made}
-use Rattle.machine.specs.declared.Made.the-variants as made
-use Rattle.machine.specs.Steps.{movedBy, logBy, leftBy, actedBy, logAfter}
-use Rattle.machine.proofs.Made.{the-type}
-use Rattle.machine.proofs.Moves.{Leads, Prompt, joined-none, acted}
+use Rattle.machine.specs.Steps.{movedBy, leftBy, actedBy, logAfter}
+use Rattle.machine.proofs.Moves.{Leads, joined-none, acted}
 use Rattle.owner.specs.Reads.{waits, atOnce}
 
 -- the owner's stores join the line, and none lands
@@ -112,64 +107,27 @@ never-fails (action.Claims a z) = refl
 never-fails (action.Stops x) = refl
 never-fails (action.Ends s x) = refl
 
--- the log refuses an entry, or takes it
-refused-as : {x y : Refusal} → made.Refused x ≡ made.Refused y → y ≡ x
-refused-as e = cc e
+-- it answers the same
+pub answers-same : (d : Action) → answerBy (atOnce d) ≡ answerBy d
+unfolding answerBy atOnce
+answers-same action.Nothing = refl
+answers-same action.Fails = refl
+answers-same (action.Stores s) = refl
+answers-same (action.Copies k t u) = refl
+answers-same (action.Claims a z) = refl
+answers-same (action.Stops x) = refl
+answers-same (action.Ends s x) = refl
 
-stops-not-refused : {y : Answer} {r : Refusal} → made.Stops y ≡ made.Refused r → ⊥
-stops-not-refused e = let z : _≡_ {A = ℕ} 0 1 = cc e in omega (arith, z)
-
-nothing-not-refused : (v k : ℕ) (l : List ℕ) (q : Queue) {r : Refusal} → actedBy v k l q action.Nothing ≡ made.Refused r → ⊥
-unfolding actedBy
-nothing-not-refused v k l q e = let z : _≡_ {A = ℕ} 0 1 = cc e in omega (arith, z)
-
-claims-not-refused : (v k : ℕ) (l : List ℕ) (q : Queue) (a z : ℕ) {r : Refusal} → actedBy v k l q (action.Claims a z) ≡ made.Refused r → ⊥
-unfolding actedBy
-claims-not-refused v k l q a z e = let z : _≡_ {A = ℕ} 0 1 = cc e in omega (arith, z)
-
-module _ (v k : ℕ) (m l : List ℕ) (q p : Queue) (n : ℕ) where
-  stops-refuses : (y : Answer) {r : Refusal} → ends y ≡ true → actedBy v k l q (action.Stops y) ≡ made.Refused r
-      → (r ≡ LogFull) × ((ends y and logFull v l k) ≡ true) × (logAfter v k l (action.Stops y) ≡ l)
-  unfolding actedBy logAfter
-  stops-refuses y {r} h e = by (logFull v l k) refl
-    where
-      by : (b : Bool) → logFull v l k ≡ b → (r ≡ LogFull) × ((ends y and logFull v l k) ≡ true) × (logBy v k l y ≡ l)
-      by true f = (refused-as (sym (if-true _ f) ∙ e), and-both (ends y) _ h f, if-true _ f)
-      by false f = absurd (stops-not-refused (sym (if-false _ f) ∙ e))
-
-  pub log-refuses : (d : Action) {r : Refusal} → Doable v p n d → actedBy v k l q (atOnce d) ≡ made.Refused r
-      → (r ≡ LogFull) × ((ends (answerBy d) and logFull v l k) ≡ true) × (logAfter v k l (atOnce d) ≡ l) × (leftBy v (shared q m) (atOnce d) .store ≡ m)
-  unfolding Doable atOnce answerBy storesBy claimsBy landedAll
-  log-refuses action.Nothing h e = absurd (nothing-not-refused v k l q e)
-  log-refuses action.Fails h e = absurd (nothing-not-refused v k l q e)
-  log-refuses (action.Stores s) h e = absurd (nothing-not-refused v k l q e)
-  log-refuses (action.Copies a t u) h e = absurd (nothing-not-refused v k l q e)
-  log-refuses (action.Claims a z) h e = absurd (claims-not-refused v k l q a z e)
-  log-refuses (action.Stops y) h e = let (a, b, c) = stops-refuses y h e in (a, b, c, refl)
-  log-refuses (action.Ends s y) h e = let (a, b, c) = stops-refuses y (h .1) e in (a, b, c, refl)
-
-  stops-takes : (y : Answer) {x : Made} → x ≡ actedBy v k l q (action.Stops y)
-      → OneOf (0 ∷ 2 ∷ 3 ∷ 4 ∷ 5 ∷ 6 ∷ 7 ∷ []) (tagOf the-type x) → (ends y and logFull v l k) ≡ false
-  unfolding actedBy
-  stops-takes y {x} e o = by (logFull v l k) refl
-    where
-      by : (b : Bool) → logFull v l k ≡ b → (ends y and logFull v l k) ≡ false
-      by true f =
-          absurd
-          (miss (0 ∷ 2 ∷ 3 ∷ 4 ∷ 5 ∷ 6 ∷ 7 ∷ []) 1 tt
-          (subst (λ (z : Made). OneOf (0 ∷ 2 ∷ 3 ∷ 4 ∷ 5 ∷ 6 ∷ 7 ∷ []) (tagOf the-type z)) (e ∙ if-true _ f) o))
-      by false f = ap (λ (z : Bool). ends y and z) f ∙ and-false (ends y)
-
-  pub log-takes : (d : Action) {x : Made} → x ≡ actedBy v k l q (atOnce d)
-      → OneOf (0 ∷ 2 ∷ 3 ∷ 4 ∷ 5 ∷ 6 ∷ 7 ∷ []) (tagOf the-type x) → (ends (answerBy d) and logFull v l k) ≡ false
-  unfolding atOnce answerBy _and_
-  log-takes action.Nothing e o = refl
-  log-takes action.Fails e o = refl
-  log-takes (action.Stores s) e o = refl
-  log-takes (action.Copies a t u) e o = refl
-  log-takes (action.Claims a z) e o = refl
-  log-takes (action.Stops y) e o = stops-takes y e o
-  log-takes (action.Ends s y) e o = stops-takes y e o
+-- where it neither claims nor stops, it is nothing
+pub is-nothing : (d : Action) → OneOf (0 ∷ 1 ∷ 2 ∷ 3 ∷ 6 ∷ []) (tagOf the-type (atOnce d)) → atOnce d ≡ action.Nothing
+unfolding atOnce
+is-nothing action.Nothing o = refl
+is-nothing action.Fails o = refl
+is-nothing (action.Stores s) o = refl
+is-nothing (action.Copies k t u) o = refl
+is-nothing (action.Claims a z) o = absurd (miss (0 ∷ 1 ∷ 2 ∷ 3 ∷ 6 ∷ []) 4 tt o)
+is-nothing (action.Stops x) o = absurd (miss (0 ∷ 1 ∷ 2 ∷ 3 ∷ 6 ∷ []) 5 tt o)
+is-nothing (action.Ends s x) o = absurd (miss (0 ∷ 1 ∷ 2 ∷ 3 ∷ 6 ∷ []) 5 tt o)
 
 -- no line of the owner compares or links
 no-compare : (κ : Kind) (q : Queue) (i : ℕ) (y : Line) → isOwners y ≡ true → failsCompare κ q i y ≡ false

@@ -1,134 +1,245 @@
 -- A step of the owner while its stores are delayed, by how it goes.
-use mathlib.Core.Bool.{true, false}
+use mathlib.Core.Bool.{Bool, true, false}
 use mathlib.Core.List.{List, [], _∷_}
 use mathlib.Core.Path.{_≡_, refl, sym, ap, subst, _∙_}
+use mathlib.Core.Logic.{_⊎_, inl, inr, ⊎-elim}
 use Prim.Native.Nat.{ℕ, _+_, _≤_, _<_}
 use native.Mathlib.Omega.{arith}
 use lib.ListN.{length}
-use borrow.Author.Tests.{lt-ltb}
+use borrow.Author.Tests.{lt-ltb, ltb-true, eqb-true, ne-eqb}
 use denote.Enum.Declared.{tagOf}
-use types.Run.{OneOf}
+use types.Run.{OneOf, miss}
 use Rattle.model.specs.declared.Line.{Line}
+use Rattle.model.specs.declared.Queue.{Queue}
 use Rattle.model.specs.declared.Store.{Store}
+use Rattle.model.specs.declared.Waiting.{Waiting}
 use Rattle.model.specs.declared.Bench.{Bench}
 use Rattle.model.specs.declared.Answer.{Answer}
-use Rattle.model.specs.declared.Answer.the-variants.{Refused}
+use Rattle.model.specs.declared.Answer.the-variants.{GoesOn, Refused}
 use Rattle.model.specs.declared.Refusal.{Refusal}
-use Rattle.model.specs.declared.Refusal.the-variants.{WaitingFull, LogFull}
-use Rattle.model.specs.Tests.{_and_}
-use Rattle.model.specs.Answers.{ends}
-use Rattle.model.specs.Stores.{shared, joined, inLine}
-use Rattle.model.specs.Lines.{Effect, lineStep}
+use Rattle.model.specs.declared.Refusal.the-variants.{IdleWorker, LogFull, WaitingFull}
+use Rattle.model.specs.Tests.{if_then_else_, _and_}
+use Rattle.model.specs.Memory.{zeros}
+use Rattle.model.specs.Answers.{ends, entryLength}
+use Rattle.model.specs.Stores.{Shared, shared, landedAll, joined, inLine}
+use Rattle.model.specs.Lines.{Effect, lineStep, holdsLink}
 use Rattle.model.specs.Limits.{validOf}
-use Rattle.model.specs.World.{World, Outcome, refuse, memory, ownersView, tagBits, lineAt, isIdle}
+use Rattle.model.specs.World.{Outcome, refuse, memory, ownersView, tagBits, lineAt, stage, isIdle, isSteal1}
 use Rattle.model.specs.Calls.{lent, logFull, noRoom, commit, nextEffect, stepIn}
-use Rattle.model.proofs.Tests.{if-true, if-false, and-left}
+use Rattle.model.proofs.Tests.{if-true, if-false, and-left, and-both, and-false}
 use Rattle.model.proofs.Attempts.{rests}
 use Rattle.lines.specs.declared.Action.{Action}
-use Rattle.lines.specs.Actions.{storesBy, answerBy, Does, Doable}
+use Rattle.lines.specs.declared.Action.the-variants as action
+use Rattle.lines.specs.Actions.{storesBy, claimsBy, answerBy, Does, Doable}
+use Rattle.lines.proofs.Action as actions
 use Rattle.lines.proofs.Views.{Same, view-same}
-use Rattle.lines.proofs.FromLimits.{limits-of, crew-of-valid, ground-of-valid, link-of-valid}
+use Rattle.lines.proofs.FromLimits.{limits-of, crew-of-valid, link-of-valid}
 use Rattle.state.specs.declared.Returned.{Returned}
 use Rattle.state.specs.Outcomes.{returned}
 use Rattle.machine.specs.declared.Made.{Made}
 use Rattle.machine.specs.declared.Made.the-variants as made
-use Rattle.machine.specs.Steps.{benchAfter, answerAfter, movedBy, leftBy, actedBy, logAfter, Fits}
+use Rattle.machine.specs.Steps.{moves, withArray, benchAfter, answerAfter, movedBy, logBy, leftBy, actedBy, logAfter, effectOn, PlannedBy}
 use Rattle.machine.proofs.Made.{the-type}
-use Rattle.machine.proofs.Moves.{fits}
-use Rattle.owner.specs.Reads.{waits, atOnce}
-use Rattle.owner.proofs.Committing.{bare-doable, log-refuses, log-takes, crowds, log-full, done}
+use Rattle.machine.proofs.Landing.{claims-land}
+use Rattle.machine.proofs.Moves.{link-kept}
+use Rattle.machine.proofs.Stepping.{idle-worker}
+use Rattle.owner.specs.Reads.{Finishable, waits, atOnce}
+use Rattle.owner.proofs.Places.{long}
+use Rattle.owner.proofs.Committing.{bare-doable, answers-same, is-nothing, crowds, log-full, done}
 
-module _ (b : Bench) (m l : List ℕ) (mode : b .delayed ≡ true) (v : validOf (lent b m l) ≡ true) where
-  same : Same (ownersView (lent b m l) .queue) (b .queue)
+-- the owner's line is worked out: x is the line that follows, d its action
+pub record Planned (b : Bench) (m l : List ℕ) (x : Line) (d : Action) : Type 0 where
+  pub busy : isIdle (lineAt (b .workers) 0) ≡ false
+  pub next : x ≡ nextEffect (lent b m l) 0 .line
+  pub does : Does (b .words) (nextEffect (lent b m l) 0) d
+  pub safe : Doable (b .words) (ownersView (lent b m l) .queue) (length m) d
+
+nothing-not-refused : {r : Refusal} → made.Nothing ≡ made.Refused r → ⊥
+nothing-not-refused e = let z : _≡_ {A = ℕ} 0 1 = cc e in omega (arith, z)
+
+nothing-not-waits : {d : Action} → made.Nothing ≡ made.Waits d → ⊥
+nothing-not-waits e = let z : _≡_ {A = ℕ} 0 1 = cc e in omega (arith, z)
+
+fails-not-refused : {r : Refusal} → made.Fails ≡ made.Refused r → ⊥
+fails-not-refused e = let z : _≡_ {A = ℕ} 0 1 = cc e in omega (arith, z)
+
+fails-not-waits : {d : Action} → made.Fails ≡ made.Waits d → ⊥
+fails-not-waits e = let z : _≡_ {A = ℕ} 0 1 = cc e in omega (arith, z)
+
+refused-not-waits : {r : Refusal} {d : Action} → made.Refused r ≡ made.Waits d → ⊥
+refused-not-waits e = let z : _≡_ {A = ℕ} 0 1 = cc e in omega (arith, z)
+
+waits-as : {d e : Action} → made.Waits d ≡ made.Waits e → d ≡ e
+waits-as e = cc e
+
+module _ (b : Bench) (m l : List ℕ) (v : validOf (lent b m l) ≡ true) where
+  abbrev y : Line
+  y = lineAt (b .workers) 0
+
+  abbrev p : Queue
+  p = ownersView (lent b m l) .queue
+
+  same : Same p (b .queue)
   same = view-same (b .words) (memory (lent b m l)) (inLine (b .waiting))
 
-  -- the owner is one of the crew
-  pub there : 0 < b .crew
+  -- the owner is one of the crew, and at a line of the owner
+  there : 0 < b .crew
   there = crew-of-valid (lent b m l) v .0
 
-  -- w bits as code has them, x the line that follows and d the action
-  module _ (w : ℕ) (bits : w ≡ tagBits b) (busy : isIdle (lineAt (b .workers) 0) ≡ false) (x : Line) (d : Action)
-      (next : x ≡ lineStep (b .kind) w (b .words) (ownersView (lent b m l) .queue) (ownersView (lent b m l) .store) 0 (lineAt (b .workers) 0) .line)
-      (does : Does (b .words) (lineStep (b .kind) w (b .words) (ownersView (lent b m l) .queue) (ownersView (lent b m l) .store) 0 (lineAt (b .workers) 0)) d)
-      (safe : Doable (b .words) (ownersView (lent b m l) .queue) (length m) d) where
+  near : stage y < 4
+  near = ltb-true _ _ (and-left _ _ (limits-of (lent b m l) v .owner))
+
+  plain : isSteal1 y ≡ false
+  plain = ne-eqb (stage y) 4 (λ z. omega (arith, near, z))
+
+  unlinked : holdsLink (b .queue) 0 ≡ false
+  unlinked = by (holdsLink (b .queue) 0) refl
+    where
+      by : (x : Bool) → holdsLink (b .queue) 0 ≡ x → holdsLink (b .queue) 0 ≡ false
+      by true e = let five : stage y ≡ 5 = eqb-true _ _ (link-of-valid (lent b m l) v 0 (omega arith) e .1) in absurd (omega (arith, near, five))
+      by false e = e
+
+  -- what was planned on the store z, which is what the owner reads
+  module _ {z : List ℕ} (back : z ≡ ownersView (lent b m l) .store) {x : Line} {c : Made}
+      (plan : PlannedBy (b .kind) (b .width) (b .words) (b .crew) p z 0 y (record { line = x; made = c })) where
+    effect : effectOn (b .kind) (b .width) (b .words) p z 0 y ≡ nextEffect (lent b m l) 0
+    effect =
+        ap (λ (t : Bool). lineStep (b .kind) (if t then 0 else b .width) (b .words) p z 0 y) (same .linked)
+        ∙ ap (λ (s : List ℕ). lineStep (b .kind) (tagBits b) (b .words) p s 0 y) back
+
+    pub planned : (d : Action) → c ≡ made.Waits d → Planned b m l x d
+    planned d e = by (isIdle y) refl
+      where
+        by : (t : Bool) → isIdle y ≡ t → Planned b m l x d
+        by true f = absurd (refused-not-waits (sym (plan .rests there f) ∙ e))
+        by false f =
+            let (a, g, n, D, h) = plan .goes there f plain in
+            let i : a ≡ d = waits-as (sym g ∙ e) in
+            record {
+              busy = f;
+              next = n ∙ ap (λ (E : Effect). E .line) effect;
+              does = subst (Does (b .words) (nextEffect (lent b m l) 0)) i (subst (λ (E : Effect). Does (b .words) E a) effect D);
+              safe = subst (Doable (b .words) p (length m)) i (subst (λ (n : ℕ). Doable (b .words) p n a) (long (lent b m l) v back) h);
+            }
+
+    -- it idles, or its action waits: nothing is done in place
+    idle-or-waits : (c ≡ made.Refused IdleWorker) ⊎ ((d : Action) × (c ≡ made.Waits d))
+    idle-or-waits = by (isIdle y) refl
+      where
+        by : (t : Bool) → isIdle y ≡ t → (c ≡ made.Refused IdleWorker) ⊎ ((d : Action) × (c ≡ made.Waits d))
+        by true f = inl (plan .rests there f)
+        by false f = let (a, g, n, D, h) = plan .goes there f plain in inr (a, g)
+
+    pub not-nothing : c ≡ made.Nothing → ⊥
+    not-nothing f = ⊎-elim (λ g. nothing-not-refused (sym f ∙ g)) (λ g. nothing-not-waits (sym f ∙ g .1)) idle-or-waits
+
+    pub not-fails : c ≡ made.Fails → ⊥
+    not-fails f = ⊎-elim (λ g. fails-not-refused (sym f ∙ g)) (λ g. fails-not-waits (sym f ∙ g .1)) idle-or-waits
+
+    -- nothing waits: refusal 8
+    pub idles : OneOf (0 ∷ 1 ∷ 2 ∷ 3 ∷ 4 ∷ 5 ∷ 6 ∷ 7 ∷ []) (tagOf the-type c) → refuse (lent b m l) IdleWorker ≡ stepIn (lent b m l) 0
+    idles o = by (isIdle y) refl
+      where
+        by : (t : Bool) → isIdle y ≡ t → refuse (lent b m l) IdleWorker ≡ stepIn (lent b m l) 0
+        by true f = idle-worker b 0 y m l refl there f
+        by false f =
+            let (a, g, n, D, h) = plan .goes there f plain in
+            absurd
+            (miss (0 ∷ 1 ∷ 2 ∷ 3 ∷ 4 ∷ 5 ∷ 6 ∷ 7 ∷ []) 8 tt
+            (subst (λ (z : Made). OneOf (0 ∷ 1 ∷ 2 ∷ 3 ∷ 4 ∷ 5 ∷ 6 ∷ 7 ∷ []) (tagOf the-type z)) g o))
+
+  prompt : {x : Line} {d : Action} → Planned b m l x d → Doable (b .words) (b .queue) (length m) (atOnce d)
+  prompt {x} {d} P = bare-doable (b .words) p (b .queue) (length m) d same (P .safe)
+
+  -- so the step can be finished
+  pub finishable : {z : List ℕ} (back : z ≡ ownersView (lent b m l) .store) {x : Line} {c : Made}
+      → PlannedBy (b .kind) (b .width) (b .words) (b .crew) p z 0 y (record { line = x; made = c }) → Finishable b (length z) c
+  finishable back plan d e =
+      subst (λ (n : ℕ). Doable (b .words) (b .queue) n (atOnce d)) (sym (long (lent b m l) v back)) (prompt (planned back plan d e))
+
+  -- a refusal, where store and log are as they were
+  pub refuses : {r : Refusal} {t : Returned} {m1 l1 : List ℕ} → t ≡ record { bench = b; answer = Refused r } → m1 ≡ m → l1 ≡ l
+      → refuse (lent b m l) r ≡ stepIn (lent b m l) 0 → returned t m1 l1 ≡ stepIn (lent b m l) 0
+  refuses {r} {t} {m1} {l1} f g h e =
+      ap (λ (x : Returned). returned x m1 l1) f
+      ∙ ap (λ (x : List ℕ). record { world = lent b x l1; answer = Refused r }) g
+      ∙ ap (λ (x : List ℕ). record { world = lent b m x; answer = Refused r }) h
+      ∙ e
+
+  module _ (mode : b .delayed ≡ true) {x : Line} {d : Action} (P : Planned b m l x d) {n : ℕ} (more : n ≡ length (storesBy (b .words) d)) where
     abbrev E : Effect
     E = nextEffect (lent b m l) 0
 
-    effect : lineStep (b .kind) w (b .words) (ownersView (lent b m l) .queue) (ownersView (lent b m l) .store) 0 (lineAt (b .workers) 0) ≡ E
-    effect = ap (λ (n : ℕ). lineStep (b .kind) n (b .words) (ownersView (lent b m l) .queue) (ownersView (lent b m l) .store) 0 (lineAt (b .workers) 0)) bits
-
-    D : Does (b .words) E d
-    D = subst (λ (F : Effect). Does (b .words) F d) effect does
-
     starts : {o : Outcome} → o ≡ commit (lent b m l) 0 E → o ≡ stepIn (lent b m l) 0
-    starts e = e ∙ sym (if-true _ (lt-ltb _ _ there) ∙ if-false _ busy)
+    starts e = e ∙ sym (if-true _ (lt-ltb _ _ there) ∙ if-false _ (P .busy))
 
     -- refusal 18
-    pub crowded : {n : ℕ} {m1 : List ℕ} {r : Returned} → n ≡ length (storesBy (b .words) d) → 8 < b .waiting .count + n → m1 ≡ m
-        → r ≡ record { bench = b; answer = Refused WaitingFull } → returned r m1 l ≡ stepIn (lent b m l) 0
-    crowded {n} {m1} {r} e h back f =
-        ap (λ (x : Returned). returned x m1 l) f
-        ∙ ap (λ (x : List ℕ). record { world = lent b x l; answer = Refused WaitingFull }) back
-        ∙ starts (crowds b m l mode E (subst (λ (s : List Store). 8 < b .waiting .count + length s) (D .stores) (subst (λ (k : ℕ). 8 < b .waiting .count + k) e h)))
+    pub crowded : 8 < b .waiting .count + n → refuse (lent b m l) WaitingFull ≡ stepIn (lent b m l) 0
+    crowded h =
+        starts
+        (crowds b m l mode E
+        (subst (λ (s : List Store). 8 < b .waiting .count + length s) (P .does .stores) (subst (λ (k : ℕ). 8 < b .waiting .count + k) more h)))
 
-    -- z is what is done at once, and the store is as it was: m1
-    module _ (z : Action) (rest : z ≡ atOnce d) (m1 : List ℕ) (back : m1 ≡ m) where
-      prompt : Doable (b .words) (b .queue) (length m) z
-      prompt = subst (Doable (b .words) (b .queue) (length m)) (sym rest) (bare-doable (b .words) (ownersView (lent b m l) .queue) (b .queue) (length m) d same safe)
-
-      pub prompt-on : Doable (b .words) (b .queue) (length m1) z
-      prompt-on = subst (λ (x : List ℕ). Doable (b .words) (b .queue) (length x) z) (sym back) prompt
-
-      pub prompt-fits : {y : Made} → y ≡ actedBy (b .words) (b .written) l (b .queue) z → Fits (b .words) (b .queue) (b .written) y
-      prompt-fits {y} e =
-          subst (Fits (b .words) (b .queue) (b .written)) (sym e)
-          (fits (b .words) (b .queue) (b .written) (length m) l z (ground-of-valid (lent b m l) v 1 .listed) prompt)
-
-    -- y is what it comes to, with the store m2 and the log l2; its stores find a place
-    module _ (n : ℕ) (more : n ≡ length (storesBy (b .words) d)) (few : b .waiting .count + n ≤ 8) (z : Action) (rest : z ≡ atOnce d) (m1 : List ℕ)
-        (back : m1 ≡ m) {y : Made} {m2 l2 : List ℕ}
-        (acted : y ≡ actedBy (b .words) (b .written) l (b .queue) z)
-        (kept : m2 ≡ leftBy (b .words) (shared (b .queue) m1) z .store)
-        (logged : l2 ≡ logAfter (b .words) (b .written) l z) where
-      acts : y ≡ actedBy (b .words) (b .written) l (b .queue) (atOnce d)
-      acts = acted ∙ ap (actedBy (b .words) (b .written) l (b .queue)) rest
-
-      keeps : m2 ≡ leftBy (b .words) (shared (b .queue) m) (atOnce d) .store
-      keeps =
-          kept ∙ ap (λ (x : List ℕ). leftBy (b .words) (shared (b .queue) x) z .store) back
-          ∙ ap (λ (x : Action). leftBy (b .words) (shared (b .queue) m) x .store) rest
-
-      logs : l2 ≡ logAfter (b .words) (b .written) l (atOnce d)
-      logs = logged ∙ ap (logAfter (b .words) (b .written) l) rest
-
+    module _ (few : b .waiting .count + n ≤ 8) where
       room : b .waiting .count + length (E .stores) ≤ 8
-      room = subst (λ (s : List Store). b .waiting .count + length s ≤ 8) (D .stores) (subst (λ (k : ℕ). b .waiting .count + k ≤ 8) more few)
+      room = subst (λ (s : List Store). b .waiting .count + length s ≤ 8) (P .does .stores) (subst (λ (k : ℕ). b .waiting .count + k ≤ 8) more few)
+
+      -- z is what is done at once
+      module _ {z : Action} (rest : atOnce d ≡ z) where
+        asks : noRoom (lent b m l) E ≡ (ends (answerBy z) and logFull (b .words) l (b .written))
+        asks =
+            ap (λ (a : Answer). ends a and logFull (b .words) l (b .written))
+            (sym (P .does .answer) ∙ sym (answers-same d) ∙ ap answerBy rest)
+
+        safe : Doable (b .words) (b .queue) (length m) z
+        safe = subst (Doable (b .words) (b .queue) (length m)) rest (prompt P)
+
+        -- done: s is the line with the stores
+        does : {s : Waiting} → s ≡ joined (b .waiting) (storesBy (b .words) d) → (ends (answerBy z) and logFull (b .words) l (b .written)) ≡ false
+            → movedBy (waits b s) 0 x (actedBy (b .words) (b .written) l (b .queue) z) (leftBy (b .words) (shared (b .queue) m) z .store) (logAfter (b .words) (b .written) l z)
+            ≡ stepIn (lent b m l) 0
+        does {s} e h =
+            let out : Waiting → Action → Outcome = λ s z.
+            movedBy (waits b s) 0 x (actedBy (b .words) (b .written) l (b .queue) z) (leftBy (b .words) (shared (b .queue) m) z .store) (logAfter (b .words) (b .written) l z) in
+            starts
+            (ap (λ (s : Waiting). out s z) (e ∙ ap (joined (b .waiting)) (P .does .stores))
+            ∙ ap (out (joined (b .waiting) (E .stores))) (sym rest)
+            ∙ done b m l mode E room d x p (length m) (P .does) (P .next) same (P .safe) (and-left _ _ (limits-of (lent b m l) v .owner))
+            (λ h. link-of-valid (lent b m l) v 0 (omega arith) h .1)
+            (rests (b .kind) (tagBits b) (b .words) p (ownersView (lent b m l) .store) 0 y)
+            (asks ∙ h))
 
       -- refusal 11
-      pub log-refused : {r : Refusal} {t : Returned} → y ≡ made.Refused r → t ≡ record { bench = b; answer = Refused r } → returned t m2 l2 ≡ stepIn (lent b m l) 0
-      log-refused {r} {t} e f =
-          let (is, full, log, store) = log-refuses (b .words) (b .written) m l (b .queue) (ownersView (lent b m l) .queue) (length m) d safe (sym acts ∙ e) in
-          starts
-          (ap (λ (x : Returned). returned x m2 l2) f
-          ∙ ap (λ (x : List ℕ). record { world = lent b x l2; answer = Refused r }) (keeps ∙ store)
-          ∙ ap (λ (x : List ℕ). record { world = lent b m x; answer = Refused r }) (logs ∙ log)
-          ∙ ap (refuse (lent b m l)) is
-          ∙ log-full b m l mode E room (ap (λ (a : Answer). ends a and logFull (b .words) l (b .written)) (sym (D .answer)) ∙ full))
+      pub log-refused : {a : Answer} → atOnce d ≡ action.Stops a → logFull (b .words) l (b .written) ≡ true → refuse (lent b m l) LogFull ≡ stepIn (lent b m l) 0
+      unfolding Doable answerBy
+      log-refused {a} e f = starts (log-full b m l mode E room (asks e ∙ and-both (ends a) _ (safe e) f))
 
-      -- done
-      pub stepped : OneOf (0 ∷ 2 ∷ 3 ∷ 4 ∷ 5 ∷ 6 ∷ 7 ∷ []) (tagOf the-type y)
-          → {t : Returned} → t ≡ record { bench = benchAfter (waits b (joined (b .waiting) (storesBy (b .words) d))) 0 x y; answer = answerAfter y }
-          → returned t m2 l2 ≡ stepIn (lent b m l) 0
-      stepped o {t} f =
-          let own = and-left _ _ (limits-of (lent b m l) v .owner) in
-          starts
-          (ap (λ (z : Returned). returned z m2 l2) f
-          ∙ ap (λ (t : List Store). movedBy (waits b (joined (b .waiting) t)) 0 x y m2 l2) (D .stores)
-          ∙ ap (λ (z : Made). movedBy (waits b (joined (b .waiting) (E .stores))) 0 x z m2 l2) acts
-          ∙ ap (λ (z : List ℕ). movedBy (waits b (joined (b .waiting) (E .stores))) 0 x (actedBy (b .words) (b .written) l (b .queue) (atOnce d)) z l2) keeps
-          ∙ ap (movedBy (waits b (joined (b .waiting) (E .stores))) 0 x (actedBy (b .words) (b .written) l (b .queue) (atOnce d)) (leftBy (b .words) (shared (b .queue) m) (atOnce d) .store)) logs
-          ∙ done b m l mode E room d x (ownersView (lent b m l) .queue) (length m) D (next ∙ ap (λ (F : Effect). F .line) effect) same safe own
-          (λ h. link-of-valid (lent b m l) v 0 (omega arith) h .1)
-          (rests (b .kind) (tagBits b) (b .words) (ownersView (lent b m l) .queue) (ownersView (lent b m l) .store) 0 (lineAt (b .workers) 0))
-          (ap (λ (a : Answer). ends a and logFull (b .words) l (b .written)) (sym (D .answer))
-          ∙ log-takes (b .words) (b .written) m l (b .queue) (ownersView (lent b m l) .queue) (length m) d acts o))
+      -- the state left, by what is done at once; s is the line with the stores
+      module _ {s : Waiting} (joins : s ≡ joined (b .waiting) (storesBy (b .words) d)) {m1 : List ℕ} where
+        pub goes-on : OneOf (0 ∷ 1 ∷ 2 ∷ 3 ∷ 6 ∷ []) (tagOf actions.the-type (atOnce d)) → m1 ≡ m
+            → record { world = lent (moves (waits b s) 0 x (b .queue) (b .restarts) (b .written)) m1 l; answer = GoesOn } ≡ stepIn (lent b m l) 0
+        unfolding actedBy logAfter benchAfter answerAfter claimsBy storesBy landedAll answerBy _and_
+        goes-on o back =
+            ap (λ (t : List ℕ). record { world = lent (moves (waits b s) 0 x (b .queue) (b .restarts) (b .written)) t l; answer = GoesOn }) back
+            ∙ does (is-nothing d o) joins refl
+
+        pub claims : {a z : ℕ} {m0 : List ℕ} → atOnce d ≡ action.Claims a z → m0 ≡ m → m1 ≡ zeros m0 a z
+            → record { world = lent (moves (waits b s) 0 x (withArray (b .queue) a z) (b .restarts) (b .written)) m1 l; answer = GoesOn } ≡ stepIn (lent b m l) 0
+        unfolding actedBy logAfter benchAfter answerAfter claimsBy storesBy landedAll answerBy Doable _and_
+        claims {a} {z} e back cleared =
+            ap (λ (t : List ℕ). record { world = lent (moves (waits b s) 0 x (withArray (b .queue) a z) (b .restarts) (b .written)) t l; answer = GoesOn })
+            (cleared ∙ ap (λ (t : List ℕ). zeros t a z) back ∙ sym (ap (λ (S : Shared). S .store) (claims-land (b .queue) m (length m) a z (safe e))))
+            ∙ does e joins refl
+
+        pub stops : {a : Answer} {l1 : List ℕ} → atOnce d ≡ action.Stops a → logFull (b .words) l (b .written) ≡ false → m1 ≡ m
+            → l1 ≡ logBy (b .words) (b .written) l a
+            → record { world = lent (moves (waits b s) 0 x (b .queue) (b .restarts) (b .written + entryLength (b .words))) m1 l1; answer = a } ≡ stepIn (lent b m l) 0
+        unfolding actedBy logAfter benchAfter answerAfter claimsBy storesBy landedAll answerBy
+        stops {a} {l1} e f back logs =
+            let out : Queue → List ℕ → List ℕ → Outcome = λ q t k.
+            record { world = lent (moves (waits b s) 0 x q (b .restarts) (b .written + entryLength (b .words))) t k; answer = a } in
+            ap (λ (t : List ℕ). out (b .queue) t l1) back
+            ∙ ap (out (b .queue) m) logs
+            ∙ ap (λ (q : Queue). out q m (logBy (b .words) (b .written) l a)) (sym (link-kept (b .queue) 0 false unlinked))
+            ∙ ap (λ (k : Made). movedBy (waits b s) 0 x k m (logBy (b .words) (b .written) l a)) (sym (if-false (made.Refused LogFull) f))
+            ∙ does e joins (ap (λ (t : Bool). ends a and t) f ∙ and-false (ends a))

@@ -1,61 +1,33 @@
 // A step of the owner while its stores are delayed, past the test of the limits. The owner reads memory with its waiting stores
 // put down; the stores of its line join the waiting line, where they have a place, and X1's claim and the log's entry are made at
 // once.
-// Uses `model`, `tasks`, `stages`, `lines`, `limits`, `state`, `machine` and `waiting`. It is used by `queues`.
+// Uses `model`, `tasks`, `slots`, `lines`, `limits`, `memory`, `state`, `machine` and `waiting`. It is used by `queues`.
 ghost use mathlib.Core.Path.{_≡_};
 ghost use mathlib.Core.Bool.{true};
-ghost use Prim.Native.Nat.{_+_, _≤_};
+ghost use mathlib.Core.List.{List};
+ghost use Prim.Native.Nat.{ℕ, _+_, _≤_};
 ghost use lib.ListN.{length};
 ghost use Rattle.model.specs.Stores.{joined};
-ghost use Rattle.model.specs.Lines.{lineStep};
+ghost use Rattle.model.specs.World.{ownersView, lineAt};
 ghost use Rattle.model.specs.Limits.{validOf};
 ghost use Rattle.model.specs.Calls.{lent, stepIn};
 ghost use Rattle.state.specs.Outcomes.{returned};
-ghost use Rattle.lines.specs.Actions.{wordStores, storesBy, Does, Doable};
-ghost use Rattle.machine.specs.Steps.{benchAfter, answerAfter, Fits};
-ghost use Rattle.owner.specs.Reads.{view, Standing, atOnce, waits};
+ghost use Rattle.lines.specs.Actions.{wordStores, storesBy};
+ghost use Rattle.machine.specs.Steps.{PlannedBy};
+ghost use Rattle.waiting.specs.Places.{KeptBy};
+ghost use Rattle.owner.specs.Reads.{atOnce, Lifts, Finishable};
 use lines::Action;
 use machine::Made;
+use model::Answer;
 use model::Bench;
-use model::Kind;
 use model::Line;
-use model::Queue;
 use model::Refusal;
+use model::Region;
 use model::Store;
 use model::Task;
 use model::Waiting;
+use model::Worker;
 use state::Returned;
-
-// The line that the owner comes to, and what its line does beside.
-struct Plan {
-    line: Line,
-    action: Action,
-}
-
-// Reads with the waiting stores put down, and lifts them again.
-fn read(
-    kind: Kind,
-    bits: u32,
-    words: u32,
-    queue: Queue,
-    waiting: Waiting,
-    line: Line,
-    store: &mut [u32],
-) -> Plan
-    requires { ⌜ bits ≤ 16 ⌝ }
-    requires { ⌜ Standing kind words queue waiting (now store) line ⌝ }
-    ensures { λ r. ⌜ now (store .exit) ≡ now (store .entry) ⌝ }
-    ensures { λ r. ⌜ r .line ≡ lineStep kind bits words (view words queue waiting (now (store .entry)) .queue) (view words queue waiting (now (store .entry)) .store) 0 line .line ⌝ }
-    ensures { λ r. ⌜ Does words (lineStep kind bits words (view words queue waiting (now (store .entry)) .queue) (view words queue waiting (now (store .entry)) .store) 0 line) (r .action) ⌝ }
-    ensures { λ r. ⌜ Doable words (view words queue waiting (now (store .entry)) .queue) (length (now (store .entry))) (r .action) ⌝ }
-{
-    let seen = waiting::seen(queue, waiting);
-    let kept = waiting::put_down(words, queue, waiting, store);
-    let to = lines::next_line(kind, words, seen, store, 0, line);
-    let action = lines::decide(kind, bits, words, seen, store, 0, line);
-    waiting::lift(words, queue, waiting, kept, store);
-    Plan { line: to, action }
-}
 
 // How many stores an action makes.
 fn stores_in(words: u32, action: Action) -> u32
@@ -149,52 +121,65 @@ fn at_once(action: Action) -> Action
     }
 }
 
-// The state once an action's stores have joined the line and the rest of it is made.
-fn done(bench: Bench, line: Line, action: Action, made: Made) -> Returned
-    requires { ⌜ bench .words ≤ 4 ⌝ }
-    requires { ⌜ bench .waiting .count + length (storesBy (bench .words) action) ≤ 8 ⌝ }
-    requires { ⌜ Fits (bench .words) (bench .queue) (bench .written) made ⌝ }
+// The rest of the owner's step, once its line is worked out on what the owner reads: the waiting words are lifted again; then the
+// step is refused 8 or 18, or 11; or its stores join the line, and X1's claim and the log's entry are made at once. It is built of
+// parts that the step without delayed stores does not use, so that a compiler has one place for those.
+pub fn finish(
+    bench: Bench,
+    line: Line,
+    made: Made,
+    kept: [u32; 8],
+    store: &mut [u32],
+    log: &mut [u32],
+) -> Returned
+    requires { ⌜ bench .delayed ≡ true ⌝ }
+    requires { ⌜ Lifts bench (length (now store)) ⌝ }
+    requires { ⌜ Finishable bench (length (now store)) made ⌝ }
     ensures { λ r.
         ⌜
-        r ≡ record {
-          bench = benchAfter (waits bench (joined (bench .waiting) (storesBy (bench .words) action))) 0 line made;
-          answer = answerAfter made;
-        }
+        ((m : List ℕ) → validOf (lent bench m (now (log .entry))) ≡ true
+        → now (store .entry) ≡ ownersView (lent bench m (now (log .entry))) .store
+        → KeptBy (bench .words) (bench .queue) m (bench .waiting) kept
+        → PlannedBy (bench .kind) (bench .width) (bench .words) (bench .crew) (ownersView (lent bench m (now (log .entry))) .queue)
+        (now (store .entry)) 0 (lineAt (bench .workers) 0) (record { line = line; made = made })
+        → returned r (now (store .exit)) (now (log .exit)) ≡ stepIn (lent bench m (now (log .entry))) 0)
         ⌝ }
 {
-    let longer = join_all(bench.words, bench.waiting, action);
-    let mut next = bench;
-    next.waiting = longer;
-    machine::settled(next, 0, line, made)
-}
-
-// A step of the owner: refusal 8, then its line, committed or refused 18 or 11.
-pub fn step(bench: Bench, store: &mut [u32], log: &mut [u32]) -> Returned
-    requires { ⌜ bench .delayed ≡ true ⌝ }
-    requires { ⌜ validOf (lent bench (now store) (now log)) ≡ true ⌝ }
-    ensures { λ r. ⌜ returned r (now (store .exit)) (now (log .exit)) ≡ stepIn (lent bench (now (store .entry)) (now (log .entry))) 0 ⌝ }
-{
-    let own = bench.workers[0];
-    let line = own.line;
-    if stages::is_idle(line) {
-        return state::refused(bench, Refusal::IdleWorker);
-    }
     let words = bench.words;
     let queue = bench.queue;
     let waiting = bench.waiting;
-    let bits = stages::tag_bits(queue.linked, bench.width);
-    let kind = bench.kind;
-    let planned = read(kind, bits, words, queue, waiting, line, store);
-    let action = planned.action;
+    waiting::lift(words, queue, waiting, kept, store);
+    let Made::Waits { action } = made else {
+        return state::refused(bench, Refusal::IdleWorker);
+    };
     let more = stores_in(words, action);
     if 8 < waiting.count + more {
         return state::refused(bench, Refusal::WaitingFull);
     }
-    let rest = at_once(action);
-    let made = machine::act(words, bench.written, queue, rest, store, log);
-    if let Made::Refused { why } = made {
-        return state::refused(bench, why);
+    let mut next = bench;
+    next.waiting = join_all(words, waiting, action);
+    next.workers[0] = Worker { line };
+    let mut answer = Answer::GoesOn;
+    match at_once(action) {
+        Action::Claims { offset, length } => {
+            memory::zero(store, offset as usize, length as usize);
+            let at = queue.claimed as usize;
+            let mut grown = queue;
+            grown.arrays[at] = Region { offset, length };
+            grown.claimed = queue.claimed + 1;
+            next.queue = grown;
+        }
+        Action::Stops { answer: told } => {
+            if !machine::log_answer(words, bench.written, told, log) {
+                return state::refused(bench, Refusal::LogFull);
+            }
+            next.written = bench.written + (3 + words);
+            answer = told;
+        }
+        _ => {}
     }
-    let to = planned.line;
-    done(bench, to, action, made)
+    Returned {
+        bench: next,
+        answer,
+    }
 }

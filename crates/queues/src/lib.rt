@@ -2,8 +2,8 @@
 // a time in the order that the caller chooses. A bench is a value; each call takes it and hands the
 // next one back, beside the store and the log that the caller lends. A call may be handed any state,
 // any numbers and any memory: it is refused where document 01 says so, and then changes nothing.
-// Uses `model`, `answers`, `stages`, `limits`, `memory`, `state`, `opening`, `events`, `machine` and `owner`. It is used by
-// `plays`, `calls`, `exercise` and `pace`.
+// Uses `model`, `answers`, `stages`, `limits`, `memory`, `state`, `waiting`, `opening`, `events`, `machine` and `owner`. It is used
+// by `plays`, `calls`, `exercise` and `pace`.
 ghost use mathlib.Core.Path.{_≡_};
 ghost use mathlib.Core.List.{List};
 ghost use Prim.Native.Nat.{ℕ};
@@ -104,14 +104,18 @@ impl Bench {
         if !limits::valid(next, store, log) {
             return refused(self, Refusal::ForeignState);
         }
-        if delays(next.delayed, worker) {
-            return reply_of(owner::step(next, store, log));
-        }
         let i = machine::place_of(worker);
         let own = next.workers[i];
         let line = own.line;
         let kind = next.kind;
-        let queue = next.queue;
+        let joins = delays(next.delayed, worker);
+        // The owner with delayed stores reads memory with its waiting stores put down.
+        let mut queue = next.queue;
+        let mut kept = [0u32; 8];
+        if joins {
+            queue = waiting::seen(next.queue, next.waiting);
+            kept = waiting::put_down(next.words, next.queue, next.waiting, store);
+        }
         let moved = machine::step_in(
             kind,
             next.width,
@@ -121,6 +125,7 @@ impl Bench {
             next.written,
             worker,
             line,
+            joins,
             store,
             log,
         );
@@ -137,6 +142,9 @@ impl Bench {
                     bench: Bench { state: next },
                     answer: Answer::GoesOn,
                 };
+            }
+            if joins {
+                return reply_of(owner::finish(next, to, made, kept, store, log));
             }
             return reply_of(machine::settled(next, i, to, made));
         };

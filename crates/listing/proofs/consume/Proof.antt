@@ -19,7 +19,7 @@ use Rattle.replies.proofs.Fronts.{back-length}
 use Rattle.replies.proofs.Shows.{shows-none}
 use Rattle.listing.proofs.Stepping.{Stepping, stepping-start, stepping-room, stepping-over, stepping-stops, stepping-on}
 use Rattle.listing.proofs.Consuming.{nothing-open}
-use Rattle.listing.proofs.Standing.{sessionOf, Standing, standing-start, standing-on, standing-over, at-once-by, asked-live, steps-by, reached-of, crew-of, once-of, none-of, valid-front, stepped-front, consumed-so-far, reached-step, reach-over, valid-of, refusal-room}
+use Rattle.listing.proofs.Standing.{sessionOf, Standing, standing-start, standing-on, standing-over, at-once-by, asked-live, steps-by, reached-of, crew-of, once-of, none-of, valid-front, stepped-front, not-full, consumed-so-far, reached-step, reach-over, valid-of, refusal-room}
 use Rattle.listing.proofs.consume.Statement.{statement}
 use Rattle.listing.proofs.consume.Tie as tie
 
@@ -248,8 +248,8 @@ show-requires-2 c κs =
     let to = at-step .step-in .result .line in
     let made = at-step .step-in .result .made in
     let step =
-    stepped-front b (l .long) _ (k .store) (k .log) _ _ i place to made e (at-step .step-in .kept .1 .1 .1 .1 .1 .1 .1 .1 .0) (k .inv .1)
-    (at-step .step-in .ensures .1 (b .delayed) (b .waiting) (b .used) place (b .restarts) (b .workers) (once-of b (l .long) (k .store) (k .log) i (k .inv .1)) (at-place-of .place-of .ensures .1) refl) in
+    stepped-front b (l .long) _ (k .store) (k .log) _ _ i place to made e (at-step .step-in .kept .1 .1 .1 .1 .1 .1 .1 .1 .1 .0) (k .inv .1)
+    (at-step .step-in .ensures .1 .0 refl (b .delayed) (b .waiting) (b .used) place (b .restarts) (b .workers) (once-of b (l .long) (k .store) (k .log) i (k .inv .1)) (at-place-of .place-of .ensures .1) refl) in
     let by = refuses b place to made step _ (c .before .before .made .given .1) in
     stepping-room _ _ _ _ _ _ (k .left) _ _ _ _ (k .inv .0) _ (let z : l .wrote + 256 ≤ length (l .out) = omega (arith, l .inv .0 .fits, l .inv .3, at-if1 .if1 .left) in z) (c .before .before .before .before .before .before .before .before .before .before .before .before .before .before .loop-test .taken)
     by
@@ -282,16 +282,16 @@ lines-again-4 c =
     let to = at-step .step-in .result .line in
     let made = at-step .step-in .result .made in
     let step =
-    stepped-front b (l .long) _ (k .store) (k .log) _ _ i place to made e (at-step .step-in .kept .1 .1 .1 .1 .1 .1 .1 .1 .0) (k .inv .1)
-    (at-step .step-in .ensures .1 (b .delayed) (b .waiting) (b .used) place (b .restarts) (b .workers) (once-of b (l .long) (k .store) (k .log) i (k .inv .1)) (at-place-of .place-of .ensures .1) refl) in
+    stepped-front b (l .long) _ (k .store) (k .log) _ _ i place to made e (at-step .step-in .kept .1 .1 .1 .1 .1 .1 .1 .1 .1 .0) (k .inv .1)
+    (at-step .step-in .ensures .1 .0 refl (b .delayed) (b .waiting) (b .used) place (b .restarts) (b .workers) (once-of b (l .long) (k .store) (k .log) i (k .inv .1)) (at-place-of .place-of .ensures .1) refl) in
     let s = sessionOf (l .live) (l .long) (l .bench) in
     let t = sessionOf (l .live) (l .long) b in
     let why = c .before .before .before .before .before .made .given .0 .0 in
     let by = refuses b place to made step why (c .before .before .before .before .before .made .given .1) in (
       standing-on _ _ s (l .store) (l .log) (l .out) (l .used) (l .wrote) _ _ _ _ _ _ (l .inv .0) (at-line-end .line-end .ensures) (at-if2 .if2 .left) (let z : l .wrote + 256 ≤ length (l .out) = omega (arith, l .inv .0 .fits, l .inv .3, at-if1 .if1 .left) in z) (at-parse .parse .ensures)
           (steps-by s _ _ _ _ _ _ _ _ _ _ _ (sym (at-ask .ask .ensures) ∙ at-asked .asked .given .1) (stepping-stops _ _ _ _ _ _ (k .left) _ _ _ _ (k .inv .0) (c .before .before .before .before .before .before .before .before .before .before .before .before .before .before .before .before .before .loop-test .taken) t (Refused why) _ _ by (k .inv .0 .live) _ _ (c .before .before .show2 .ensures) refl)) refl,
-      back-length (at-span .span .result) (k .store) (at-step .step-in .last .1 .1 .1 .1 .1 .1 .1 .1 .0) (at-step .step-in .kept .1 .1 .1 .1 .1 .1 .1 .1 .0) ∙ k .inv .2 ∙ l .inv .1,
-      at-step .step-in .kept .1 .1 .1 .1 .1 .1 .1 .1 .1 .0 ∙ k .inv .3 ∙ l .inv .2,
+      back-length (at-span .span .result) (k .store) (at-step .step-in .last .1 .1 .1 .1 .1 .1 .1 .1 .1 .0) (at-step .step-in .kept .1 .1 .1 .1 .1 .1 .1 .1 .1 .0) ∙ k .inv .2 ∙ l .inv .1,
+      at-step .step-in .kept .1 .1 .1 .1 .1 .1 .1 .1 .1 .1 .0 ∙ k .inv .3 ∙ l .inv .2,
       c .before .before .show2 .kept .1 .1 .0 ∙ k .inv .4 ∙ l .inv .3,
       l .inv .4,
     )
@@ -340,14 +340,14 @@ loop-again c =
     let to = at-step .step-in .result .line in
     let made = at-step .step-in .result .made in
     let step =
-    stepped-front b (l .long) _ (k .store) (k .log) _ _ i place to made e (at-step .step-in .kept .1 .1 .1 .1 .1 .1 .1 .1 .0) (k .inv .1)
-    (at-step .step-in .ensures .1 (b .delayed) (b .waiting) (b .used) place (b .restarts) (b .workers) (once-of b (l .long) (k .store) (k .log) i (k .inv .1)) (at-place-of .place-of .ensures .1) refl) in
+    stepped-front b (l .long) _ (k .store) (k .log) _ _ i place to made e (at-step .step-in .kept .1 .1 .1 .1 .1 .1 .1 .1 .1 .0) (k .inv .1)
+    (at-step .step-in .ensures .1 .0 refl (b .delayed) (b .waiting) (b .used) place (b .restarts) (b .workers) (once-of b (l .long) (k .store) (k .log) i (k .inv .1)) (at-place-of .place-of .ensures .1) refl) in
     let t = sessionOf (l .live) (l .long) b in
     let by = restarts b place to made step (c .before .before .enum-told4 .given .1) (ap (set (b .restarts) place) (c .one-more .ensures)) in (
       stepping-on _ _ _ _ _ _ (k .left) _ _ _ _ (k .inv .0) (c .before .before .before .before .before .before .before .before .before .before .before .before .before .before .before .loop-test .taken) _ GoesOn _ _ by (k .inv .0 .live) _ _ (shows-none (k .out) (k .wrote)) refl,
       reached-step (worldOf t (k .store) (k .log)) _ _ _ by (k .inv .1),
-      back-length (at-span .span .result) (k .store) (at-step .step-in .last .1 .1 .1 .1 .1 .1 .1 .1 .0) (at-step .step-in .kept .1 .1 .1 .1 .1 .1 .1 .1 .0) ∙ k .inv .2,
-      at-step .step-in .kept .1 .1 .1 .1 .1 .1 .1 .1 .1 .0 ∙ k .inv .3,
+      back-length (at-span .span .result) (k .store) (at-step .step-in .last .1 .1 .1 .1 .1 .1 .1 .1 .1 .0) (at-step .step-in .kept .1 .1 .1 .1 .1 .1 .1 .1 .1 .0) ∙ k .inv .2,
+      at-step .step-in .kept .1 .1 .1 .1 .1 .1 .1 .1 .1 .1 .0 ∙ k .inv .3,
       k .inv .4,
     )
 
@@ -374,8 +374,8 @@ show-requires-3 c κs =
     let to = at-step .step-in .result .line in
     let made = at-step .step-in .result .made in
     let step =
-    stepped-front b (l .long) _ (k .store) (k .log) _ _ i place to made e (at-step .step-in .kept .1 .1 .1 .1 .1 .1 .1 .1 .0) (k .inv .1)
-    (at-step .step-in .ensures .1 (b .delayed) (b .waiting) (b .used) place (b .restarts) (b .workers) (once-of b (l .long) (k .store) (k .log) i (k .inv .1)) (at-place-of .place-of .ensures .1) refl) in
+    stepped-front b (l .long) _ (k .store) (k .log) _ _ i place to made e (at-step .step-in .kept .1 .1 .1 .1 .1 .1 .1 .1 .1 .0) (k .inv .1)
+    (at-step .step-in .ensures .1 .0 refl (b .delayed) (b .waiting) (b .used) place (b .restarts) (b .workers) (once-of b (l .long) (k .store) (k .log) i (k .inv .1)) (at-place-of .place-of .ensures .1) refl) in
     let by = settles b place to made step (c .before .before .settled .ensures) in
     stepping-room _ _ _ _ _ _ (k .left) _ _ _ _ (k .inv .0) _ (let z : l .wrote + 256 ≤ length (l .out) = omega (arith, l .inv .0 .fits, l .inv .3, at-if1 .if1 .left) in z) (c .before .before .before .before .before .before .before .before .before .before .before .before .before .before .before .loop-test .taken)
     by
@@ -400,17 +400,17 @@ loop-again-2 c =
     let to = at-step .step-in .result .line in
     let made = at-step .step-in .result .made in
     let step =
-    stepped-front b (l .long) _ (k .store) (k .log) _ _ i place to made e (at-step .step-in .kept .1 .1 .1 .1 .1 .1 .1 .1 .0) (k .inv .1)
-    (at-step .step-in .ensures .1 (b .delayed) (b .waiting) (b .used) place (b .restarts) (b .workers) (once-of b (l .long) (k .store) (k .log) i (k .inv .1)) (at-place-of .place-of .ensures .1) refl) in
+    stepped-front b (l .long) _ (k .store) (k .log) _ _ i place to made e (at-step .step-in .kept .1 .1 .1 .1 .1 .1 .1 .1 .1 .0) (k .inv .1)
+    (at-step .step-in .ensures .1 .0 refl (b .delayed) (b .waiting) (b .used) place (b .restarts) (b .workers) (once-of b (l .long) (k .store) (k .log) i (k .inv .1)) (at-place-of .place-of .ensures .1) refl) in
     let t = sessionOf (l .live) (l .long) b in
     let done = c .before .before .before .before .before .settled .result in
     let by = settles b place to made step (c .before .before .before .before .before .settled .ensures) in
     let answer = ap (λ (r : Returned). isRefused (r .answer)) (c .before .before .before .before .before .settled .ensures) in
-    let stands = answer ∙ made-not-refused (b .words) (b .queue) (b .written) made (at-step .step-in .ensures .0) (c .before .before .before .before .before .before .before .match4 .keys2) in (
+    let stands = answer ∙ made-not-refused (b .words) (b .queue) (b .written) made (not-full b (l .long) (k .store) (k .log) i (k .inv .1) _ step) (at-step .step-in .ensures .0) (c .before .before .before .before .before .before .before .match4 .keys2) in (
       stepping-on _ _ _ _ _ _ (k .left) _ _ _ _ (k .inv .0) (c .before .before .before .before .before .before .before .before .before .before .before .before .before .before .before .before .before .before .loop-test .taken) (sessionOf (l .live) (l .long) (done .bench)) (done .answer) _ _ by (k .inv .0 .live) _ _ (c .before .before .show3 .ensures) stands,
       reached-step (worldOf t (k .store) (k .log)) _ _ _ by (k .inv .1),
-      back-length (at-span .span .result) (k .store) (at-step .step-in .last .1 .1 .1 .1 .1 .1 .1 .1 .0) (at-step .step-in .kept .1 .1 .1 .1 .1 .1 .1 .1 .0) ∙ k .inv .2,
-      at-step .step-in .kept .1 .1 .1 .1 .1 .1 .1 .1 .1 .0 ∙ k .inv .3,
+      back-length (at-span .span .result) (k .store) (at-step .step-in .last .1 .1 .1 .1 .1 .1 .1 .1 .1 .0) (at-step .step-in .kept .1 .1 .1 .1 .1 .1 .1 .1 .1 .0) ∙ k .inv .2,
+      at-step .step-in .kept .1 .1 .1 .1 .1 .1 .1 .1 .1 .1 .0 ∙ k .inv .3,
       c .before .before .show3 .kept .1 .1 .0 ∙ k .inv .4,
     )
 
@@ -440,14 +440,14 @@ loop-again-3 c =
     let to = at-step .step-in .result .line in
     let made = at-step .step-in .result .made in
     let step =
-    stepped-front b (l .long) _ (k .store) (k .log) _ _ i place to made e (at-step .step-in .kept .1 .1 .1 .1 .1 .1 .1 .1 .0) (k .inv .1)
-    (at-step .step-in .ensures .1 (b .delayed) (b .waiting) (b .used) place (b .restarts) (b .workers) (once-of b (l .long) (k .store) (k .log) i (k .inv .1)) (at-place-of .place-of .ensures .1) refl) in
+    stepped-front b (l .long) _ (k .store) (k .log) _ _ i place to made e (at-step .step-in .kept .1 .1 .1 .1 .1 .1 .1 .1 .1 .0) (k .inv .1)
+    (at-step .step-in .ensures .1 .0 refl (b .delayed) (b .waiting) (b .used) place (b .restarts) (b .workers) (once-of b (l .long) (k .store) (k .log) i (k .inv .1)) (at-place-of .place-of .ensures .1) refl) in
     let t = sessionOf (l .live) (l .long) b in
     let by = replaces b place to made step (c .enum-told3 .given .1) in (
       stepping-on _ _ _ _ _ _ (k .left) _ _ _ _ (k .inv .0) (c .before .before .before .before .before .before .before .before .before .before .before .loop-test .taken) _ GoesOn _ _ by (k .inv .0 .live) _ _ (shows-none (k .out) (k .wrote)) refl,
       reached-step (worldOf t (k .store) (k .log)) _ _ _ by (k .inv .1),
-      back-length (at-span .span .result) (k .store) (at-step .step-in .last .1 .1 .1 .1 .1 .1 .1 .1 .0) (at-step .step-in .kept .1 .1 .1 .1 .1 .1 .1 .1 .0) ∙ k .inv .2,
-      at-step .step-in .kept .1 .1 .1 .1 .1 .1 .1 .1 .1 .0 ∙ k .inv .3,
+      back-length (at-span .span .result) (k .store) (at-step .step-in .last .1 .1 .1 .1 .1 .1 .1 .1 .1 .0) (at-step .step-in .kept .1 .1 .1 .1 .1 .1 .1 .1 .1 .0) ∙ k .inv .2,
+      at-step .step-in .kept .1 .1 .1 .1 .1 .1 .1 .1 .1 .1 .0 ∙ k .inv .3,
       k .inv .4,
     )
 

@@ -68,6 +68,12 @@ add-length-2 c = let h = rw (c .before .before .before .made3 .given .1) at (c .
 replaced-requires-5 : tie.Need-replaced-requires-5
 replaced-requires-5 c κs = search needs
 
+enum-told-5 : tie.Need-enum-told-5
+enum-told-5 c = search needs
+
+refused-requires-2 : tie.Need-refused-requires-2
+refused-requires-2 c κs = search needs
+
 enum-known-made-4 : tie.Need-enum-known-made-4
 enum-known-made-4 c = search needs
 
@@ -115,7 +121,11 @@ returns-7 c = simp (c .before .before .before .before .made3 .given .1, c .repla
 
 returns-8 : tie.Need-returns-8
 unfolding benchAfter answerAfter
-returns-8 c = simp (c .before .before .before .before .made4 .given .1, c .replaced6 .ensures, c .before .before .with-anchor .ensures)
+returns-8 c = simp (c .before .enum-told5 .given .1, c .refused2 .ensures)
+
+returns-9 : tie.Need-returns-9
+unfolding benchAfter answerAfter
+returns-9 c = simp (c .before .before .before .before .made4 .given .1, c .replaced6 .ensures, c .before .before .with-anchor .ensures)
 
 pub settled-spec : {M : Type 1} → statement M
 settled-spec =
@@ -141,6 +151,8 @@ settled-spec =
     add-length
     add-length-2
     replaced-requires-5
+    enum-told-5
+    refused-requires-2
     enum-known-made-4
     with-anchor-requires
     add-length-3
@@ -153,4 +165,5 @@ settled-spec =
     returns-5
     returns-6
     returns-7
-    returns-8)
+    returns-8
+    returns-9)

@@ -1,14 +1,55 @@
-use mathlib.Core.Path.{refl, sym, ap, _∙_}
+use mathlib.Core.Bool.{true≢false}
+use mathlib.Core.Logic.{⊎-elim}
+use mathlib.Core.Path.{refl, sym, ap, subst, _∙_}
+use native.Mathlib.Omega.{arith}
 use lib.ListN.{set}
 use borrow.Author.Needs.{needs}
-use Rattle.model.specs.Calls.{lent, stepIn, stepOf}
+use Rattle.model.specs.Calls.{lent, stepOf}
 use Rattle.model.proofs.Tests.{if-true, if-false, passed, refused}
-use Rattle.machine.proofs.Stepping.{at-once, steppable, settles, restarts, replaces}
+use Rattle.limits.proofs.Waits.{waits-few, waits-noted, waits-placed}
+use Rattle.machine.proofs.Stepping.{settles, restarts, replaces}
+use Rattle.waiting.specs.Places.{KeptBy}
+use Rattle.owner.proofs.Places.{lifts}
 use Rattle.queues.specs.declared.Reply.{Reply}
 use Rattle.queues.specs.Left.{left}
-use Rattle.queues.proofs.Faces.{reply-left, delayed-owner, stores-land}
+use Rattle.queues.proofs.Faces.{reply-left}
+use Rattle.queues.proofs.Looks.{Looks, same-long, steps, lands, fits-past, past-nothing, past-fails, can-finish, finishes}
 use Rattle.queues.proofs.Bench.step.Statement.{statement}
 use Rattle.queues.proofs.Bench.step.Tie as tie
+use Rattle.queues.proofs.Bench.step.Reads as reads
+use Rattle.queues.proofs.Bench.step.Lts as lts
+use Rattle.limits.proofs.valid.Reads as valid-reads
+use Rattle.machine.proofs.place_of.Reads as place-of-reads
+use Rattle.machine.proofs.settled.Reads as settled-reads
+use Rattle.machine.proofs.step_in.Reads as step-in-reads
+use Rattle.owner.proofs.finish.Reads as finish-reads
+use Rattle.queues.proofs.delays.Reads as delays-reads
+use Rattle.queues.proofs.refused.Reads as refused-reads
+use Rattle.queues.proofs.reply_of.Reads as reply-of-reads
+use Rattle.stages.proofs.one_more.Reads as one-more-reads
+use Rattle.waiting.proofs.put_down.Reads as put-down-reads
+use Rattle.waiting.proofs.seen.Reads as seen-reads
+
+-- what the step reads
+looks : (c : lts.Joined2 (valid-reads.Asked, valid-reads.Learnt, refused-reads.Asked, refused-reads.Learnt, place-of-reads.Asked, place-of-reads.Learnt, delays-reads.Asked, delays-reads.Learnt, seen-reads.Asked, seen-reads.Learnt, put-down-reads.Asked, put-down-reads.Learnt, step-in-reads.Asked, step-in-reads.Learnt, one-more-reads.Asked, one-more-reads.Learnt, finish-reads.Asked, finish-reads.Learnt, reply-of-reads.Asked, reply-of-reads.Learnt, settled-reads.Asked, settled-reads.Learnt) reads.Pre reads.Post)
+    → Looks (lent (c .before .before .before .before .before .before .before .before .before .before .before .before .args .self .state) (c .before .before .before .before .before .before .before .before .before .before .before .before .args .store .now) (c .before .before .before .before .before .before .before .before .before .before .before .before .args .log .now)) (c .before .before .delays .result) (c .if2 .queue) (c .if2 .store) (c .if2 .kept)
+looks c =
+    let start = c .before .before .before .before .before .before .before .before .before .before .before .before in
+    let a = start .args in
+    let b = a .self .state in
+    record {
+      past = λ e.
+          ⊎-elim (λ x. absurd (true≢false (sym (x .0 .taken) ∙ e)))
+          (λ x. (x .2, x .1)) (c .if2 .came);
+      own = λ e.
+          ⊎-elim
+          (λ x. (
+            x .11 ∙ x .3 .ensures (b .words) (a .store .now),
+            x .10 ∙ x .7 .ensures .0,
+            subst (KeptBy (b .words) (b .queue) (a .store .now) (b .waiting)) (sym (x .12)) (x .7 .ensures .1),
+          ))
+          (λ x. absurd (true≢false (sym e ∙ x .0 .left))) (c .if2 .came);
+    }
 
 valid-requires : tie.Need-valid-requires
 valid-requires c κs = search needs
@@ -29,36 +70,6 @@ returns c =
     ap (λ (r : Reply). left r (a .store .now) (a .log .now)) (c .refused .ensures)
     ∙ sym (if-false _ (refused (c .before .before .valid .ensures) (c .before .if1 .taken)))
 
-delays-requires : tie.Need-delays-requires
-delays-requires c κs = search needs
-
-step-requires : tie.Need-step-requires
-step-requires c κs =
-    let at-delays = c .before .before .before in
-    let a = at-delays .before .before .before .before .before .before .before .before .args in
-    (delayed-owner (a .self .state .delayed) (a .worker) (at-delays .delays .ensures) (c .before .before .if2 .taken) .0, passed (at-delays .before .before .valid .ensures) (at-delays .before .if1 .left))
-
-reply-of-requires : tie.Need-reply-of-requires
-reply-of-requires c κs = search needs
-
-same-length-3 : tie.Need-same-length-3
-same-length-3 c = search needs
-
-same-length-4 : tie.Need-same-length-4
-same-length-4 c = search needs
-
-returns-2 : tie.Need-returns-2
-unfolding stepOf
-returns-2 c =
-    let at-delays = c .before .before .before .before .before .before .before .before .before in
-    let at-valid = at-delays .before .before in
-    let a = at-valid .before .before .before .before .before .before .args in
-    let W = lent (a .self .state) (a .store .now) (a .log .now) in
-    let owner = delayed-owner (a .self .state .delayed) (a .worker) (at-delays .delays .ensures) (c .before .before .before .before .before .before .before .before .if2 .taken) .1 in
-    reply-left (c .reply-of .ensures) (c .before .before .before .before .before .step .ensures)
-    ∙ ap (stepIn W) (sym owner)
-    ∙ sym (if-true _ (passed (at-valid .valid .ensures) (at-delays .before .if1 .left)))
-
 place-of-requires : tie.Need-place-of-requires
 place-of-requires c κs = search needs
 
@@ -68,16 +79,44 @@ mul-own c = search needs
 element-copy-out-own : tie.Need-element-copy-out-own
 element-copy-out-own c = search needs
 
-step-in-requires : tie.Need-step-in-requires
-step-in-requires c κs =
-    let at-place-of = c .before .before .before .before in
-    let at-valid = at-place-of .before .before .before .before in
+delays-requires : tie.Need-delays-requires
+delays-requires c κs = search needs
+
+seen-requires : tie.Need-seen-requires
+seen-requires c κs =
+    let at-place-of = c .before .before .before .before .before .before in
+    let at-valid = at-place-of .before .before in
     let a = at-valid .before .before .before .before .before .before .args in
     let b = a .self .state in
     let W = lent b (a .store .now) (a .log .now) in
-    let valid = passed (at-valid .valid .ensures) (at-place-of .before .before .before .if1 .left) in
-    let once = at-once W (a .worker) valid (stores-land (b .delayed) (a .worker) (at-place-of .before .before .delays .ensures) (at-place-of .before .if2 .left)) in
-    steppable W (a .worker) _ valid once (at-place-of .place-of .ensures .1)
+    let valid = passed (at-valid .valid .ensures) (at-place-of .before .if1 .left) in
+    let is = c .before .before .before .before .delays .ensures in
+    (waits-few W valid, waits-noted W valid)
+
+put-down-requires : tie.Need-put-down-requires
+put-down-requires c κs =
+    let at-place-of = c .before .before .before .before .before .before .before .before .before .before in
+    let at-valid = at-place-of .before .before in
+    let a = at-valid .before .before .before .before .before .before .args in
+    let b = a .self .state in
+    let W = lent b (a .store .now) (a .log .now) in
+    let valid = passed (at-valid .valid .ensures) (at-place-of .before .if1 .left) in
+    let is = c .before .before .before .before .before .before .before .before .delays .ensures in
+    (lifts W valid refl .wide, (waits-few W valid, waits-placed W valid))
+
+step-in-requires : tie.Need-step-in-requires
+step-in-requires c κs =
+    let at-place-of = c .before .before .before .before .before .before in
+    let at-valid = at-place-of .before .before in
+    let a = at-valid .before .before .before .before .before .before .args in
+    let b = a .self .state in
+    let W = lent b (a .store .now) (a .log .now) in
+    let valid = passed (at-valid .valid .ensures) (at-place-of .before .if1 .left) in
+    let is = c .before .before .before .before .delays .ensures in
+    let k = at-place-of .place-of .result in
+    let at = at-place-of .place-of .ensures .1 in
+    let L = looks (c .before .before) in
+    steps W (a .worker) k valid at is L
 
 enum-told : tie.Need-enum-told
 enum-told c = search needs
@@ -106,8 +145,76 @@ mul-back c = search needs
 element-set-from-back : tie.Need-element-set-from-back
 element-set-from-back c = search needs
 
+same-length-3 : tie.Need-same-length-3
+same-length-3 c =
+    let at-place-of = c .before .before .before .before .before .before .before .before .before .before .before .before .before .before .before .before in
+    let at-valid = at-place-of .before .before in
+    let a = at-valid .before .before .before .before .before .before .args in
+    let b = a .self .state in
+    let W = lent b (a .store .now) (a .log .now) in
+    let valid = passed (at-valid .valid .ensures) (at-place-of .before .if1 .left) in
+    let is = c .before .before .before .before .before .before .before .before .before .before .before .before .before .before .delays .ensures in
+    let k = at-place-of .place-of .result in
+    let at = at-place-of .place-of .ensures .1 in
+    let L = looks (c .before .before .before .before .before .before .before .before .before .before .before .before) in
+    c .before .before .before .before .before .before .before .before .before .step-in .kept .1 .1 .1 .1 .1 .1 .1 .1 .1 .0 ∙ same-long W (a .worker) k valid at is L
+
+same-length-4 : tie.Need-same-length-4
+same-length-4 c = search needs
+
+returns-2 : tie.Need-returns-2
+unfolding stepOf
+returns-2 c =
+    let at-place-of = c .before .before .before .before .before .before .before .before .before .before .before .before .before .before .before .before in
+    let at-valid = at-place-of .before .before in
+    let a = at-valid .before .before .before .before .before .before .args in
+    let b = a .self .state in
+    let W = lent b (a .store .now) (a .log .now) in
+    let valid = passed (at-valid .valid .ensures) (at-place-of .before .if1 .left) in
+    let is = c .before .before .before .before .before .before .before .before .before .before .before .before .before .before .delays .ensures in
+    let k = at-place-of .place-of .result in
+    let at = at-place-of .place-of .ensures .1 in
+    let L = looks (c .before .before .before .before .before .before .before .before .before .before .before .before) in
+    let at-step = c .before .before .before .before .before .before .before .before .before in
+    let got = at-step .step-in .ensures in
+    let made = c .before .before .enum-told2 .given .1 in
+    let step = lands W (a .worker) k valid at is L (at-step .step-in .result .line) (at-step .step-in .result .made) (got .1 .0) (past-fails W (a .worker) k valid at is L (got .1 .1 .0) made) in
+    restarts b k (at-step .step-in .result .line) (at-step .step-in .result .made) step made (ap (set (b .restarts) k) (c .one-more .ensures))
+    ∙ sym (if-true _ valid)
+
+finish-requires : tie.Need-finish-requires
+finish-requires c κs =
+    let at-place-of = c .before .before .before .before .before .before .before .before .before .before .before .before .before .before .before .before in
+    let at-valid = at-place-of .before .before in
+    let a = at-valid .before .before .before .before .before .before .args in
+    let b = a .self .state in
+    let W = lent b (a .store .now) (a .log .now) in
+    let valid = passed (at-valid .valid .ensures) (at-place-of .before .if1 .left) in
+    let is = c .before .before .before .before .before .before .before .before .before .before .before .before .before .before .delays .ensures in
+    let k = at-place-of .place-of .result in
+    let at = at-place-of .place-of .ensures .1 in
+    let L = looks (c .before .before .before .before .before .before .before .before .before .before .before .before) in
+    let at-step = c .before .before .before .before .before .before .before .before .before in
+    let got = at-step .step-in .ensures in
+    let (d, l, f) = can-finish W (a .worker) k valid at is L (got .1 .1 .0) (got .1 .1 .1) (c .before .before .if3 .taken) in
+    (d, (l, f))
+
+reply-of-requires : tie.Need-reply-of-requires
+reply-of-requires c κs = search needs
+
 same-length-5 : tie.Need-same-length-5
-same-length-5 c = search needs
+same-length-5 c =
+    let at-place-of = c .before .before .before .before .before .before .before .before .before .before .before .before .before .before .before .before .before .before .before .before .before .before in
+    let at-valid = at-place-of .before .before in
+    let a = at-valid .before .before .before .before .before .before .args in
+    let b = a .self .state in
+    let W = lent b (a .store .now) (a .log .now) in
+    let valid = passed (at-valid .valid .ensures) (at-place-of .before .if1 .left) in
+    let is = c .before .before .before .before .before .before .before .before .before .before .before .before .before .before .before .before .before .before .before .before .delays .ensures in
+    let k = at-place-of .place-of .result in
+    let at = at-place-of .place-of .ensures .1 in
+    let L = looks (c .before .before .before .before .before .before .before .before .before .before .before .before .before .before .before .before .before .before) in
+    c .before .before .before .before .before .finish .kept .1 .1 .1 .1 .0 ∙ c .before .before .before .before .before .before .before .before .before .before .before .before .before .before .before .step-in .kept .1 .1 .1 .1 .1 .1 .1 .1 .1 .0 ∙ same-long W (a .worker) k valid at is L
 
 same-length-6 : tie.Need-same-length-6
 same-length-6 c = search needs
@@ -115,27 +222,53 @@ same-length-6 c = search needs
 returns-3 : tie.Need-returns-3
 unfolding stepOf
 returns-3 c =
-    let at-place-of = c .before .before .before .before .before .before .before .before .before .before .before .before .before .before in
-    let at-valid = at-place-of .before .before .before .before in
+    let at-place-of = c .before .before .before .before .before .before .before .before .before .before .before .before .before .before .before .before .before .before .before .before .before .before in
+    let at-valid = at-place-of .before .before in
     let a = at-valid .before .before .before .before .before .before .args in
     let b = a .self .state in
     let W = lent b (a .store .now) (a .log .now) in
-    let valid = passed (at-valid .valid .ensures) (at-place-of .before .before .before .if1 .left) in
-    let once = at-once W (a .worker) valid (stores-land (b .delayed) (a .worker) (at-place-of .before .before .delays .ensures) (at-place-of .before .if2 .left)) in
-    let at-step = c .before .before .before .before .before .before .before .before .before in
+    let valid = passed (at-valid .valid .ensures) (at-place-of .before .if1 .left) in
+    let is = c .before .before .before .before .before .before .before .before .before .before .before .before .before .before .before .before .before .before .before .before .delays .ensures in
     let k = at-place-of .place-of .result in
-    let step = at-step .step-in .ensures .1 (b .delayed) (b .waiting) (b .used) k (b .restarts) (b .workers) once (at-place-of .place-of .ensures .1) refl in
-    restarts b k (at-step .step-in .result .line) (at-step .step-in .result .made) step (c .before .before .enum-told2 .given .1) (ap (set (b .restarts) k) (c .one-more .ensures))
+    let at = at-place-of .place-of .ensures .1 in
+    let L = looks (c .before .before .before .before .before .before .before .before .before .before .before .before .before .before .before .before .before .before) in
+    let at-step = c .before .before .before .before .before .before .before .before .before .before .before .before .before .before .before in
+    let got = at-step .step-in .ensures in
+    reply-left (c .reply-of .ensures) (finishes W (a .worker) k valid at is L (got .1 .1 .0) (got .1 .1 .1) (c .before .before .before .before .before .before .before .before .if3 .taken) (c .before .before .before .before .before .finish .ensures))
     ∙ sym (if-true _ valid)
 
 settled-requires : tie.Need-settled-requires
-settled-requires c κs = search needs
+settled-requires c κs =
+    let at-place-of = c .before .before .before .before .before .before .before .before .before .before .before .before .before .before in
+    let at-valid = at-place-of .before .before in
+    let a = at-valid .before .before .before .before .before .before .args in
+    let b = a .self .state in
+    let W = lent b (a .store .now) (a .log .now) in
+    let valid = passed (at-valid .valid .ensures) (at-place-of .before .if1 .left) in
+    let is = c .before .before .before .before .before .before .before .before .before .before .before .before .delays .ensures in
+    let k = at-place-of .place-of .result in
+    let at = at-place-of .place-of .ensures .1 in
+    let L = looks (c .before .before .before .before .before .before .before .before .before .before) in
+    let at-step = c .before .before .before .before .before .before .before in
+    let got = at-step .step-in .ensures in
+    (omega (arith, at-place-of .place-of .ensures .0), fits-past W (a .worker) k valid at is L (at-step .step-in .result .made) (got .0) (c .if3 .left))
 
 reply-of-requires-2 : tie.Need-reply-of-requires-2
 reply-of-requires-2 c κs = search needs
 
 same-length-7 : tie.Need-same-length-7
-same-length-7 c = search needs
+same-length-7 c =
+    let at-place-of = c .before .before .before .before .before .before .before .before .before .before .before .before .before .before .before .before in
+    let at-valid = at-place-of .before .before in
+    let a = at-valid .before .before .before .before .before .before .args in
+    let b = a .self .state in
+    let W = lent b (a .store .now) (a .log .now) in
+    let valid = passed (at-valid .valid .ensures) (at-place-of .before .if1 .left) in
+    let is = c .before .before .before .before .before .before .before .before .before .before .before .before .before .before .delays .ensures in
+    let k = at-place-of .place-of .result in
+    let at = at-place-of .place-of .ensures .1 in
+    let L = looks (c .before .before .before .before .before .before .before .before .before .before .before .before) in
+    c .before .before .before .before .before .before .before .before .before .step-in .kept .1 .1 .1 .1 .1 .1 .1 .1 .1 .0 ∙ same-long W (a .worker) k valid at is L
 
 same-length-8 : tie.Need-same-length-8
 same-length-8 c = search needs
@@ -143,27 +276,41 @@ same-length-8 c = search needs
 returns-4 : tie.Need-returns-4
 unfolding stepOf
 returns-4 c =
-    let at-place-of = c .before .before .before .before .before .before .before .before .before .before .before .before .before in
-    let at-valid = at-place-of .before .before .before .before in
+    let at-place-of = c .before .before .before .before .before .before .before .before .before .before .before .before .before .before .before .before in
+    let at-valid = at-place-of .before .before in
     let a = at-valid .before .before .before .before .before .before .args in
     let b = a .self .state in
     let W = lent b (a .store .now) (a .log .now) in
-    let valid = passed (at-valid .valid .ensures) (at-place-of .before .before .before .if1 .left) in
-    let once = at-once W (a .worker) valid (stores-land (b .delayed) (a .worker) (at-place-of .before .before .delays .ensures) (at-place-of .before .if2 .left)) in
-    let at-step = c .before .before .before .before .before .before .before .before in
+    let valid = passed (at-valid .valid .ensures) (at-place-of .before .if1 .left) in
+    let is = c .before .before .before .before .before .before .before .before .before .before .before .before .before .before .delays .ensures in
     let k = at-place-of .place-of .result in
-    let step = at-step .step-in .ensures .1 (b .delayed) (b .waiting) (b .used) k (b .restarts) (b .workers) once (at-place-of .place-of .ensures .1) refl in
+    let at = at-place-of .place-of .ensures .1 in
+    let L = looks (c .before .before .before .before .before .before .before .before .before .before .before .before) in
+    let at-step = c .before .before .before .before .before .before .before .before .before in
+    let got = at-step .step-in .ensures in
+    let step = lands W (a .worker) k valid at is L (at-step .step-in .result .line) (at-step .step-in .result .made) (got .1 .0) (c .before .before .if3 .left) in
     reply-left (c .reply-of2 .ensures) (settles b k (at-step .step-in .result .line) (at-step .step-in .result .made) step (c .before .settled .ensures))
     ∙ sym (if-true _ valid)
 
-mul-t31 : tie.Need-mul-t31
-mul-t31 c = search needs
+mul-t26 : tie.Need-mul-t26
+mul-t26 c = search needs
 
 element-set-from-next : tie.Need-element-set-from-next
 element-set-from-next c = search needs
 
 same-length-9 : tie.Need-same-length-9
-same-length-9 c = search needs
+same-length-9 c =
+    let at-place-of = c .before .before .before .before .before .before .before .before .before .before .before .before .before in
+    let at-valid = at-place-of .before .before in
+    let a = at-valid .before .before .before .before .before .before .args in
+    let b = a .self .state in
+    let W = lent b (a .store .now) (a .log .now) in
+    let valid = passed (at-valid .valid .ensures) (at-place-of .before .if1 .left) in
+    let is = c .before .before .before .before .before .before .before .before .before .before .before .delays .ensures in
+    let k = at-place-of .place-of .result in
+    let at = at-place-of .place-of .ensures .1 in
+    let L = looks (c .before .before .before .before .before .before .before .before .before) in
+    c .before .before .before .before .before .before .step-in .kept .1 .1 .1 .1 .1 .1 .1 .1 .1 .0 ∙ same-long W (a .worker) k valid at is L
 
 same-length-10 : tie.Need-same-length-10
 same-length-10 c = search needs
@@ -171,17 +318,21 @@ same-length-10 c = search needs
 returns-5 : tie.Need-returns-5
 unfolding stepOf
 returns-5 c =
-    let at-place-of = c .before .before .before .before .before .before .before .before .before .before .before in
-    let at-valid = at-place-of .before .before .before .before in
+    let at-place-of = c .before .before .before .before .before .before .before .before .before .before .before .before .before in
+    let at-valid = at-place-of .before .before in
     let a = at-valid .before .before .before .before .before .before .args in
     let b = a .self .state in
     let W = lent b (a .store .now) (a .log .now) in
-    let valid = passed (at-valid .valid .ensures) (at-place-of .before .before .before .if1 .left) in
-    let once = at-once W (a .worker) valid (stores-land (b .delayed) (a .worker) (at-place-of .before .before .delays .ensures) (at-place-of .before .if2 .left)) in
-    let at-step = c .before .before .before .before .before .before in
+    let valid = passed (at-valid .valid .ensures) (at-place-of .before .if1 .left) in
+    let is = c .before .before .before .before .before .before .before .before .before .before .before .delays .ensures in
     let k = at-place-of .place-of .result in
-    let step = at-step .step-in .ensures .1 (b .delayed) (b .waiting) (b .used) k (b .restarts) (b .workers) once (at-place-of .place-of .ensures .1) refl in
-    replaces b k (at-step .step-in .result .line) (at-step .step-in .result .made) step (c .enum-told .given .1)
+    let at = at-place-of .place-of .ensures .1 in
+    let L = looks (c .before .before .before .before .before .before .before .before .before) in
+    let at-step = c .before .before .before .before .before .before in
+    let got = at-step .step-in .ensures in
+    let made = c .enum-told .given .1 in
+    let step = lands W (a .worker) k valid at is L (at-step .step-in .result .line) (at-step .step-in .result .made) (got .1 .0) (past-nothing W (a .worker) k valid at is L (got .1 .1 .0) made) in
+    replaces b k (at-step .step-in .result .line) (at-step .step-in .result .made) step made
     ∙ sym (if-true _ valid)
 
 pub step-spec : {M : Type 1} → statement M
@@ -193,15 +344,12 @@ step-spec =
     same-length
     same-length-2
     returns
-    delays-requires
-    step-requires
-    reply-of-requires
-    same-length-3
-    same-length-4
-    returns-2
     place-of-requires
     mul-own
     element-copy-out-own
+    delays-requires
+    seen-requires
+    put-down-requires
     step-in-requires
     enum-told
     enum-told-2
@@ -212,6 +360,11 @@ step-spec =
     element-write-next
     mul-back
     element-set-from-back
+    same-length-3
+    same-length-4
+    returns-2
+    finish-requires
+    reply-of-requires
     same-length-5
     same-length-6
     returns-3
@@ -220,7 +373,7 @@ step-spec =
     same-length-7
     same-length-8
     returns-4
-    mul-t31
+    mul-t26
     element-set-from-next
     same-length-9
     same-length-10
