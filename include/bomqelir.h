@@ -12,8 +12,12 @@
 #include <stdint.h>
 
 /* Rises by one with every change to what this header declares or promises, so
- * that a caller can ask for what it needs: #if BOMQELIR_VERSION < 2 ... */
-#define BOMQELIR_VERSION 2
+ * that a caller can ask for what it needs: #if BOMQELIR_VERSION < 3 ...
+ *
+ *     2  bomqelir_judge_words, for 1 to 4 payload words
+ *     3  entries of kind 5 are passed over; before, a log with one was not
+ *        accepted */
+#define BOMQELIR_VERSION 3
 
 /* What the judge answers for a log that it can't judge, and for one that it does
  * not accept. 16 comes before 15 and 15 before 14: what is too long is answered
@@ -28,11 +32,12 @@
  * lowest first; with the put numbers that are said to be stored still, four
  * bytes each in the same order.
  *
- * Accepts exactly when kinds are 1 to 4, the numbers of kinds 1 (put finished)
+ * Accepts exactly when kinds are 1 to 5, the numbers of kinds 1 (put finished)
  * and 4 (FULL) together strictly rise, each hand-out (kind 2) repeats number
  * and all payload words of an earlier finished put, and each finished put is
- * handed out or listed. Answers BOMQELIR_NO for a log that is not accepted, and
- * else
+ * handed out or listed. Of EMPTY (kind 3) and of a commit, which grew the array
+ * (kind 5), the other words are not looked at. Answers BOMQELIR_NO for a log
+ * that is not accepted, and else
  *
  *     2^32 + 65,536 * hand-outs + repeats
  *

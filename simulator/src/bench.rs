@@ -1,6 +1,6 @@
 //! The bench: one of the three machines and a crew, and the calls fresh, begin,
-//! step, drop_link, drain and who with their refusals in order. Store and log are
-//! lent to it; the log is kept by whoever steps.
+//! step, drop_link, drain, ask, drop_ask and who with their refusals in order.
+//! Store and log are lent to it; the log is kept by whoever steps.
 
 use crate::double_ended::DoubleEnded;
 use crate::fifo::Fifo;
@@ -49,6 +49,8 @@ pub enum Operation {
     Put { payload: Payload },
     Take,
     Steal,
+    /// X1 to X4 alone, with the words that an ask has set aside.
+    Commit,
 }
 
 pub struct Bench {
@@ -115,6 +117,8 @@ impl Bench {
                     machine.begin_put(self.numbers_used, payload);
                     return Ok(Some(self.numbers_used));
                 }
+                Operation::Commit if machine.store().aside() == 0 => return Err(refusal::NO_ASK),
+                Operation::Commit => machine.begin_commit(),
                 Operation::Take => machine.begin_take(),
                 Operation::Steal => machine.begin_steal(worker as usize),
             }
@@ -159,6 +163,49 @@ impl Bench {
         }
     }
 
+    /// Ask and drop of an ask are the idle owner's: 6, 9, 7.
+    fn idle_owner(&self, worker: u32) -> Result<(), u32> {
+        if worker >= self.crew {
+            return Err(refusal::NO_SUCH_WORKER);
+        }
+        if worker != 0 {
+            return Err(refusal::WRONG_HAND);
+        }
+        if with_queue!(&self.queue, machine => machine.busy(0)) {
+            return Err(refusal::BUSY);
+        }
+        Ok(())
+    }
+
+    fn store_mut(&mut self) -> &mut Store {
+        with_queue!(&mut self.queue, machine => machine.store_mut())
+    }
+
+    /// Sets as many words aside as an array of twice the size takes.
+    pub fn ask(&mut self, worker: u32) -> Result<(), u32> {
+        self.idle_owner(worker)?;
+        let store = self.store_mut();
+        if store.aside() > 0 {
+            return Err(refusal::ASK_STANDS);
+        }
+        if store.set_aside() {
+            Ok(())
+        } else {
+            Err(refusal::NO_ROOM_TO_GROW)
+        }
+    }
+
+    /// Gives the words set aside back.
+    pub fn drop_ask(&mut self, worker: u32) -> Result<(), u32> {
+        self.idle_owner(worker)?;
+        let store = self.store_mut();
+        if store.aside() == 0 {
+            return Err(refusal::NO_ASK);
+        }
+        store.give_back();
+        Ok(())
+    }
+
     /// How often `worker` was beaten.
     pub fn who(&self, worker: u32) -> Result<u32, u32> {
         if worker >= self.crew {
@@ -197,6 +244,7 @@ impl Bench {
             restarts: &self.restarts,
             store: self.store(),
             copying: with_queue!(&self.queue, machine => machine.copying()),
+            commits: with_queue!(&self.queue, machine => machine.commits()),
         }
     }
 
@@ -292,7 +340,7 @@ mod tests {
     fn begin_refuses_in_the_order_6_9_7_10() {
         let mut bench = Bench::fresh(LIFO, &mut vec![0; 2]).unwrap();
         // The worker after the last one is in no crew, whatever it is told.
-        for operation in [PUT, Operation::Take, Operation::Steal] {
+        for operation in [PUT, Operation::Take, Operation::Steal, Operation::Commit] {
             assert_eq!(bench.begin(2, operation), Err(6));
         }
         assert_eq!(bench.begin(1, Operation::Steal), Ok(None));
@@ -470,7 +518,10 @@ mod tests {
                 let answers = benches.each_mut().map(|bench| {
                     if bench.place(worker) == Some(Place::Idle) {
                         let operation = match worker {
-                            0 if draw < 60 => PUT,
+                            0 if draw < 50 => PUT,
+                            0 if draw < 60 => Operation::Commit,
+                            0 if draw < 66 => return Err(bench.ask(worker).map(|()| None)),
+                            0 if draw < 68 => return Err(bench.drop_ask(worker).map(|()| None)),
                             0 => Operation::Take,
                             _ => Operation::Steal,
                         };
@@ -489,6 +540,7 @@ mod tests {
                 assert_eq!(one.restarts(), other.restarts());
                 assert_eq!(one.store().words(), other.store().words());
                 assert_eq!(one.store().published(), other.store().published());
+                assert_eq!(one.store().aside(), other.store().aside());
                 assert!(one.window().eq(other.window()));
             }
         }
@@ -515,19 +567,198 @@ mod tests {
                     bench.drain().ok();
                 } else if bench.place(worker) == Some(Place::Idle) {
                     let operation = match worker {
+                        0 if bench.store().aside() > 0 && random.chance(30) => Operation::Commit,
                         0 if random.chance(60) => PUT,
                         0 => Operation::Take,
                         _ => Operation::Steal,
                     };
                     bench.begin(worker, operation).unwrap();
+                    bench.ask(0).ok();
                 } else {
                     bench.step(worker, true, &mut Blind);
+                    if random.chance(3) {
+                        bench.ask(0).ok();
+                    }
                 }
                 let settled = Memory::of_owner(shape.kind, &bench.shown());
                 assert_eq!(bench.window().collect::<Vec<_>>(), settled.window(), "round {round}");
                 assert_eq!(bench.full(), settled.count() == settled.size());
+                if bench.place(0) == Some(Place::Idle) && bench.store().aside() == 0 {
+                    let next = bench.store().next_array().map(|array| bench.store().length(array));
+                    assert_eq!(next, settled.doubled());
+                }
             }
         }
+    }
+
+    /// The steps that a commit takes from the bench as it is, and what the last one
+    /// answered.
+    fn commit(bench: &mut Bench) -> (u32, Outcome) {
+        assert_eq!(bench.begin(0, Operation::Commit), Ok(None));
+        let mut steps = 1;
+        loop {
+            let outcome = bench.step(0, true, &mut Blind);
+            if outcome != Outcome::GoesOn {
+                return (steps, outcome);
+            }
+            steps += 1;
+        }
+    }
+
+    #[test]
+    fn ask_and_drop_refuse_in_the_order_6_9_7_21_20_22() {
+        for kind in 1..=5 {
+            for payload_words in 1..=4 {
+                let shape = Shape { kind, payload_words, ..LIFO };
+                let each = payload_words + 1;
+                let mut bench = Bench::fresh(shape, &mut vec![9; 3 * each as usize]).unwrap();
+                for worker in [2, 8, 256, u32::MAX] {
+                    assert_eq!([bench.ask(worker), bench.drop_ask(worker)], [Err(6); 2]);
+                }
+                assert_eq!([bench.ask(1), bench.drop_ask(1)], [Err(9); 2]);
+                assert_eq!(bench.begin(1, Operation::Commit), Err(9));
+                bench.begin(1, Operation::Steal).unwrap();
+                assert_eq!([bench.ask(1), bench.drop_ask(1)], [Err(9); 2], "9 before 7");
+                assert_eq!((bench.drop_ask(0), bench.begin(0, Operation::Commit)), (Err(22), Err(22)));
+                bench.begin(0, Operation::Take).unwrap();
+                // Busy, with none set aside; 7 comes before 22.
+                assert_eq!([bench.ask(0), bench.drop_ask(0)], [Err(7); 2]);
+                assert_eq!(bench.begin(0, Operation::Commit), Err(7));
+                steps(&mut bench, 0, 3);
+                assert_eq!(bench.ask(0), Ok(()));
+                assert_eq!(bench.store().aside(), 2 * each);
+                assert_eq!(bench.ask(0), Err(21));
+                bench.begin(0, Operation::Take).unwrap();
+                assert_eq!([bench.ask(0), bench.drop_ask(0)], [Err(7); 2], "7 before 21");
+                assert_eq!(bench.begin(0, Operation::Commit), Err(7));
+                steps(&mut bench, 0, 3);
+                assert_eq!([bench.drop_ask(0), bench.drop_ask(0), bench.ask(0)], [Ok(()), Err(22), Ok(())]);
+                let copies = if matches!(kind, 1 | 4) { 1 } else { 0 };
+                assert_eq!(commit(&mut bench), (3 + copies, Outcome::Committed));
+                assert_eq!(bench.store().aside(), 0);
+                assert_eq!(bench.ask(0), Err(20), "no words are left");
+                bench.begin(0, PUT).unwrap();
+                assert_eq!(bench.ask(0), Err(7), "7 before 20");
+            }
+        }
+    }
+
+    #[test]
+    fn an_ask_is_refused_20_exactly_where_x1_would_answer_full() {
+        for words in 2..=64 {
+            for kind in 1..=5 {
+                let mut bench = Bench::fresh(of_kind(kind), &mut vec![0; words]).unwrap();
+                loop {
+                    let room = bench.ask(0).is_ok();
+                    bench.drop_ask(0).ok();
+                    // Fill the array, and one put more.
+                    while !bench.full() {
+                        bench.begin(0, PUT).unwrap();
+                        while bench.step(0, true, &mut Blind) == Outcome::GoesOn {}
+                    }
+                    bench.begin(0, PUT).unwrap();
+                    let mut outcome = Outcome::GoesOn;
+                    while outcome == Outcome::GoesOn {
+                        outcome = bench.step(0, true, &mut Blind);
+                    }
+                    assert_eq!(outcome == Outcome::Published, room, "{words} words");
+                    if !room {
+                        assert!(matches!(outcome, Outcome::Full(_)));
+                        break;
+                    }
+                    while bench.step(0, true, &mut Blind) == Outcome::GoesOn {}
+                }
+            }
+        }
+        // The words would suffice, the size would not.
+        for kind in 1..=5 {
+            let shape = Shape { size: 1024, ..of_kind(kind) };
+            assert_eq!(Bench::fresh(shape, &mut vec![0; 10_300]).unwrap().ask(0), Err(20));
+            let shape = Shape { size: 512, ..of_kind(kind) };
+            assert_eq!(Bench::fresh(shape, &mut vec![0; 3071]).unwrap().ask(0), Err(20));
+            let mut bench = Bench::fresh(shape, &mut vec![0; 3072]).unwrap();
+            assert_eq!(bench.ask(0), Ok(()));
+            assert_eq!(commit(&mut bench).1, Outcome::Committed);
+            assert_eq!(bench.ask(0), Err(20));
+        }
+    }
+
+    #[test]
+    fn a_commit_with_a_full_log_and_a_full_line() {
+        for kind in 1..=5 {
+            for delayed in [false, true] {
+                let shape = Shape { delayed, size: 2, ..of_kind(kind) };
+                let mut bench = Bench::fresh(shape, &mut vec![0; 12]).unwrap();
+                bench.begin(0, PUT).unwrap();
+                until_refused(&mut bench);
+                bench.ask(0).unwrap();
+                bench.begin(0, Operation::Commit).unwrap();
+                // X1, X2 and the copies end nothing.
+                let copies = if matches!(kind, 1 | 4) { 2 } else { 1 };
+                for _ in 0..2 + copies {
+                    let outcome = bench.step(0, false, &mut Blind);
+                    assert_eq!(outcome, Outcome::GoesOn);
+                }
+                let waiting = if delayed { 3 + 2 * copies } else { 0 };
+                assert_eq!(bench.store().line().stores().len(), waiting);
+                assert_eq!(bench.step(0, false, &mut Blind), Outcome::Refused(11));
+                assert_eq!(bench.step(0, true, &mut Blind), Outcome::Committed);
+                assert_eq!(bench.step(0, true, &mut Blind), Outcome::Refused(8));
+                let published = if delayed { 1 } else { 2 };
+                assert_eq!(bench.store().published(), published, "the note waits");
+            }
+        }
+        // Eight wait before X4: six of two puts and two of a copy.
+        let shape = Shape { delayed: true, size: 2, ..of_kind(3) };
+        let mut bench = Bench::fresh(shape, &mut vec![0; 12]).unwrap();
+        for _ in 0..2 {
+            bench.begin(0, PUT).unwrap();
+            until_refused(&mut bench);
+        }
+        bench.begin(1, Operation::Steal).unwrap();
+        bench.ask(0).unwrap();
+        bench.begin(0, Operation::Commit).unwrap();
+        for _ in 0..3 {
+            assert_eq!(bench.step(0, true, &mut Blind), Outcome::GoesOn);
+        }
+        assert_eq!(bench.step(0, true, &mut Blind), Outcome::Refused(18), "the second copy");
+        bench.drain().unwrap();
+        assert_eq!(bench.step(0, true, &mut Blind), Outcome::Refused(18));
+        bench.drain().unwrap();
+        assert_eq!(bench.step(0, true, &mut Blind), Outcome::GoesOn);
+        assert_eq!(bench.step(0, false, &mut Blind), Outcome::Refused(18), "18 before 11");
+        bench.drain().unwrap();
+        assert_eq!(bench.step(0, false, &mut Blind), Outcome::Refused(11));
+        assert_eq!(bench.step(0, true, &mut Blind), Outcome::Committed);
+    }
+
+    #[test]
+    fn a_put_that_must_grow_uses_the_words_set_aside() {
+        for kind in 1..=5 {
+            let mut bench = Bench::fresh(of_kind(kind), &mut vec![0; 6]).unwrap();
+            bench.ask(0).unwrap();
+            for number in 1..=2 {
+                bench.begin(0, PUT).unwrap();
+                loop {
+                    let outcome = bench.step(0, true, &mut Blind);
+                    let claimed = bench.store().arrays().len() == 2;
+                    assert_eq!(bench.store().aside(), if claimed { 0 } else { 4 });
+                    if !matches!(outcome, Outcome::GoesOn | Outcome::Published) {
+                        assert_eq!(outcome, Outcome::Finished(Task([number, 5, 0, 0, 0])));
+                        break;
+                    }
+                }
+            }
+            assert_eq!(bench.begin(0, Operation::Commit), Err(22), "the ask is gone");
+            assert_eq!(bench.drop_ask(0), Err(22));
+            assert_eq!(bench.ask(0), Err(20));
+            assert_eq!(bench.numbers_used(), 2);
+        }
+    }
+
+    /// A bench of one task and two workers.
+    fn of_kind(kind: u32) -> Shape {
+        Shape { kind, ..LIFO }
     }
 
     /// Hears of line 1 alone.
@@ -564,8 +795,11 @@ mod tests {
                     assert_eq!(bench.drop_link(worker).is_ok(), held[at]);
                     held[at] = false;
                 }
+                // Asks and commits write no anchor.
+                bench.ask(0).ok();
                 if bench.place(worker) == Some(Place::Idle) {
                     let operation = match worker {
+                        0 if bench.store().aside() > 0 && random.chance(20) => Operation::Commit,
                         0 if random.chance(60) => PUT,
                         0 => Operation::Take,
                         _ => Operation::Steal,

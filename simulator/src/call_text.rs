@@ -24,6 +24,9 @@ pub enum Call {
     Drop { worker: u32 },
     /// The event: the oldest waiting store is put down.
     Drain,
+    /// Words are set aside for an array of twice the size, and given back.
+    Ask { worker: u32 },
+    Unask { worker: u32 },
     Who { worker: u32 },
     Front,
     State,
@@ -65,9 +68,14 @@ pub fn parse(line: &[u8]) -> Option<Line> {
         [b"begin", worker, b"steal"] => {
             Call::Begin { worker: number(worker)?, operation: Operation::Steal }
         }
+        [b"begin", worker, b"commit"] => {
+            Call::Begin { worker: number(worker)?, operation: Operation::Commit }
+        }
         [b"step", worker, count] => Call::Step { worker: number(worker)?, count: number(count)? },
         [b"drop", worker] => Call::Drop { worker: number(worker)? },
         [b"drain"] => Call::Drain,
+        [b"ask", worker] => Call::Ask { worker: number(worker)? },
+        [b"unask", worker] => Call::Unask { worker: number(worker)? },
         [b"who", worker] => Call::Who { worker: number(worker)? },
         [b"front"] => Call::Front,
         [b"state"] => Call::State,
@@ -102,6 +110,9 @@ mod tests {
         assert_eq!(parse(b"begin 0 put 65 66 67 68"), put([65, 66, 67, 68]));
         assert_eq!(parse(b"begin 0 take"), begin(0, Operation::Take));
         assert_eq!(parse(b"begin 7 steal"), begin(7, Operation::Steal));
+        assert_eq!(parse(b"begin 0 commit"), begin(0, Operation::Commit));
+        assert_eq!(parse(b"ask 0"), Some(Line::Call(Call::Ask { worker: 0 })));
+        assert_eq!(parse(b"unask 7"), Some(Line::Call(Call::Unask { worker: 7 })));
         assert_eq!(parse(b"step 0 0"), Some(Line::Call(Call::Step { worker: 0, count: 0 })));
         assert_eq!(parse(b"drop 7"), Some(Line::Call(Call::Drop { worker: 7 })));
         assert_eq!(parse(b"drain"), Some(Line::Call(Call::Drain)));
@@ -118,6 +129,9 @@ mod tests {
             "begin 4294967295 put 4294967295 4294967295 4294967295 4294967295",
             "begin 4294967295 take",
             "begin 4294967295 steal",
+            "begin 4294967295 commit",
+            "ask 4294967295",
+            "unask 4294967295",
             "step 4294967295 4294967295",
             "drop 4294967295",
             "who 4294967295",
@@ -145,13 +159,16 @@ mod tests {
             "fresh 1 1 1 1 1 x", "fresh 1 1 1 1 1 ", "fresh 1 1 1 1 1 1 1", "drain 0", "drain ", "drains", "Drain", "begin 0 drain",
             "begin 0", "begin 0 put",
             "begin 0 put ", "begin 0 put 1 ", "begin 0 put 1 2 3 4 5", "begin 0 put 1 x", "begin put 1",
-            "begin 0 take 1", "begin 1 steal 1", "begin 0 commit", "step 0", "step 0 1 1",
+            "begin 0 take 1", "begin 1 steal 1", "begin 0 commit 3", "begin 0 commit ", "begin commit", "begin 0 Commit",
+            "begin 0 commits", "commit", "commit 0", "step 0", "step 0 1 1",
             "step 0 -1", "step +0 1", "step 0 x", "step  0 1", " step 0 1", "step 0 1 ",
             "step\t0 1", "step 0 1\r", "STEP 0 1", "drop", "drop ", "drop x", "drop 01", "drop 1 1", "drops 1", "Drop 1",
             "begin 1 drop", "who", "who ", "who x", "who 01", "who 1 1", "who 1 ", "whom 1", "Who 1", "begin 1 who",
             "front 0", "fronts", "state 0", "states",
             "put 1", "take", "steal 1", "queue 1 1 1 1 2", "end", "unlink 1",
-            "ask 0", "unask 0", "make 1 1 1 1",
+            "ask", "ask ", "ask x", "ask 01", "ask 0 0", "ask 0 ", "asks 0", "Ask 0", "begin 0 ask",
+            "unask", "unask ", "unask x", "unask 00", "unask 0 0", "unask 0 ", "unasks 0", "un ask 0", "begin 0 unask",
+            "drop ask", "make 1 1 1 1",
         ] {
             assert_eq!(parse(line.as_bytes()), None, "{line:?}");
         }

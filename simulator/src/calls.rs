@@ -6,12 +6,12 @@ use std::io::{self, Write};
 use crate::bench::{Bench, Operation, Shape};
 use crate::call_text::{self, Call, Line};
 use crate::listing::{print, print_hand_out};
-use crate::log_judge::{EMPTY, FINISHED, FULL, HANDED_OUT};
+use crate::log_judge::{COMMITTED, EMPTY, FINISHED, FULL, HANDED_OUT};
 use crate::outcome::{refusal, Outcome, Place};
-use crate::settled::Memory;
+use crate::settled::{Kept, Memory};
 use crate::task::Task;
 use crate::waiting::Waiting;
-use crate::witness::{Cause, Witness};
+use crate::witness::{Asking, Cause, Witness};
 
 /// What word 0 of the store and of the log is at the start; each later word is
 /// one more than the word before it.
@@ -65,6 +65,16 @@ impl<W: Witness> Calls<W> {
     /// Whether the current array is full.
     pub fn full(&self) -> bool {
         self.bench().is_some_and(Bench::full)
+    }
+
+    /// How many tasks are in the window.
+    pub fn standing(&self) -> usize {
+        self.bench().map_or(0, |bench| bench.window().count())
+    }
+
+    /// The words that an ask has set aside; 0 for none.
+    pub fn aside(&self) -> u32 {
+        self.bench().map_or(0, |bench| bench.store().aside())
     }
 
     /// How many stores wait.
@@ -127,6 +137,8 @@ impl Lent {
             Call::Fresh(shape) => answer(self.fresh(shape, witness), out),
             Call::Drop { worker } => answer(self.drop_link(worker, witness), out),
             Call::Drain => answer(self.drain(witness), out),
+            Call::Ask { worker } => answer(self.ask(Asking::Ask, worker, witness), out),
+            Call::Unask { worker } => answer(self.ask(Asking::Drop, worker, witness), out),
             Call::Begin { worker, operation } => match self.begin(worker, operation, witness) {
                 Ok(Some(number)) => say(out, b'N', &[number]),
                 Ok(None) => say(out, b'A', &[]),
@@ -173,11 +185,30 @@ impl Lent {
     ) -> Result<Option<u32>, u32> {
         let bench = self.bench.as_mut().ok_or(refusal::FOREIGN_STATE)?;
         witness.call();
-        let number = bench.begin(worker, operation)?;
-        if let (Some(number), Operation::Put { payload }) = (number, operation) {
+        let answer = bench.begin(worker, operation);
+        if let (Ok(Some(number)), Operation::Put { payload }) = (answer, operation) {
             witness.put_begun(Task::new(number, payload, self.payload_words));
         }
-        Ok(number)
+        if witness.watches() {
+            let answer = answer.map(|_| ());
+            witness.after(Cause::Begin { worker, operation, answer }, &bench.shown());
+        }
+        answer
+    }
+
+    /// An ask, or a drop of it.
+    fn ask<W: Witness>(&mut self, call: Asking, worker: u32, witness: &mut W) -> Result<(), u32> {
+        let bench = self.bench.as_mut().ok_or(refusal::FOREIGN_STATE)?;
+        witness.call();
+        let before = witness.watches().then(|| Kept::of(self.kind, &bench.shown()));
+        let answer = match call {
+            Asking::Ask => bench.ask(worker),
+            Asking::Drop => bench.drop_ask(worker),
+        };
+        if let Some(before) = before {
+            witness.asked(call, worker, answer, &before, &bench.shown());
+        }
+        answer
     }
 
     fn drop_link<W: Witness>(&mut self, worker: u32, witness: &mut W) -> Result<(), u32> {
@@ -244,6 +275,10 @@ impl Lent {
                 self.enter(FULL, worker, task);
                 say(out, b'F', &[task.number()])
             }
+            Outcome::Committed => {
+                self.enter(COMMITTED, worker, Task::default());
+                say(out, b'C', &[])
+            }
             Outcome::Refused(number) => say(out, b'R', &[number]),
         }
     }
@@ -261,7 +296,7 @@ impl Lent {
     /// What is shared: the anchor; how many arrays are published and how many
     /// claimed; each claimed one; put numbers used; words of the log written;
     /// each worker's restarts, all eight; with delayed stores how many wait, and
-    /// each of them; and the store.
+    /// each of them; the words set aside; and the store.
     fn state(&self, bench: &Bench) -> Vec<u32> {
         let store = bench.store();
         let mut values = bench.anchor().to_vec();
@@ -285,6 +320,7 @@ impl Lent {
                 }
             }
         }
+        values.push(store.aside());
         values.extend(store.words());
         values
     }
@@ -359,7 +395,7 @@ mod tests {
             "A, N 1, G, G, G, G, D 1, A, G, G, G, G, G, A, G, G, G, G, H 0 1 65, N 2, G, G, G, G, D 2, \
              A, G, G, G, G, H 0 2 66, N 3, G, G, G, G, D 3, H 1 1 65, \
              L 1 0 1 65 2 0 1 65 1 0 2 66 2 0 2 66 1 0 3 67 2 1 1 65, \
-             S 0 0 1 1 1 0 4 3 24 0 0 0 0 0 0 0 0 3 67 0 0 3000000004 3000000005 3000000006 3000000007 \
+             S 0 0 1 1 1 0 4 3 24 0 0 0 0 0 0 0 0 0 3 67 0 0 3000000004 3000000005 3000000006 3000000007 \
              3000000008 3000000009 3000000010 3000000011"
         );
     }
@@ -368,18 +404,18 @@ mod tests {
     fn fresh_zeroes_the_first_2c_words_and_touches_no_other() {
         assert_eq!(
             answers("memory 3 0, fresh 3 1 1 1 1, state"),
-            "A, S 0 0 0 1 1 0 2 0 0 0 0 0 0 0 0 0 0 0 0 3000000002"
+            "A, S 0 0 0 1 1 0 2 0 0 0 0 0 0 0 0 0 0 0 0 0 3000000002"
         );
         // The one after it finds the words as they were left.
         assert_eq!(
             answers("memory 4 9, fresh 2 1 2 1 1, begin 0 put 8, step 0 6, state, fresh 1 1 1 1 1, state, front"),
-            "A, N 1, G, G, G, G, G, D 1, S 0 1 0 1 1 0 4 1 4 0 0 0 0 0 0 0 0 1 8 0 0, A, \
-             S 0 0 0 1 1 0 2 0 0 0 0 0 0 0 0 0 0 0 0 0 0, L"
+            "A, N 1, G, G, G, G, G, D 1, S 0 1 0 1 1 0 4 1 4 0 0 0 0 0 0 0 0 0 1 8 0 0, A, \
+             S 0 0 0 1 1 0 2 0 0 0 0 0 0 0 0 0 0 0 0 0 0 0, L"
         );
         assert_eq!(
             answers("memory 4 9, fresh 2 1 2 1 1, begin 0 put 8, step 0 6, fresh 2 1 0 1 1, fresh 1 1 1 1 1, \
                      begin 0 put 9, step 0 4, state"),
-            "A, N 1, G, G, G, G, G, D 1, R 3, A, N 1, G, G, G, G, S 0 0 0 1 1 0 2 1 0 0 0 0 0 0 0 0 0 1 9 0 0"
+            "A, N 1, G, G, G, G, G, D 1, R 3, A, N 1, G, G, G, G, S 0 0 0 1 1 0 2 1 0 0 0 0 0 0 0 0 0 0 1 9 0 0"
         );
     }
 
@@ -392,10 +428,10 @@ mod tests {
                 "memory 7 8, fresh 1 2 1 1 1, begin 0 put 5, step 0 5, begin 0 put 6, step 0 3, state, \
                  step 0 2, state, step 0 1, state, step 0 5, state"
             ),
-            "A, N 1, G, G, G, G, D 1, N 2, G, G, G, S 0 1 1 1 2 0 2 2 4 2 4 0 0 0 0 0 0 0 0 1 5 0 0 0 0 3000000006, \
-             G, G, S 0 1 1 1 2 0 2 2 4 2 4 0 0 0 0 0 0 0 0 1 5 1 5 0 0 3000000006, \
-             G, S 0 1 1 2 2 0 2 2 4 2 4 0 0 0 0 0 0 0 0 1 5 1 5 0 0 3000000006, \
-             G, G, G, G, D 2, S 0 2 2 2 2 0 2 2 4 2 8 0 0 0 0 0 0 0 0 1 5 1 5 2 6 3000000006"
+            "A, N 1, G, G, G, G, D 1, N 2, G, G, G, S 0 1 1 1 2 0 2 2 4 2 4 0 0 0 0 0 0 0 0 0 1 5 0 0 0 0 3000000006, \
+             G, G, S 0 1 1 1 2 0 2 2 4 2 4 0 0 0 0 0 0 0 0 0 1 5 1 5 0 0 3000000006, \
+             G, S 0 1 1 2 2 0 2 2 4 2 4 0 0 0 0 0 0 0 0 0 1 5 1 5 0 0 3000000006, \
+             G, G, G, G, D 2, S 0 2 2 2 2 0 2 2 4 2 8 0 0 0 0 0 0 0 0 0 1 5 1 5 2 6 3000000006"
         );
     }
 
@@ -444,7 +480,7 @@ mod tests {
                 )),
                 format!(
                     "A, N 1, {goes_on}D 1, A, {goes_on}H 0 1 {shown}, N 2, {goes_on}D 2, \
-                     S 0 1 0 1 1 0 {} 2 {} 0 0 0 0 0 0 0 0 2 11{}{}",
+                     S 0 1 0 1 1 0 {} 2 {} 0 0 0 0 0 0 0 0 0 2 11{}{}",
                     payload_words + 1,
                     3 * (payload_words + 3),
                     " 0".repeat(payload_words - 1),
@@ -463,9 +499,9 @@ mod tests {
                  begin 0 put 1 2 3 4, step 0 9, front, fresh 2 1 1 1 0, fresh 2 1 2 1 4, fresh 2 1 2 1 2, state"
             ),
             "A, N 1, G, G, G, G, G, D 1, L 1 0 1 8, A, L, \
-             S 0 0 0 1 1 0 5 0 0 0 0 0 0 0 0 0 0 0 0 0 0 0 3000000005 3000000006, \
+             S 0 0 0 1 1 0 5 0 0 0 0 0 0 0 0 0 0 0 0 0 0 0 0 3000000005 3000000006, \
              N 1, G, G, G, G, G, G, G, G, D 1, L 1 0 1 1 2 3 4, R 16, R 5, A, \
-             S 0 0 0 1 1 0 6 0 0 0 0 0 0 0 0 0 0 0 0 0 0 0 0 3000000006"
+             S 0 0 0 1 1 0 6 0 0 0 0 0 0 0 0 0 0 0 0 0 0 0 0 0 3000000006"
         );
     }
 
@@ -477,7 +513,7 @@ mod tests {
                  begin 0 take, step 0 6, step 1 1, state, begin 0 put 0, step 0 6"
             ),
             "A, N 1, G, G, G, G, G, D 1, A, G, G, G, G, G, G, A, G, G, G, G, G, H 0 1 4294967295, \
-             G, S 1 1 0 1 1 0 2 1 8 0 1 0 0 0 0 0 0 1 4294967295, N 2, G, G, G, G, G, D 2"
+             G, S 1 1 0 1 1 0 2 1 8 0 1 0 0 0 0 0 0 0 1 4294967295, N 2, G, G, G, G, G, D 2"
         );
     }
 
@@ -489,8 +525,8 @@ mod tests {
                  drop 1, step 1 5, drop 1, drop 1, step 1 1, drop 1, state, step 1 6, drop 1, state"
             ),
             "R 12, A, R 17, R 6, R 17, N 1, G, G, G, G, D 1, A, \
-             R 17, G, G, G, G, G, A, R 17, G, R 17, S 0 1 0 1 1 0 2 1 4 0 1 0 0 0 0 0 0 1 7, \
-             G, G, G, G, G, H 1 1 7, R 17, S 0 0 0 1 1 0 2 1 8 0 1 0 0 0 0 0 0 1 7"
+             R 17, G, G, G, G, G, A, R 17, G, R 17, S 0 1 0 1 1 0 2 1 4 0 1 0 0 0 0 0 0 0 1 7, \
+             G, G, G, G, G, H 1 1 7, R 17, S 0 0 0 1 1 0 2 1 8 0 1 0 0 0 0 0 0 0 1 7"
         );
     }
 
@@ -509,7 +545,7 @@ mod tests {
                 .collect::<Vec<_>>()
                 .join(", "),
                 "R 12, A, N 1, D 1, A, A, H 0 1 7, N 2, W 3 1, R 6, D 2, A, A, H 2 2 7, W 0 0, W 1 1, W 2 0, W 3 2, \
-                 R 6, S 0 0 0 1 1 0 2 2 16 0 1 0 2 0 0 0 0 2 7"
+                 R 6, S 0 0 0 1 1 0 2 2 16 0 1 0 2 0 0 0 0 0 2 7"
             );
         }
     }
@@ -544,9 +580,44 @@ mod tests {
         }
         assert_eq!(
             String::from_utf8(out).unwrap().trim_end().replace('\n', ", "),
-            "R 12, A, N 1, G, G, G, G, G, D 1, S 0 0 0 1 1 0 2 1 4 0 0 0 0 0 0 0 0 3 1 0 1 1 1 5 5 1 0 0 3000000002, \
-             A, G, G, E 1, A, A, A, S 0 1 0 1 1 0 2 1 8 0 0 0 0 0 0 0 0 0 1 5 3000000002, R 19, \
-             A, S 0 0 0 1 1 0 2 0 0 0 0 0 0 0 0 0 0 0 0 3000000002, R 19"
+            "R 12, A, N 1, G, G, G, G, G, D 1, S 0 0 0 1 1 0 2 1 4 0 0 0 0 0 0 0 0 3 1 0 1 1 1 5 5 1 0 0 0 3000000002, \
+             A, G, G, E 1, A, A, A, S 0 1 0 1 1 0 2 1 8 0 0 0 0 0 0 0 0 0 0 1 5 3000000002, R 19, \
+             A, S 0 0 0 1 1 0 2 0 0 0 0 0 0 0 0 0 0 0 0 0 3000000002, R 19"
+        );
+    }
+
+    #[test]
+    fn an_ask_a_commit_and_its_entry() {
+        for words in 1..=4 {
+            let none = " 0".repeat(words);
+            let each = words + 1;
+            let length = 3 * each + 1;
+            let end = |from: usize| (from..length).map(|at| format!(" {}", 3_000_000_000u32 + at as u32)).collect::<String>();
+            let zeros = |count: usize| " 0".repeat(count);
+            assert_eq!(
+                answers(&format!(
+                    "memory {length} {}, ask 0, unask 9, begin 0 commit, fresh 3 1 1 1 {words}, ask 0, state, begin 0 commit, \
+                     step 0 2, state, step 0 1, state, front, ask 0, begin 0 commit, unask 0",
+                    words + 3
+                )),
+                format!(
+                    "R 12, R 12, R 12, A, A, S 0 0 0 1 1 0 {each} 0 0 0 0 0 0 0 0 0 0 {}{}{}, A, G, G, \
+                     S 0 0 0 1 2 0 {each} {each} {} 0 0 0 0 0 0 0 0 0 0 0{}{}, C, \
+                     S 0 0 0 2 2 0 {each} {each} {} 0 {} 0 0 0 0 0 0 0 0 0{}{}, L 5 0 0{none}, R 20, R 22, R 22",
+                    2 * each, zeros(each), end(each), 2 * each, zeros(3 * each), end(3 * each), 2 * each, words + 3,
+                    zeros(3 * each), end(3 * each)
+                )
+            );
+        }
+    }
+
+    #[test]
+    fn words_set_aside_are_shown_behind_the_waiting_stores() {
+        assert_eq!(
+            answers("memory 6 8, fresh 2 1 1 2 1 1, ask 0, begin 0 put 5, step 0 6, state, unask 0, state"),
+            "A, A, N 1, G, G, G, G, G, D 1, \
+             S 0 0 0 1 1 0 2 1 4 0 0 0 0 0 0 0 0 3 1 0 1 1 1 5 5 1 4 0 0 3000000002 3000000003 3000000004 3000000005, A, \
+             S 0 0 0 1 1 0 2 1 4 0 0 0 0 0 0 0 0 3 1 0 1 1 1 5 5 1 0 0 0 3000000002 3000000003 3000000004 3000000005"
         );
     }
 

@@ -1,9 +1,11 @@
 //! All that is checked beside a run: demand 3, the restarts of each worker, FIFO's
-//! order, the limits on what is shared, and with delayed stores what each call did
-//! to memory and to the waiting line and what the owner read and wrote.
+//! order, the limits on what is shared, asks and commits, and with delayed stores
+//! what each call did to memory and to the waiting line and what the owner read and
+//! wrote.
 
 use std::fmt;
 
+use crate::asks::Asks;
 use crate::bench::Shape;
 use crate::demand3::Demand3;
 use crate::drains::Drains;
@@ -11,9 +13,10 @@ use crate::limits::Limits;
 use crate::order::Order;
 use crate::owner::Owner;
 use crate::restarts::Restarts;
+use crate::settled::Kept;
 use crate::task::Task;
 use crate::waiting::Waiting;
-use crate::witness::{Cause, Shown, Witness};
+use crate::witness::{Asking, Cause, Shown, Witness};
 
 #[derive(Default)]
 pub struct Checks {
@@ -21,6 +24,7 @@ pub struct Checks {
     restarts: Restarts,
     order: Order,
     limits: Limits,
+    asks: Asks,
     drains: Drains,
     owner: Owner,
 }
@@ -36,6 +40,7 @@ impl Checks {
             || self.restarts.is_wrong()
             || self.order.is_wrong()
             || self.limits.is_wrong()
+            || self.asks.is_wrong()
             || self.drains.is_wrong()
             || self.owner.is_wrong()
     }
@@ -44,8 +49,8 @@ impl Checks {
 /// A line for each of them.
 impl fmt::Display for Checks {
     fn fmt(&self, text: &mut fmt::Formatter<'_>) -> fmt::Result {
-        let Checks { demand3, restarts, order, limits, drains, owner } = self;
-        write!(text, "{}\n{restarts}\n{order}\n{limits}\n{drains}\n{owner}", demand3.finding())
+        let Checks { demand3, restarts, order, limits, asks, drains, owner } = self;
+        write!(text, "{}\n{restarts}\n{order}\n{limits}\n{asks}\n{drains}\n{owner}", demand3.finding())
     }
 }
 
@@ -55,6 +60,7 @@ impl Witness for Checks {
         self.restarts.fresh(shape);
         self.order.fresh(shape);
         self.limits.fresh(shape);
+        self.asks.fresh(shape);
         self.drains.fresh(shape);
         self.owner.fresh(shape);
     }
@@ -64,6 +70,7 @@ impl Witness for Checks {
         self.restarts.call();
         self.order.call();
         self.limits.call();
+        self.asks.call();
         self.drains.call();
         self.owner.call();
     }
@@ -107,6 +114,14 @@ impl Witness for Checks {
         self.demand3.published();
     }
 
+    fn committed(&mut self) {
+        self.demand3.committed();
+    }
+
+    fn asked(&mut self, call: Asking, worker: u32, answer: Result<(), u32>, before: &Kept, shown: &Shown) {
+        self.asks.asked(call, worker, answer, before, shown);
+    }
+
     fn dropped(&mut self, worker: usize) {
         self.restarts.dropped(worker);
     }
@@ -123,6 +138,7 @@ impl Witness for Checks {
     fn after(&mut self, cause: Cause, shown: &Shown) {
         self.demand3.after(cause, shown);
         self.limits.after(cause, shown);
+        self.asks.after(cause, shown);
         self.drains.after(cause, shown);
         self.owner.after(cause, shown);
     }
@@ -159,7 +175,7 @@ mod tests {
         checks.fresh(shape);
         assert!(!checks.failed());
         assert_eq!(checks.to_string(), 
-            "demand 3 kept\nrestarts counted\norder kept\nlimits kept\ndrains in turn\n\
+            "demand 3 kept\nrestarts counted\norder kept\nlimits kept\nasks kept\ndrains in turn\n\
              the owner read its own stores");
         checks.shared([0; 3], &[1, 0, 0, 0, 0, 0, 0, 0]);
         assert!(checks.failed());

@@ -29,7 +29,11 @@ fn valid(random: &mut Random) -> Vec<u8> {
         }
         5 if random.chance(30) => format!("who {}", random.below(9)),
         // The library's alone.
-        5 if random.chance(20) => format!("drop {}", random.below(9)),
+        5 if random.chance(20) => {
+            let call = *random.pick(&["drop", "ask", "unask"]);
+            format!("{call} {}", random.below(9))
+        }
+        5 if random.chance(5) => random.pick(&["commit", "begin 0 commit", "drain"]).to_string(),
         _ => format!("step {} {}", random.below(8), random.below(7)),
     }
     .into_bytes()

@@ -237,6 +237,10 @@ impl Witness for Demand3 {
         self.window_moved = true;
     }
 
+    fn committed(&mut self) {
+        self.window_moved = true;
+    }
+
     fn window(&mut self, tasks: &mut dyn Iterator<Item = Task>) {
         self.window_moved = false;
         self.looks += 1;

@@ -4,7 +4,7 @@
 
 use crate::guard::Guard;
 use crate::outcome::{refusal, Outcome, Place};
-use crate::store::{Array, Store};
+use crate::store::{Array, Growth, Store};
 use crate::task::{Payload, Task};
 use crate::waiting::Waiting;
 use crate::witness::Witness;
@@ -28,10 +28,10 @@ enum Counter {
     P2,
     P3(usize),
     P4,
-    X1,
-    X2,
-    X3,
-    X4,
+    X1(Growth),
+    X2(Growth),
+    X3(Growth),
+    X4(Growth),
     T1,
     T2,
     T3(usize),
@@ -49,6 +49,7 @@ struct Worker {
     counter: Counter,
     /// The anchor as line 1 read it.
     read: Anchor,
+    /// Of a commit zeros.
     task: Task,
     /// A thief's noted array.
     noted: Array,
@@ -100,6 +101,11 @@ impl DoubleEnded {
         self.workers[0].counter = Counter::T1;
     }
 
+    pub fn begin_commit(&mut self) {
+        self.workers[0].task = Task::default();
+        self.workers[0].counter = Counter::X1(Growth::ForCommit);
+    }
+
     pub fn begin_steal(&mut self, worker: usize) {
         self.workers[worker].counter = Counter::S1;
     }
@@ -112,8 +118,8 @@ impl DoubleEnded {
     /// How many stores the owner's next line makes.
     fn stores(&self) -> usize {
         match self.workers[0].counter {
-            Counter::P3(_) | Counter::P4 | Counter::X4 | Counter::T4 => 1,
-            Counter::X3 => self.store.payload_words() as usize + 1,
+            Counter::P3(_) | Counter::P4 | Counter::X4(_) | Counter::T4 => 1,
+            Counter::X3(_) => self.store.payload_words() as usize + 1,
             _ => 0,
         }
     }
@@ -159,7 +165,7 @@ impl DoubleEnded {
                 me.read = seen;
                 go(me, Counter::P2)
             }
-            Counter::P2 if me.read.s == store.owners_size() => go(me, Counter::X1),
+            Counter::P2 if me.read.s == store.owners_size() => go(me, Counter::X1(Growth::ForPut)),
             Counter::P2 => go(me, Counter::P3(0)),
             Counter::P3(word) => {
                 let written = store.word_store(me.read.h + me.read.s, word, me.task.0[word]);
@@ -177,10 +183,10 @@ impl DoubleEnded {
             }
             Counter::P4 => Outcome::Refused(refusal::LOG_FULL),
 
-            Counter::X1 => match store.next_array() {
+            Counter::X1(why) => match store.next_array() {
                 Some(array) => {
                     store.claim(array);
-                    go(me, Counter::X2)
+                    go(me, Counter::X2(why))
                 }
                 None if room => {
                     me.counter = Counter::Idle;
@@ -188,26 +194,31 @@ impl DoubleEnded {
                 }
                 None => Outcome::Refused(refusal::LOG_FULL),
             },
-            Counter::X2 => {
+            Counter::X2(why) => {
                 // The anchor as it is now: thieves may have emptied the queue
                 // since line 1, and then there is nothing to copy.
                 *copy_index = seen.h;
                 *copies_left = seen.s;
-                go(me, if seen.s == 0 { Counter::X4 } else { Counter::X3 })
+                go(me, if seen.s == 0 { Counter::X4(why) } else { Counter::X3(why) })
             }
-            Counter::X3 => {
+            Counter::X3(why) => {
                 let copies = store.copies_to_claimed(*copy_index);
                 *copy_index += 1;
                 *copies_left -= 1;
-                me.counter = if *copies_left == 0 { Counter::X4 } else { Counter::X3 };
+                me.counter = if *copies_left == 0 { Counter::X4(why) } else { Counter::X3(why) };
                 self.own(copies);
                 Outcome::GoesOn
             }
-            Counter::X4 => {
+            Counter::X4(Growth::ForCommit) if !room => Outcome::Refused(refusal::LOG_FULL),
+            Counter::X4(why) => {
                 let note = store.note_of_claimed();
-                me.counter = Counter::P1;
+                let (next, answer) = match why {
+                    Growth::ForPut => (Counter::P1, Outcome::Published),
+                    Growth::ForCommit => (Counter::Idle, Outcome::Committed),
+                };
+                me.counter = next;
                 self.own([note]);
-                Outcome::Published
+                answer
             }
 
             Counter::T1 => {
@@ -293,6 +304,10 @@ impl DoubleEnded {
         &self.store
     }
 
+    pub fn store_mut(&mut self) -> &mut Store {
+        &mut self.store
+    }
+
     pub fn into_store(self) -> Store {
         self.store
     }
@@ -304,7 +319,12 @@ impl DoubleEnded {
 
     /// Whether the owner has claimed an array that it has not published.
     pub fn copying(&self) -> bool {
-        matches!(self.workers[0].counter, Counter::X2 | Counter::X3 | Counter::X4)
+        matches!(self.workers[0].counter, Counter::X2(_) | Counter::X3(_) | Counter::X4(_))
+    }
+
+    /// Whether the owner is at X1 of a commit.
+    pub fn commits(&self) -> bool {
+        self.workers[0].counter == Counter::X1(Growth::ForCommit)
     }
 
     pub fn place(&self, worker: usize) -> Place {
@@ -312,7 +332,7 @@ impl DoubleEnded {
             Counter::Idle => Place::Idle,
             Counter::S4(0) => Place::Noted,
             Counter::P4 | Counter::T4 | Counter::S6 => Place::Last,
-            Counter::X1 | Counter::X2 | Counter::X3 | Counter::X4 => Place::Expanding,
+            Counter::X1(_) | Counter::X2(_) | Counter::X3(_) | Counter::X4(_) => Place::Expanding,
             _ => Place::Underway,
         }
     }
@@ -498,6 +518,29 @@ mod tests {
         assert_eq!(queue.store.owners_size(), 2, "twice the size, not twice the count");
         assert_eq!(steps(&mut queue, 0, 5), Outcome::Finished(task(2, 20)));
         assert_eq!(queue.window().collect::<Vec<_>>(), [task(2, 20)]);
+    }
+
+    #[test]
+    fn a_commit_goes_by_the_anchor_at_x2_and_leaves_it() {
+        for mut queue in [double_ended(4, 2, 12), linked(2, 12)] {
+            queue.anchor.h = 3;
+            put(&mut queue, 1, 10);
+            put(&mut queue, 2, 20);
+            queue.begin_steal(2);
+            steps(&mut queue, 2, 6);
+            assert!(queue.store.set_aside());
+            queue.begin_commit();
+            steps(&mut queue, 0, 3); // X1, X2, a copy
+            let anchor = queue.anchor;
+            // What is stolen now is copied all the same.
+            assert_eq!(steps(&mut queue, 2, 1), Outcome::HandedOut(task(1, 10)));
+            assert_eq!(steps(&mut queue, 0, 2), Outcome::Committed);
+            assert_eq!(queue.anchor, Anchor { h: 4, s: 1, ..anchor });
+            assert_eq!(queue.window().collect::<Vec<_>>(), [task(2, 20)]);
+            // Indices 3 and 4 lie in slots 3 and 0 of the new array.
+            assert_eq!([3, 0].map(|slot| queue.store.task(slot).number()), [1, 2]);
+            assert!(queue.workers[0].counter == Counter::Idle);
+        }
     }
 
     #[test]

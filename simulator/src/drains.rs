@@ -4,7 +4,7 @@
 //! - A step of the owner changes no word, note or anchor in memory, except that X1
 //!   claims an array and zeroes it. Its stores join the end of the line: one to
 //!   the anchor (FIFO: tail, head) by the step that finishes a put or hands out,
-//!   one note by X4, else words or none.
+//!   one note by X4, a put's or a commit's, else words or none.
 //! - A drain takes the oldest store off the line and puts it down.
 //! - A step of a thief leaves the line as it is, and changes memory only by a
 //!   hand-out: its anchor, or FIFO's head.
@@ -71,7 +71,7 @@ impl Drains {
                 }
                 &self.line[..]
             }
-            Cause::Step { .. } | Cause::Other => &self.line[..],
+            Cause::Step { .. } | Cause::Begin { .. } | Cause::Other => &self.line[..],
         };
         if line != known {
             return Err("the waiting line is another");
@@ -89,7 +89,7 @@ fn joined(shape: Shape, outcome: Outcome, new: &[Waiting]) -> bool {
     match (outcome, new) {
         (Outcome::Finished(_), [Waiting::Tail(_)]) | (Outcome::HandedOut(_), [Waiting::Head(_)]) => fifo,
         (Outcome::Finished(_) | Outcome::HandedOut(_), [Waiting::Anchor(_)]) => !fifo,
-        (Outcome::Published, [Waiting::Note { .. }]) => true,
+        (Outcome::Published | Outcome::Committed, [Waiting::Note { .. }]) => true,
         (Outcome::GoesOn, [] | [Waiting::Word { .. }]) => true,
         // X3: the words of a task, in turn, to one slot.
         (Outcome::GoesOn, [Waiting::Word { array, slot, .. }, ..]) => {
@@ -163,7 +163,7 @@ mod tests {
     fn wrong(kind: u32, cause: Cause, from: (&Store, [u32; 3]), to: (&Store, [u32; 3])) -> bool {
         let mut drains = Drains::default();
         drains.fresh(Shape { kind, width: 1, size: 1, crew: 2, payload_words: 1, delayed: true });
-        let shown = |(store, anchor)| Shown { anchor, restarts: &[0; 8], store, copying: false };
+        let shown = |(store, anchor)| Shown { anchor, restarts: &[0; 8], store, copying: false, commits: false };
         drains.after(Cause::Other, &shown(from));
         // How it came to that is not asked here.
         drains.wrong = None;
@@ -201,6 +201,12 @@ mod tests {
         assert!(!wrong(2, finished, (&from, none), (&store(&[WORD, Waiting::Tail(1)]), none)));
         assert!(wrong(2, finished, (&from, none), (&store(&[WORD, Waiting::Head(1)]), none)));
         assert!(wrong(1, step(Outcome::Refused(18)), (&from, none), (&store(&[WORD, WORD]), none)));
+        const NOTE: Waiting = Waiting::Note { published: 1 };
+        for outcome in [Outcome::Published, Outcome::Committed] {
+            assert!(!wrong(1, step(outcome), (&from, none), (&store(&[WORD, NOTE]), none)));
+            assert!(wrong(1, step(outcome), (&from, none), (&store(&[WORD, ANCHOR]), none)));
+            assert!(wrong(1, step(outcome), (&from, none), (&store(&[WORD]), none)), "no note");
+        }
         let mut claimed = store(&[WORD]);
         claimed.claim(claimed.next_array().unwrap());
         assert!(!wrong(1, step(Outcome::GoesOn), (&from, none), (&claimed, none)), "X1");

@@ -9,10 +9,24 @@ use crate::store::LARGEST;
 fn begin(script: &mut Script, worker: u32) {
     if worker > 0 {
         script.steal(worker);
+    } else if script.has_event() && script.random.chance(12) {
+        about_growth(script);
     } else if script.random.chance(58) {
         script.put();
     } else {
         script.take();
+    }
+}
+
+/// An ask, a commit where one stands, or a drop of it; now and then one that is
+/// refused.
+fn about_growth(script: &mut Script) {
+    match script.random.below(20) {
+        0 | 1 => script.ask(0),
+        2 => script.commit(0),
+        3 | 4 => script.drop_ask(0),
+        _ if script.asked() => script.commit(0),
+        _ => script.ask(0),
     }
 }
 
@@ -434,8 +448,287 @@ pub fn links_fail(script: &mut Script) {
     }
 }
 
+/// Ask if none stands, and commit; whether it ended.
+fn whole_commit(script: &mut Script) -> bool {
+    if !owner_idle(script) {
+        return false;
+    }
+    if !script.asked() {
+        script.ask(0);
+    }
+    if !script.asked() {
+        return false;
+    }
+    script.commit(0);
+    script.finish(0)
+}
+
+/// Puts until one is at X1, which finds the ask as it stands; false if none comes
+/// to it.
+fn put_to_x1(script: &mut Script) -> bool {
+    for _ in 0..40 {
+        if !owner_idle(script) {
+            return false;
+        }
+        script.put();
+        script.step_until(0, 20, |place| matches!(place, Place::Expanding | Place::Idle));
+        if script.place(0) == Place::Expanding {
+            return true;
+        }
+    }
+    false
+}
+
+/// The owner asks, and then a put has to grow the array.
+pub fn ask_then_put(script: &mut Script) {
+    if !owner_idle(script) {
+        return;
+    }
+    script.ask(0);
+    if script.random.chance(40) {
+        script.ask(0);
+    }
+    if put_to_x1(script) {
+        // Refused: it is busy.
+        match script.random.below(6) {
+            0 => script.ask(0),
+            1 => script.drop_ask(0),
+            2 => script.commit(0),
+            _ => {}
+        }
+        let count = script.random.below(4);
+        script.step_until(0, count, |place| place != Place::Expanding);
+        script.finish(0);
+    }
+    if script.random.chance(50) {
+        // The ask is gone.
+        if script.random.chance(50) {
+            script.drop_ask(0);
+        } else {
+            script.commit(0);
+            script.finish(0);
+        }
+    }
+}
+
+/// The owner asks and commits, and the put after it need not grow.
+pub fn ask_then_commit(script: &mut Script) {
+    for _ in 0..40 {
+        if script.full() || !whole_put(script) {
+            break;
+        }
+    }
+    if whole_commit(script) {
+        for _ in 0..script.random.between(1, 4) {
+            whole_put(script);
+        }
+    }
+}
+
+/// Thieves stand anywhere in their steals while the owner commits, and go on before,
+/// between and after its lines.
+pub fn commit_with_thieves(script: &mut Script) {
+    for _ in 0..script.random.below(5) {
+        whole_put(script);
+    }
+    let mut waiting = Vec::new();
+    for _ in 0..script.random.between(1, 3) {
+        let Some(thief) = other_thief(script, &waiting) else { break };
+        if script.idle(thief) {
+            script.steal(thief);
+        }
+        let count = script.random.below(script.shape.payload_words + 7);
+        script.step_until(thief, count, |place| matches!(place, Place::Last | Place::Idle));
+        waiting.push(thief);
+    }
+    if !owner_idle(script) {
+        return;
+    }
+    if !script.asked() {
+        script.ask(0);
+    }
+    script.commit(0);
+    for _ in 0..20 {
+        if script.idle(0) {
+            break;
+        }
+        let count = script.random.between(1, 4);
+        if !script.step_until(0, count, |place| place == Place::Idle) && script.random.chance(70) {
+            if script.random.chance(50) {
+                if let Some(thief) = other_thief(script, &waiting) {
+                    whole_steal(script, thief);
+                }
+            } else if let Some(thief) = waiting.pop() {
+                script.step_until(thief, 20, |place| matches!(place, Place::Last | Place::Idle));
+                script.step(thief, 1);
+            }
+        }
+        if script.random.chance(5) {
+            let worker = script.random.below(script.shape.crew);
+            script.drop_link(worker);
+        }
+    }
+    script.finish(0);
+    for &thief in &waiting {
+        script.step_until(thief, 20, |place| matches!(place, Place::Last | Place::Idle));
+        script.step(thief, 1);
+    }
+    for _ in 0..script.random.below(4) {
+        whole_take(script);
+    }
+}
+
+/// A commit of an empty queue: in FIFO and double-ended there is nothing to copy.
+pub fn commit_empty(script: &mut Script) {
+    for _ in 0..30 {
+        if script.standing() == 0 || !whole_take(script) {
+            break;
+        }
+    }
+    if script.random.chance(30) {
+        if let Some(thief) = script.thief() {
+            if script.idle(thief) {
+                script.steal(thief);
+            }
+            script.step(thief, 1);
+        }
+    }
+    whole_commit(script);
+    if script.random.chance(60) {
+        whole_put(script);
+    }
+}
+
+/// Commits follow each other while their notes wait, and an ask goes by the
+/// youngest of them. Without delayed stores none waits.
+pub fn commits_undrained(script: &mut Script) {
+    let drains = script.drains;
+    script.drains = Drains { now_and_then: 0, go_on: 100, sparing: true };
+    for _ in 0..10 {
+        if script.standing() == 0 || !whole_take(script) {
+            break;
+        }
+    }
+    if script.random.chance(70) {
+        script.drain_all();
+    }
+    for _ in 0..script.random.between(2, 4) {
+        if !whole_commit(script) {
+            break;
+        }
+        if script.random.chance(30) {
+            whole_put(script);
+        }
+        if script.random.chance(30) {
+            if let Some(thief) = script.thief() {
+                whole_steal(script, thief);
+            }
+        }
+    }
+    if owner_idle(script) {
+        script.ask(0);
+    }
+    let notes = script.random.below(9);
+    for _ in 0..notes {
+        script.drain();
+        if script.random.chance(30) {
+            if let Some(thief) = script.thief() {
+                whole_steal(script, thief);
+            }
+        }
+    }
+    script.drains = drains;
+}
+
+/// Asks and drops in turn, with operations between, and then a put or a commit.
+pub fn drops_of_an_ask(script: &mut Script) {
+    for _ in 0..script.random.between(1, 4) {
+        if !owner_idle(script) {
+            return;
+        }
+        script.ask(0);
+        match script.random.below(4) {
+            0 => {
+                whole_put(script);
+            }
+            1 => {
+                whole_take(script);
+            }
+            2 => {
+                if let Some(thief) = script.thief() {
+                    whole_steal(script, thief);
+                }
+            }
+            _ => {}
+        }
+        script.drop_ask(0);
+    }
+    match script.random.below(3) {
+        0 => {
+            put_to_x1(script);
+        }
+        1 => script.commit(0),
+        _ => script.drop_ask(0),
+    }
+    script.finish(0);
+}
+
+/// Commits until an ask is refused: the store is short, or the size is 1,024.
+pub fn commit_to_the_end(script: &mut Script) {
+    for _ in 0..12 {
+        if !whole_commit(script) {
+            break;
+        }
+    }
+    if owner_idle(script) {
+        script.ask(0);
+    }
+}
+
+/// Ask, drop and commit that are refused, whoever is where.
+pub fn asks_refused(script: &mut Script) {
+    for _ in 0..script.random.between(3, 12) {
+        let thief = script.random.below(script.shape.crew);
+        let beyond = *script.random.pick(&[script.shape.crew, 8, 256, u32::MAX]);
+        let worker = *script.random.pick(&[0, 0, 0, 0, thief, beyond]);
+        match script.random.below(3) {
+            0 => script.ask(worker),
+            1 => script.drop_ask(worker),
+            _ => script.commit(worker),
+        }
+        match script.random.below(10) {
+            0..=2 => {
+                let count = script.random.between(1, 3);
+                script.step_until(0, count, |place| place == Place::Idle);
+            }
+            3 => begin(script, 0),
+            4 => {
+                script.finish(0);
+            }
+            _ => {}
+        }
+    }
+}
+
+/// One of the eight above.
+pub fn asks(script: &mut Script) {
+    match script.random.below(15) {
+        0 | 1 => ask_then_put(script),
+        2 | 3 => ask_then_commit(script),
+        4..=6 => commit_with_thieves(script),
+        7 => commit_empty(script),
+        8 => commits_undrained(script),
+        9 | 10 => drops_of_an_ask(script),
+        11 => commit_to_the_end(script),
+        _ => asks_refused(script),
+    }
+}
+
 /// Any of those above.
 pub fn any(script: &mut Script) {
+    if script.has_event() && script.random.chance(12) {
+        return asks(script);
+    }
     match script.random.below(12) {
         0 | 1 => uniform(script),
         2 => burst(script),
@@ -610,12 +903,13 @@ pub fn growth_waits(script: &mut Script) {
     }
 }
 
-/// One of the three above.
+/// One of the three above, or commits whose notes wait.
 pub fn delayed(script: &mut Script) {
-    match script.random.below(3) {
-        0 => held_back(script),
-        1 => drained_in_an_attempt(script),
-        _ => growth_waits(script),
+    match script.random.below(10) {
+        0..=2 => held_back(script),
+        3..=5 => drained_in_an_attempt(script),
+        6..=8 => growth_waits(script),
+        _ => commits_undrained(script),
     }
 }
 
@@ -710,12 +1004,19 @@ pub fn past_the_log(script: &mut Script) {
     }
 }
 
-/// One put more than the largest array holds, with nobody else at work.
+/// One put more than the largest array holds, with nobody else at work. Where the
+/// owner can ask, a commit may make that array.
 pub fn past_the_largest_array(script: &mut Script) {
+    if script.has_event() && script.random.chance(50) {
+        commit_to_the_end(script);
+    }
     for _ in 0..=LARGEST {
         if !whole_put(script) {
             return;
         }
+    }
+    if script.has_event() {
+        script.ask(0);
     }
 }
 

@@ -3,7 +3,7 @@
 //! modulo the array's size.
 
 use crate::outcome::{refusal, Outcome, Place};
-use crate::store::{Array, Store};
+use crate::store::{Array, Growth, Store};
 use crate::task::{Payload, Task};
 use crate::waiting::Waiting;
 use crate::witness::Witness;
@@ -15,6 +15,7 @@ enum Doing {
     Nothing,
     Put(PutLine),
     Take(TakeLine),
+    Grow(Growth, GrowthLine),
 }
 
 #[derive(Clone, Copy, Debug, PartialEq, Eq)]
@@ -24,6 +25,11 @@ enum PutLine {
     L3,
     L4(usize),
     L5,
+}
+
+/// Of a put or of a commit.
+#[derive(Clone, Copy, Debug, PartialEq, Eq)]
+enum GrowthLine {
     X1,
     X2,
     X3,
@@ -69,6 +75,7 @@ pub struct Fifo {
     /// The owner's own reads of head and tail. Its last line works from these.
     head_read: u32,
     tail_read: u32,
+    /// Of a commit zeros.
     task: Task,
     /// X3: the next index to copy, and the tail X2 noted.
     copying: u32,
@@ -117,6 +124,11 @@ impl Fifo {
         self.doing = Doing::Take(TakeLine::L1);
     }
 
+    pub fn begin_commit(&mut self) {
+        self.doing = Doing::Grow(Growth::ForCommit, GrowthLine::X1);
+        self.task = Task::default();
+    }
+
     pub fn begin_steal(&mut self, worker: usize) {
         self.thieves[worker].line = StealLine::L1;
     }
@@ -132,6 +144,7 @@ impl Fifo {
             Doing::Nothing => Outcome::Refused(refusal::IDLE),
             Doing::Put(line) => self.put(line, room, witness),
             Doing::Take(line) => self.take(line, room, witness),
+            Doing::Grow(why, line) => self.grow(why, line, room),
         }
     }
 
@@ -156,8 +169,9 @@ impl Fifo {
     /// How many stores the owner's next line makes.
     fn stores(&self) -> usize {
         match self.doing {
-            Doing::Put(PutLine::L4(_) | PutLine::L5 | PutLine::X4) | Doing::Take(TakeLine::L5) => 1,
-            Doing::Put(PutLine::X3) => self.store.payload_words() as usize + 1,
+            Doing::Put(PutLine::L4(_) | PutLine::L5) | Doing::Take(TakeLine::L5) => 1,
+            Doing::Grow(_, GrowthLine::X3) => self.store.payload_words() as usize + 1,
+            Doing::Grow(_, GrowthLine::X4) => 1,
             _ => 0,
         }
     }
@@ -199,10 +213,10 @@ impl Fifo {
             }
             PutLine::L3 => {
                 if self.tail_read == self.head_read + self.store.owners_size() {
-                    PutLine::X1
-                } else {
-                    PutLine::L4(0)
+                    self.doing = Doing::Grow(Growth::ForPut, GrowthLine::X1);
+                    return Outcome::GoesOn;
                 }
+                PutLine::L4(0)
             }
             PutLine::L4(word) => {
                 self.own(self.store.word_store(self.tail_read, word, self.task.0[word]));
@@ -220,7 +234,14 @@ impl Fifo {
                 self.doing = Doing::Nothing;
                 return Outcome::Finished(self.task);
             }
-            PutLine::X1 => {
+        };
+        self.doing = Doing::Put(next);
+        Outcome::GoesOn
+    }
+
+    fn grow(&mut self, why: Growth, line: GrowthLine, room: bool) -> Outcome {
+        let next = match line {
+            GrowthLine::X1 => {
                 let Some(array) = self.store.next_array() else {
                     if !room {
                         return Outcome::Refused(refusal::LOG_FULL);
@@ -229,37 +250,42 @@ impl Fifo {
                     return Outcome::Full(self.task);
                 };
                 self.store.claim(array);
-                PutLine::X2
+                GrowthLine::X2
             }
-            PutLine::X2 => {
+            GrowthLine::X2 => {
                 // The indices in the queue now, not those lines 1 and 2 read;
                 // what is stolen after this is copied all the same.
                 self.copying = self.owners_head();
                 self.copy_end = self.owners_tail();
                 self.copy_or_publish()
             }
-            PutLine::X3 => {
+            GrowthLine::X3 => {
                 for copy in self.store.copies_to_claimed(self.copying) {
                     self.own(copy);
                 }
                 self.copying += 1;
                 self.copy_or_publish()
             }
-            PutLine::X4 => {
+            GrowthLine::X4 => {
+                let (doing, answer) = match why {
+                    Growth::ForPut => (Doing::Put(PutLine::L1), Outcome::Published),
+                    Growth::ForCommit if room => (Doing::Nothing, Outcome::Committed),
+                    Growth::ForCommit => return Outcome::Refused(refusal::LOG_FULL),
+                };
                 self.own(self.store.note_of_claimed());
-                self.doing = Doing::Put(PutLine::L1);
-                return Outcome::Published;
+                self.doing = doing;
+                return answer;
             }
         };
-        self.doing = Doing::Put(next);
+        self.doing = Doing::Grow(why, next);
         Outcome::GoesOn
     }
 
-    fn copy_or_publish(&self) -> PutLine {
+    fn copy_or_publish(&self) -> GrowthLine {
         if self.copying < self.copy_end {
-            PutLine::X3
+            GrowthLine::X3
         } else {
-            PutLine::X4
+            GrowthLine::X4
         }
     }
 
@@ -379,6 +405,10 @@ impl Fifo {
         &self.store
     }
 
+    pub fn store_mut(&mut self) -> &mut Store {
+        &mut self.store
+    }
+
     pub fn into_store(self) -> Store {
         self.store
     }
@@ -390,7 +420,12 @@ impl Fifo {
 
     /// Whether the owner has claimed an array that it has not published.
     pub fn copying(&self) -> bool {
-        matches!(self.doing, Doing::Put(PutLine::X2 | PutLine::X3 | PutLine::X4))
+        matches!(self.doing, Doing::Grow(_, GrowthLine::X2 | GrowthLine::X3 | GrowthLine::X4))
+    }
+
+    /// Whether the owner is at X1 of a commit.
+    pub fn commits(&self) -> bool {
+        self.doing == Doing::Grow(Growth::ForCommit, GrowthLine::X1)
     }
 
     pub fn place(&self, worker: usize) -> Place {
@@ -405,7 +440,7 @@ impl Fifo {
         match self.doing {
             Doing::Nothing => Place::Idle,
             Doing::Put(PutLine::L5) | Doing::Take(TakeLine::L5) => Place::Last,
-            Doing::Put(PutLine::X1 | PutLine::X2 | PutLine::X3 | PutLine::X4) => Place::Expanding,
+            Doing::Grow(..) => Place::Expanding,
             _ => Place::Underway,
         }
     }
@@ -547,6 +582,34 @@ mod tests {
         assert_eq!(steps(&mut queue, 0, 2), Outcome::Published);
         assert_eq!(queue.store.task(0).number(), 1);
         assert_eq!(queue.window().count(), 0);
+    }
+
+    #[test]
+    fn a_commit_copies_what_is_in_the_queue_at_x2() {
+        let mut queue = fifo(2, 12);
+        put(&mut queue, 1, 10);
+        put(&mut queue, 2, 20);
+        assert!(queue.store.set_aside());
+        queue.begin_commit();
+        assert!(queue.commits());
+        steps(&mut queue, 0, 1); // X1
+        assert!(!queue.commits() && queue.copying());
+        queue.begin_steal(1);
+        assert_eq!(steps(&mut queue, 1, 7), Outcome::HandedOut(task(1, 10)));
+        // X2 finds one task left, X3 copies it, X4.
+        assert_eq!(steps(&mut queue, 0, 3), Outcome::Committed);
+        assert_eq!((queue.head, queue.tail, queue.store.owners_size()), (1, 2, 4));
+        assert_eq!(queue.window().collect::<Vec<_>>(), [task(2, 20)]);
+        assert_eq!(queue.store.task(0).number(), 0);
+    }
+
+    #[test]
+    fn a_commit_of_an_empty_queue_copies_nothing() {
+        let mut queue = fifo(2, 12);
+        assert!(queue.store.set_aside());
+        queue.begin_commit();
+        assert_eq!(steps(&mut queue, 0, 3), Outcome::Committed);
+        assert_eq!(queue.store.owners_size(), 4);
     }
 
     #[test]

@@ -11,8 +11,8 @@
 //! - [`guard`]: tags, and the links of kinds 4 and 5;
 //! - [`task`]: a task's words; [`store`]: the lent words and the directory of
 //!   arrays; [`waiting`]: the owner's waiting line, of delayed stores;
-//! - [`bench`]: fresh, begin, step, drop_link, drain and who, the refusals and
-//!   their order;
+//! - [`bench`]: fresh, begin, step, drop_link, drain, ask, drop_ask and who, the
+//!   refusals and their order;
 //! - [`account`]: the log's room and the six counts of `T`;
 //! - [`text`]: what a line of the input says; [`input`]: where it ends;
 //!   [`listing`]: a line of output;
@@ -20,14 +20,16 @@
 //! - [`call_text`], [`calls`]: lists of library calls;
 //! - [`witness`]: who watches a run; [`demand3`], [`restarts`], [`order`]: demand
 //!   3, the restarts of each worker and FIFO's order, checked from the history of
-//!   the calls; [`limits`], [`drains`], [`owner`]: the limits on what is shared,
-//!   what each call did to memory and to the waiting line, and what the owner read
-//!   and wrote; [`settled`]: memory with stores put down; [`checks`]: all of these;
+//!   the calls; [`limits`], [`asks`], [`drains`], [`owner`]: the limits on what is
+//!   shared, asks and commits, what each call did to memory and to the waiting line,
+//!   and what the owner read and wrote; [`settled`]: memory with stores put down;
+//!   [`checks`]: all of these;
 //! - [`log_judge`]: the judgement of a matcher's own log, [`log_cases`]: logs to
 //!   judge, by seed;
 //! - [`random`], [`script`], [`episodes`], [`damage`]: long random runs by seed.
 
 pub mod account;
+pub mod asks;
 pub mod bench;
 pub mod call_text;
 pub mod calls;

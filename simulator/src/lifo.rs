@@ -3,7 +3,7 @@
 
 use crate::guard::Guard;
 use crate::outcome::{refusal, Outcome, Place};
-use crate::store::{Array, Store};
+use crate::store::{Array, Growth, Store};
 use crate::task::{Payload, Task};
 use crate::waiting::Waiting;
 use crate::witness::Witness;
@@ -17,10 +17,10 @@ enum OwnerAt {
     PutTestFull,
     PutWrite(usize),
     PutSetAnchor,
-    X1Claim,
-    X2Note,
-    X3Copy,
-    X4Publish,
+    X1Claim(Growth),
+    X2Note(Growth),
+    X3Copy(Growth),
+    X4Publish(Growth),
     TakeReadAnchor,
     TakeTestEmpty,
     TakeRead(usize),
@@ -30,7 +30,8 @@ enum OwnerAt {
 #[derive(Clone, Debug)]
 struct Owner {
     at: OwnerAt,
-    /// The task being put, or as much as has been read of the one being taken.
+    /// The task being put, or as much as has been read of the one being taken; of a
+    /// commit zeros.
     task: Task,
     /// The anchor as line 1 read it. It is kept to the last line, whatever the
     /// thieves do to the anchor meanwhile.
@@ -111,6 +112,11 @@ impl Lifo {
         self.owner.at = OwnerAt::TakeReadAnchor;
     }
 
+    pub fn begin_commit(&mut self) {
+        self.owner.task = Task::default();
+        self.owner.at = OwnerAt::X1Claim(Growth::ForCommit);
+    }
+
     pub fn begin_steal(&mut self, worker: usize) {
         self.thieves[worker].at = ThiefAt::ReadAnchor;
     }
@@ -138,9 +144,9 @@ impl Lifo {
         match self.owner.at {
             OwnerAt::PutWrite(_)
             | OwnerAt::PutSetAnchor
-            | OwnerAt::X4Publish
+            | OwnerAt::X4Publish(_)
             | OwnerAt::TakeSetAnchor => 1,
-            OwnerAt::X3Copy => self.store.payload_words() as usize + 1,
+            OwnerAt::X3Copy(_) => self.store.payload_words() as usize + 1,
             _ => 0,
         }
     }
@@ -187,7 +193,7 @@ impl Lifo {
             }
             OwnerAt::PutTestFull => {
                 owner.at = if owner.t == self.store.owners_size() {
-                    OwnerAt::X1Claim
+                    OwnerAt::X1Claim(Growth::ForPut)
                 } else {
                     OwnerAt::PutWrite(0)
                 };
@@ -212,10 +218,10 @@ impl Lifo {
                 return Outcome::Finished(task);
             }
 
-            OwnerAt::X1Claim => match self.store.next_array() {
+            OwnerAt::X1Claim(why) => match self.store.next_array() {
                 Some(array) => {
                     self.store.claim(array);
-                    owner.at = OwnerAt::X2Note;
+                    owner.at = OwnerAt::X2Note(why);
                 }
                 None => {
                     if !room {
@@ -225,27 +231,35 @@ impl Lifo {
                     return Outcome::Full(owner.task);
                 }
             },
-            OwnerAt::X2Note => {
+            OwnerAt::X2Note(why) => {
                 // All slots of the old array, also those the thieves have
                 // emptied: its size is at least 1, so there is one to copy.
                 owner.next = 0;
                 owner.stop = self.store.owners_size();
-                owner.at = OwnerAt::X3Copy;
+                owner.at = OwnerAt::X3Copy(why);
             }
-            OwnerAt::X3Copy => {
+            OwnerAt::X3Copy(why) => {
                 let copies = self.store.copies_to_claimed(owner.next);
                 owner.next += 1;
                 if owner.next == owner.stop {
-                    owner.at = OwnerAt::X4Publish;
+                    owner.at = OwnerAt::X4Publish(why);
                 }
                 for copy in copies {
                     self.own(copy);
                 }
             }
-            OwnerAt::X4Publish => {
+            OwnerAt::X4Publish(Growth::ForPut) => {
                 owner.at = OwnerAt::PutReadAnchor;
                 self.own(self.store.note_of_claimed());
                 return Outcome::Published;
+            }
+            OwnerAt::X4Publish(Growth::ForCommit) => {
+                if !room {
+                    return Outcome::Refused(refusal::LOG_FULL);
+                }
+                owner.at = OwnerAt::Idle;
+                self.own(self.store.note_of_claimed());
+                return Outcome::Committed;
             }
 
             OwnerAt::TakeReadAnchor => {
@@ -358,6 +372,10 @@ impl Lifo {
         &self.store
     }
 
+    pub fn store_mut(&mut self) -> &mut Store {
+        &mut self.store
+    }
+
     pub fn into_store(self) -> Store {
         self.store
     }
@@ -369,7 +387,12 @@ impl Lifo {
 
     /// Whether the owner has claimed an array that it has not published.
     pub fn copying(&self) -> bool {
-        matches!(self.owner.at, OwnerAt::X2Note | OwnerAt::X3Copy | OwnerAt::X4Publish)
+        matches!(self.owner.at, OwnerAt::X2Note(_) | OwnerAt::X3Copy(_) | OwnerAt::X4Publish(_))
+    }
+
+    /// Whether the owner is at X1 of a commit.
+    pub fn commits(&self) -> bool {
+        self.owner.at == OwnerAt::X1Claim(Growth::ForCommit)
     }
 
     pub fn place(&self, worker: usize) -> Place {
@@ -377,9 +400,8 @@ impl Lifo {
             return match self.owner.at {
                 OwnerAt::Idle => Place::Idle,
                 OwnerAt::PutSetAnchor | OwnerAt::TakeSetAnchor => Place::Last,
-                OwnerAt::X1Claim | OwnerAt::X2Note | OwnerAt::X3Copy | OwnerAt::X4Publish => {
-                    Place::Expanding
-                }
+                OwnerAt::X1Claim(_) => Place::Expanding,
+                _ if self.copying() => Place::Expanding,
                 _ => Place::Underway,
             };
         }
@@ -544,6 +566,26 @@ mod tests {
         // X1, X2, two copies though only one task is left, X4.
         assert_eq!(steps(&mut queue, 0, 5), Outcome::Published);
         assert_eq!(queue.store.task(1), task(2, 20));
+    }
+
+    #[test]
+    fn a_commit_copies_every_slot_and_leaves_the_anchor() {
+        for mut queue in [lifo(4, 2, 12), linked(2, 12)] {
+            put(&mut queue, 1, 10);
+            queue.begin_steal(1);
+            steps(&mut queue, 1, 5);
+            let anchor = queue.anchor();
+            assert!(queue.store.set_aside());
+            queue.begin_commit();
+            // X1, X2, two copies, X4; the other slot is empty.
+            assert_eq!(steps(&mut queue, 0, 5), Outcome::Committed);
+            assert_eq!((queue.anchor(), queue.store.aside()), (anchor, 0));
+            assert_eq!(queue.store.words(), [1, 10, 0, 0, 1, 10, 0, 0, 0, 0, 0, 0]);
+            assert_eq!(queue.window().collect::<Vec<_>>(), [task(1, 10)]);
+            assert!(!queue.busy(0));
+            // The thief read the old array, and its compare succeeds.
+            assert_eq!(steps(&mut queue, 1, 1), Outcome::HandedOut(task(1, 10)));
+        }
     }
 
     #[test]

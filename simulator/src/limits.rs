@@ -1,7 +1,7 @@
 //! Refusal 12's limits on what is shared, which no state reached from fresh may
 //! break: the directory, the queue as memory has it with the array that thieves
-//! read, the queue as the owner reads it with the array that the owner reads, and
-//! the waiting line with its stores.
+//! read, the queue as the owner reads it with the array that the owner reads, the
+//! waiting line with its stores, and the words set aside.
 //!
 //! A drain can come at any time, so the limits on the queue have to hold as well
 //! with any front of the waiting line put down.
@@ -64,7 +64,7 @@ impl Witness for Limits {
     }
 }
 
-fn ask(kept: bool, what: impl FnOnce() -> String) -> Result<(), String> {
+fn need(kept: bool, what: impl FnOnce() -> String) -> Result<(), String> {
     if kept {
         Ok(())
     } else {
@@ -76,19 +76,19 @@ fn ask(kept: bool, what: impl FnOnce() -> String) -> Result<(), String> {
 fn kept(shape: Shape, shown: &Shown) -> Result<(), String> {
     let count = waiting(shown.store).count();
     let most = if shape.delayed { LONGEST } else { 0 };
-    ask(count <= most, || format!("{count} stores wait"))?;
+    need(count <= most, || format!("{count} stores wait"))?;
     directory(shape, shown)?;
     let arrays = shown.store.arrays();
     let mut published = shown.store.published();
     let mut anchor = shown.anchor;
-    ask(1 <= published && published <= arrays.len(), || format!("{published} arrays are published"))?;
+    need(1 <= published && published <= arrays.len(), || format!("{published} arrays are published"))?;
     queue(shape, anchor, arrays[published - 1].size)?;
     for &store in waiting(shown.store) {
         waiting_store(shape, shown, store)?;
         match store {
             Waiting::Word { .. } => {}
             Waiting::Note { published: noted } => {
-                ask(noted == published + 1, || format!("a note of {noted} arrays follows {published}"))?;
+                need(noted == published + 1, || format!("a note of {noted} arrays follows {published}"))?;
                 published = noted;
             }
             Waiting::Anchor(next) => anchor = next,
@@ -99,9 +99,23 @@ fn kept(shape: Shape, shown: &Shown) -> Result<(), String> {
     }
     // What the notes wait for counts as published.
     let claimed = published + usize::from(shown.copying);
-    ask(arrays.len() == claimed, || {
+    need(arrays.len() == claimed, || {
         format!("{} arrays are claimed, {published} published for the owner", arrays.len())
-    })
+    })?;
+    set_aside(shape, shown, arrays[published - 1].size)
+}
+
+/// The words set aside are what an ask would set aside, with the size of the array
+/// that the owner reads, and they fit the store. There are none at X2 to X4, and
+/// some at a commit's X1.
+fn set_aside(shape: Shape, shown: &Shown, size: u32) -> Result<(), String> {
+    let each = shape.payload_words + 1;
+    let used: u32 = shown.store.arrays().iter().map(|array| array.size * each).sum();
+    let aside = shown.store.aside();
+    let right = 2 * size <= LARGEST && aside == 2 * size * each && (used + aside) as usize <= shown.store.words().len();
+    need(aside == 0 || right, || format!("{aside} words are set aside with an array of {size}"))?;
+    need(aside == 0 || !shown.copying, || format!("{aside} words are set aside at X2 to X4"))?;
+    need(aside > 0 || !shown.commits, || "none are set aside at a commit's X1".to_string())
 }
 
 /// Laid end to end from offset 0, each twice the one before, within the store.
@@ -109,11 +123,11 @@ fn directory(shape: Shape, shown: &Shown) -> Result<(), String> {
     let mut end = 0;
     let mut size = shape.size;
     for array in shown.store.arrays() {
-        ask((array.offset, array.size) == (end, size) && size <= LARGEST, || format!("array {array:?}"))?;
+        need((array.offset, array.size) == (end, size) && size <= LARGEST, || format!("array {array:?}"))?;
         end += size * (shape.payload_words + 1);
         size *= 2;
     }
-    ask(end as usize <= shown.store.words().len(), || format!("arrays up to word {end}"))
+    need(end as usize <= shown.store.words().len(), || format!("arrays up to word {end}"))
 }
 
 /// The queue's own, with the size of the array it is read with.
@@ -125,7 +139,7 @@ fn queue(shape: Shape, anchor: [u32; 3], size: u32) -> Result<(), String> {
         2 => first <= second && second <= LAST_TAIL && second - first <= size,
         _ => first < HEADS && second <= size,
     };
-    ask(within && tag < tags, || format!("the anchor {anchor:?} with an array of {size}"))
+    need(within && tag < tags, || format!("the anchor {anchor:?} with an array of {size}"))
 }
 
 fn waiting_store(shape: Shape, shown: &Shown, store: Waiting) -> Result<(), String> {
@@ -143,7 +157,7 @@ fn waiting_store(shape: Shape, shown: &Shown, store: Waiting) -> Result<(), Stri
         Waiting::Anchor(_) => !fifo,
         Waiting::Head(_) | Waiting::Tail(_) => fifo,
     };
-    ask(within, || format!("the waiting store {store:?}"))
+    need(within, || format!("the waiting store {store:?}"))
 }
 
 #[cfg(test)]
@@ -163,7 +177,7 @@ mod tests {
         for &waiting in stores {
             store.line_mut().join(waiting);
         }
-        kept(shape(kind), &Shown { anchor, restarts: &[0; 8], store: &store, copying }).is_ok()
+        kept(shape(kind), &Shown { anchor, restarts: &[0; 8], store: &store, copying, commits: false }).is_ok()
     }
 
     const NOTE: Waiting = Waiting::Note { published: 2 };
@@ -215,6 +229,54 @@ mod tests {
         }
     }
 
+    /// A bench whose first array holds `size` tasks of one payload word, of so many
+    /// words, which asked while it had `asked_with` of them. It claims and waits with
+    /// a note if it is to.
+    fn kept_aside(size: u32, words: usize, asked_with: usize, claims: bool, [notes, copying, commits]: [bool; 3]) -> bool {
+        let mut store = Store::fresh(vec![0; asked_with], size, 1).with_line(true);
+        assert!(store.set_aside());
+        let aside = store.aside();
+        let mut store = Store::fresh(vec![0; words], size, 1).with_line(true);
+        if claims {
+            store.claim(store.next_array().unwrap());
+            if notes {
+                store.line_mut().join(NOTE);
+            }
+        }
+        store.have_aside(aside);
+        let shape = Shape { size, ..shape(1) };
+        kept(shape, &Shown { anchor: [0; 3], restarts: &[0; 8], store: &store, copying, commits }).is_ok()
+    }
+
+    #[test]
+    fn words_set_aside_are_an_asks_fit_and_do_not_stand_while_copying() {
+        for commits in [false, true] {
+            assert!(kept_aside(1, 6, 6, false, [false, false, commits]));
+            assert!(!kept_aside(1, 5, 6, false, [false, false, commits]), "they no longer fit");
+            assert!(!kept_aside(1, 14, 6, true, [true, false, commits]), "of the size before");
+            assert!(!kept_aside(1, 14, 6, true, [false, true, commits]), "X2 to X4");
+        }
+        assert!(kept_aside(512, 3072, 3072, false, [false; 3]));
+        assert!(!kept_aside(512, 3071, 3072, false, [false; 3]));
+        // Of another size, of none, and of one above the largest.
+        let with = |size: u32, aside, commits| {
+            let mut store = Store::fresh(vec![0; 10_300], size, 1).with_line(true);
+            store.have_aside(aside);
+            let shown = Shown { anchor: [0; 3], restarts: &[0; 8], store: &store, copying: false, commits };
+            kept(Shape { size, ..shape(1) }, &shown).is_ok()
+        };
+        for size in [1, 2, 512] {
+            let right = 4 * size;
+            assert!(with(size, right, false) && with(size, right, true));
+            for wrong in [1, right / 2, right - 1, right + 1, 2 * right] {
+                assert!(!with(size, wrong, false), "{wrong} with {size}");
+            }
+            assert!(with(size, 0, false));
+            assert!(!with(size, 0, true), "none at a commit's X1");
+        }
+        assert!(!with(1024, 4096, false));
+    }
+
     #[test]
     fn eight_may_wait_and_none_without_the_mode() {
         let store = Waiting::Word { array: 0, slot: 0, word: 0, value: 1 };
@@ -223,7 +285,7 @@ mod tests {
         let mut waits = Store::fresh(vec![0; 2], 1, 1).with_line(true);
         let shown = |store: &Store, delayed| {
             let shape = Shape { delayed, ..shape(1) };
-            kept(shape, &Shown { anchor: [0; 3], restarts: &[0; 8], store, copying: false }).is_ok()
+            kept(shape, &Shown { anchor: [0; 3], restarts: &[0; 8], store, copying: false, commits: false }).is_ok()
         };
         assert!(shown(&waits, false));
         waits.line_mut().join(store);

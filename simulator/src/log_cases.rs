@@ -4,7 +4,8 @@
 use std::collections::HashSet;
 
 use crate::bench::Shape;
-use crate::log_judge::{entry_bytes, EMPTY, FINISHED, FULL, HANDED_OUT, LONGEST, NUMBER};
+use crate::calls::Calls;
+use crate::log_judge::{entry_bytes, COMMITTED, EMPTY, FINISHED, FULL, HANDED_OUT, LONGEST, NUMBER};
 use crate::play::Player;
 use crate::random::Random;
 use crate::task::Task;
@@ -138,10 +139,12 @@ fn valid(random: &mut Random, words: u32, count: usize, listed: Option<usize>) -
             entries.push(entry(HANDED_OUT, worker, *number, payload));
             handed_out.insert(*number);
         } else {
-            // Its number and payload are not judged.
+            // EMPTY or a commit: its number and payload are not judged.
+            let kind = if random.chance(40) { COMMITTED } else { EMPTY };
             let odd = random.chance(20);
             let payload: Vec<u32> = (0..words).map(|_| if odd { random.word() } else { 0 }).collect();
-            entries.push(entry(EMPTY, worker, if odd { next } else { 0 }, &payload));
+            let number = if odd { *random.pick(&[next, next.wrapping_sub(1), u32::MAX]) } else { 0 };
+            entries.push(entry(kind, worker, number, &payload));
         }
     }
     let mut list: Vec<u32> =
@@ -227,10 +230,10 @@ fn damaged(random: &mut Random, mut case: Case) -> Case {
             case.log.splice(to..to, entry);
         }
         10 if entries > 0 => {
-            // Another kind: a put handed out becomes a FULL handed out, a FULL
-            // a put that nobody listed, a put a hand-out before any put.
+            // Another kind: a put handed out becomes a FULL or a commit handed out,
+            // a FULL a put that nobody listed, a put a hand-out before any put.
             let at = each * random.below(entries as u32) as usize;
-            case.log[at] = random.between(0, 5) as u8;
+            case.log[at] = random.between(0, 7) as u8;
         }
         11 => case.words = *random.pick(&[0, 1, 2, 3, 4, 5, 16, u32::MAX]),
         _ => case = lengthened(random, case),
@@ -262,7 +265,8 @@ fn noise(random: &mut Random, words: u32) -> Case {
     }
     let entries: Vec<Entry> = (0..random.between(1, 4))
         .map(|_| {
-            let front = [random.between(1, 4), random.below(8), random.below(4)];
+            let kind = if random.chance(3) { 6 } else { random.between(1, 5) };
+            let front = [kind, random.below(8), random.below(4)];
             let payload: Vec<u32> = (0..words).map(|_| random.below(2)).collect();
             [&front[..], &payload].concat()
         })
@@ -271,17 +275,20 @@ fn noise(random: &mut Random, words: u32) -> Case {
     Case::of(words, &entries, &list)
 }
 
-/// Writes down the log of a run.
+/// Writes down the log of a run, and the put numbers that its window shows.
 #[derive(Default)]
 struct Scribe {
     payload_words: u32,
     /// What was put; numbers are given from 1 on, in turn.
     tasks: Vec<Task>,
     entries: Vec<Entry>,
+    standing: Vec<u32>,
+    window_moved: bool,
 }
 
 impl Scribe {
     fn enter(&mut self, kind: u32, worker: usize, task: Task) {
+        self.window_moved = true;
         let task = task.words(self.payload_words);
         self.entries.push(entry(kind, worker as u32, task[0], &task[1..]));
     }
@@ -293,7 +300,7 @@ impl Scribe {
 
 impl Witness for Scribe {
     fn fresh(&mut self, shape: Shape) {
-        self.payload_words = shape.payload_words;
+        *self = Scribe { payload_words: shape.payload_words, ..Scribe::default() };
     }
     fn put_begun(&mut self, task: Task) {
         self.tasks.push(task);
@@ -310,28 +317,50 @@ impl Witness for Scribe {
     fn full(&mut self, number: u32) {
         self.enter(FULL, 0, self.put(number));
     }
+    fn committed(&mut self) {
+        self.enter(COMMITTED, 0, Task::default());
+    }
+    fn wants_window(&self) -> bool {
+        self.window_moved
+    }
+    fn window(&mut self, tasks: &mut dyn Iterator<Item = Task>) {
+        self.window_moved = false;
+        self.standing = tasks.map(|task| task.number()).collect();
+    }
 }
 
 /// The log of a run, given as the bench's input, and the put numbers that its
-/// window shows at the end.
+/// window shows at the end; or the same of the last bench of a list of calls.
 pub fn of_run(text: &[u8]) -> Case {
-    let mut player = Player::new(Scribe::default());
+    let lines = text.split(|&byte| byte == b'\n');
     let mut listing = Vec::new();
-    for line in text.split(|&byte| byte == b'\n') {
-        listing.clear();
-        if !player.line(line, &mut listing) {
-            break;
+    let scribe = if text.starts_with(b"memory ") {
+        let mut calls = Calls::new(Scribe::default());
+        for line in lines {
+            listing.clear();
+            if !calls.line(line, &mut listing).expect("memory takes all") {
+                break;
+            }
         }
-    }
-    let Scribe { payload_words, entries, .. } = player.witness();
+        calls.into_witness()
+    } else {
+        let mut player = Player::new(Scribe::default());
+        for line in lines {
+            listing.clear();
+            if !player.line(line, &mut listing) {
+                break;
+            }
+        }
+        player.into_witness()
+    };
     // A run without a queue has an empty log of any width.
-    Case::of((*payload_words).max(1), entries, &player.standing())
+    Case::of(scribe.payload_words.max(1), &scribe.entries, &scribe.standing)
 }
 
 #[cfg(test)]
 mod tests {
     use super::*;
-use crate::log_judge::{judge_log, ACCEPTED};
+    use crate::log_judge::{judge_log, ACCEPTED};
 
     #[test]
     fn valid_histories_are_accepted() {
@@ -383,6 +412,37 @@ use crate::log_judge::{judge_log, ACCEPTED};
         let run = b"queue 1 1 2 2 12\nput 65\nstep 0 5\nsteal 1\nstep 1 5\ntake\nstep 0 5\nput 66\nstep 0 5\ntake\nstep 0 5\nput 67\nstep 0 5\nstep 1 1\n";
         let case = of_run(run);
         assert_eq!(judge_log(case.words, &case.log, &case.list), 0);
+    }
+
+    #[test]
+    fn the_log_of_a_list_of_calls() {
+        for delayed in [0, 1] {
+            let drains = "drain\n".repeat(8);
+            let list = format!(
+                "memory 9 60\nfresh 1 1 1 2 2\nbegin 0 put 1\nstep 0 6\nfresh 2 1 1 2 2 {delayed}\nbegin 0 put 5 6\nstep 0 7\n\
+                 {drains}ask 0\nbegin 0 commit\nstep 0 4\n{drains}begin 1 steal\nstep 1 9\nbegin 0 put 7 8\nstep 0 7\nfresh 0 1 1 1 1\nend\n"
+            );
+            let case = of_run(list.as_bytes());
+            let entries = [[1, 0, 1, 5, 6], [5, 0, 0, 0, 0], [2, 1, 1, 5, 6], [1, 0, 2, 7, 8]];
+            assert_eq!((case.words, case.log), (2, bytes(&entries.concat())));
+            assert_eq!(case.list, bytes(&[2]));
+        }
+    }
+
+    #[test]
+    fn commits_are_among_the_cases() {
+        let mut random = Random::new(3);
+        let mut kinds = [0; 8];
+        for _ in 0..2000 {
+            let case = super::random(&mut random);
+            let each = if (1..=4).contains(&case.words) { entry_bytes(case.words) } else { 16 };
+            for entry in case.log.chunks_exact(each) {
+                if let Some(count) = kinds.get_mut(u32::from_le_bytes([entry[0], entry[1], entry[2], entry[3]]) as usize) {
+                    *count += 1;
+                }
+            }
+        }
+        assert!(kinds[5] > 1000 && kinds[6] > 10 && kinds[7] > 5, "{kinds:?}");
     }
 
     #[test]

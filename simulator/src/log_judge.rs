@@ -3,10 +3,10 @@
 //! The log is a row of entries: kind, worker, put number and 1 to 4 payload
 //! words, as many as are said, each word four bytes, lowest first. Beside it
 //! comes a list of the put numbers that the matcher says are still stored. The
-//! log is accepted exactly when its kinds are 1 to 4, the numbers of kinds 1 and
+//! log is accepted exactly when its kinds are 1 to 5, the numbers of kinds 1 and
 //! 4 together strictly rise, each hand-out repeats the number and the whole
 //! payload of a put finished earlier in the log, and each finished put is handed
-//! out or listed.
+//! out or listed. An entry of kind 5 is passed over, whatever its words are.
 
 use std::collections::{HashMap, HashSet};
 
@@ -35,6 +35,7 @@ pub const FINISHED: u32 = 1;
 pub const HANDED_OUT: u32 = 2;
 pub const EMPTY: u32 = 3;
 pub const FULL: u32 = 4;
+pub const COMMITTED: u32 = 5;
 
 /// The refusal, 0 for no, or 2^32 + 65,536 × hand-outs + repeats.
 pub fn judge_log(payload_words: u32, log: &[u8], list: &[u8]) -> u64 {
@@ -80,7 +81,7 @@ fn judge_entries(entry_words: usize, log: &[u32], list: &[u32]) -> Option<(u64, 
                 handed_out.insert(number);
                 hand_outs += 1;
             }
-            EMPTY => {}
+            EMPTY | COMMITTED => {}
             _ => return None,
         }
     }
@@ -159,10 +160,31 @@ mod tests {
 
     #[test]
     fn other_kinds_and_words_that_are_not_judged() {
-        for kind in [0, 5, 257, 65_537, u32::MAX] {
+        for kind in [0, 6, 7, 257, 261, 65_537, 65_541, u32::MAX] {
             assert_eq!(judged(&[[kind, 0, 1, 9]], &[1]), 0);
+            assert_eq!(judged(&[[kind, 0, 0, 0]], &[]), 0);
         }
         assert_eq!(judged(&[[3, 99, 7, 7], [3, 0, 7, 8], [1, u32::MAX, 1, 9]], &[1]), accepted(0, 0));
+    }
+
+    #[test]
+    fn kind_5_is_passed_over_whole() {
+        let commit = [5, 0, 0, 0];
+        assert_eq!(judged(&[commit], &[]), accepted(0, 0));
+        // Behind a put, whose number is above 0; with any worker, number and payload.
+        for odd in [commit, [5, u32::MAX, 7, 9], [5, 3, 1, 9], [5, 0, u32::MAX, u32::MAX]] {
+            assert_eq!(judged(&[[1, 0, 1, 9], odd, [1, 0, 2, 8], odd, [2, 1, 1, 9]], &[2]), accepted(1, 0));
+            assert_eq!(judged(&[odd, [4, 0, 1, 9], odd, [1, 0, 2, 8], odd], &[2]), accepted(0, 0));
+            // Its number is no put's and no hand-out's.
+            assert_eq!(judged(&[odd, [2, 1, odd[2], odd[3]]], &[odd[2]]), 0);
+            assert_eq!(judged(&[[1, 0, 1, 9], odd], &[]), 0);
+        }
+        // What rises goes past it.
+        assert_eq!(judged(&[[1, 0, 3, 9], [5, 0, 9, 0], [1, 0, 3, 9]], &[3]), 0);
+        for width in 1..=4 {
+            let entries = [[1, 0, 1].to_vec(), vec![9; width], vec![5, 0, 0], vec![0; width], vec![2, 0, 1], vec![9; width]];
+            assert_eq!(judge_log(width as u32, &bytes(&entries.concat()), &[]), accepted(1, 0));
+        }
     }
 
     #[test]

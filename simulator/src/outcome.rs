@@ -21,6 +21,9 @@ pub mod refusal {
     pub const NO_LINK: u32 = 17;
     pub const LINE_FULL: u32 = 18;
     pub const NONE_WAITING: u32 = 19;
+    pub const NO_ROOM_TO_GROW: u32 = 20;
+    pub const ASK_STANDS: u32 = 21;
+    pub const NO_ASK: u32 = 22;
 }
 
 /// What one step did. A machine that answers `Refused` has changed nothing.
@@ -31,15 +34,18 @@ pub enum Outcome {
     /// The compare failed, by the anchor or for want of a link, and the steal
     /// goes on at line 1 again: a restart.
     Restarted,
-    /// X4: the put goes on at line 1 again, and counts as no restart.
+    /// X4 of a put: it goes on at line 1 again, and counts as no restart.
     Published,
+    /// X4 of a commit: it has ended.
+    Committed,
     /// A put finished.
     Finished(Task),
     /// A take or a steal was handed a task.
     HandedOut(Task),
     /// A take or a steal found nothing.
     Empty,
-    /// X1 could not claim an array.
+    /// X1 could not claim an array. (Of a commit, which never answers so, it would
+    /// be with a task of zeros.)
     Full(Task),
     Refused(u32),
 }
@@ -56,6 +62,6 @@ pub enum Place {
     /// The next line would end the operation: the owner's write of the anchor,
     /// head or tail, or a thief's compare.
     Last,
-    /// The owner is at X1, X2, X3 or X4.
+    /// The owner is at X1, X2, X3 or X4, of a put or of a commit.
     Expanding,
 }

@@ -10,11 +10,13 @@
 //!   array, FULL if no larger one can be claimed;
 //! - X3 copies what it reads, as many tasks as it read at X2 (LIFO: every slot), and
 //!   X4 notes the claimed array;
-//! - 18 is answered only if the step's stores would make more than eight.
+//! - a commit is such a growth alone, full array or not;
+//! - 18 is answered only if the step's stores would make more than eight, and while
+//!   eight wait 11 is answered only to EMPTY and FULL, which make none.
 
 use std::fmt;
 
-use crate::bench::Shape;
+use crate::bench::{Operation, Shape};
 use crate::outcome::{refusal, Outcome};
 use crate::settled::{waiting, Memory};
 use crate::store::LARGEST;
@@ -45,8 +47,10 @@ pub struct Owner {
     written: usize,
     /// The step does line 1.
     line_one: bool,
-    /// What the owner would read before its line 1.
+    /// What the owner would read before its line 1; of a commit before its X1.
     read: Option<Memory>,
+    /// The last operation that the owner began.
+    operation: Operation,
     growth: Growth,
     /// How few stores waited when its next step was refused 18.
     refused_at: Option<usize>,
@@ -65,6 +69,7 @@ impl Owner {
             written: 0,
             line_one: false,
             read: None,
+            operation: Operation::Take,
             growth: Growth::None,
             refused_at: None,
             wrong: None,
@@ -73,6 +78,15 @@ impl Owner {
 
     pub fn is_wrong(&self) -> bool {
         self.wrong.is_some()
+    }
+
+    /// Whether it would end with EMPTY or FULL, by what it read.
+    fn ends_without_a_store(&self) -> bool {
+        self.read.as_ref().is_some_and(|read| match self.operation {
+            Operation::Put { .. } => read.count() == read.size(),
+            Operation::Take => read.count() == 0,
+            Operation::Steal | Operation::Commit => false,
+        })
     }
 
     /// Whether an accepted step with these new stores did what it should; else
@@ -89,7 +103,10 @@ impl Owner {
         let Some(read) = &self.read else { return Ok(()) };
         let [first, second, tag] = read.anchor;
         let (kind, size, count) = (shape.kind, read.size(), read.count());
+        let commit = self.operation == Operation::Commit;
         let fine = match outcome {
+            // A commit goes on, and ends by X4.
+            _ if commit && !matches!(outcome, Outcome::GoesOn | Outcome::Committed) => false,
             Outcome::Finished(task) => {
                 let tags = if matches!(kind, 1 | 3) { 1 << shape.width } else { 1 };
                 let last = match kind {
@@ -113,14 +130,15 @@ impl Owner {
                 let larger = 2 * size <= LARGEST && left >= 2 * size * (shape.payload_words + 1);
                 count == size && !larger && new.is_empty()
             }
-            Outcome::Published => {
+            Outcome::Committed if !commit => false,
+            Outcome::Published | Outcome::Committed => {
                 let copied = matches!(self.growth, Growth::Copying { next, stop } if next == stop);
                 self.growth = Growth::None;
                 copied && new == [Waiting::Note { published: now.arrays.len() }]
             }
             Outcome::GoesOn if now.arrays.len() > before.arrays.len() => {
                 self.growth = Growth::Claimed;
-                count == size && new.is_empty()
+                (commit || count == size) && new.is_empty()
             }
             Outcome::GoesOn => match self.growth {
                 Growth::Claimed => {
@@ -142,6 +160,7 @@ impl Owner {
                     let copy = |word| Waiting::Word { array, slot, word, value: task.0[word] };
                     next < stop && new.iter().copied().eq((0..=shape.payload_words as usize).map(copy))
                 }
+                Growth::None if commit => false,
                 Growth::None if new.is_empty() => true,
                 Growth::None => {
                     let index = if kind == 2 { second } else { first + second };
@@ -217,11 +236,21 @@ impl Witness for Owner {
                 if number == refusal::LINE_FULL {
                     self.refused_at = Some(self.waiting);
                 }
+                let stores = number == refusal::LOG_FULL && !self.ends_without_a_store();
+                if stores && self.waiting == LONGEST && self.wrong.is_none() {
+                    self.wrong = Some(format!("by call {}: 11 though its store could not wait", self.calls));
+                }
             }
             Cause::Step { worker: 0, outcome } => {
                 let new = line.get(self.waiting..).unwrap_or(&[]);
                 if let (Err(what), None) = (self.step(shape, outcome, &now, new), &self.wrong) {
                     self.wrong = Some(format!("by call {}: {what}", self.calls));
+                }
+            }
+            Cause::Begin { worker: 0, operation, answer: Ok(()) } => {
+                self.operation = operation;
+                if operation == Operation::Commit {
+                    self.read = Some(now.clone());
                 }
             }
             _ => {}
@@ -235,6 +264,7 @@ impl Witness for Owner {
 mod tests {
     use super::*;
     use crate::calls::Calls;
+    use crate::store::Store;
 
     fn kept(list: &str) -> bool {
         let mut calls = Calls::new(Owner::new());
@@ -259,6 +289,101 @@ mod tests {
                 assert!(kept(&list), "kind {kind}, {words} words");
             }
         }
+    }
+
+    #[test]
+    fn commits_of_every_kind_and_width() {
+        for kind in 1..=5 {
+            for words in 1..=4 {
+                let drains = "drain, ".repeat(6);
+                let commit = format!("ask 0, begin 0 commit, {}", format!("step 0 3, {drains}").repeat(6));
+                let put = format!("begin 0 put 7 8 9 10, {}", format!("step 0 4, {drains}").repeat(3));
+                let list = format!(
+                    "memory 35 200, fresh {kind} 1 1 2 {words} 1, {commit}{put}{put}{commit}begin 0 take, step 0 9, ask 0, state"
+                );
+                assert!(kept(&list), "kind {kind}, {words} words");
+            }
+        }
+    }
+
+    #[test]
+    fn refused_11_while_eight_wait() {
+        let played = |list: &str| {
+            let mut calls = Calls::new(Owner::new());
+            for line in list.split(", ") {
+                assert!(calls.line(line.as_bytes(), &mut Vec::new()).unwrap(), "{line}");
+            }
+            let mut owner = calls.into_witness();
+            assert!(!owner.is_wrong());
+            // The same step refused 11, be it so or not.
+            let mut store = Store::fresh(vec![0; 6], 1, 1).with_line(true);
+            for _ in 0..owner.waiting {
+                store.line_mut().join(Waiting::Word { array: 0, slot: 0, word: 0, value: 1 });
+            }
+            let shown = Shown { anchor: [0; 3], restarts: &[0; 8], store: &store, copying: false, commits: false };
+            owner.after(Cause::Step { worker: 0, outcome: Outcome::Refused(refusal::LOG_FULL) }, &shown);
+            (owner.waiting, owner.is_wrong())
+        };
+        let puts = |size: u32| format!("memory 14 40, fresh 3 1 {size} 2 1 1, begin 0 put 5, step 0 5, begin 0 put 6, step 0 5, ");
+        // X4 of a commit, a put's last line and a take's, with eight waiting and with seven.
+        let commit = format!("{}ask 0, begin 0 commit, step 0 3, drain, drain, step 0 1", puts(2));
+        assert_eq!(played(&commit), (8, true));
+        assert_eq!(played(&format!("{commit}, drain")), (7, false));
+        let put = format!("{}begin 0 put 7, step 0 4", puts(4));
+        assert_eq!(played(&put), (8, true));
+        assert_eq!(played(&format!("{put}, drain")), (7, false));
+        let take = format!("{put}, drain, step 0 1, begin 0 take, step 0 4");
+        assert_eq!(played(&take), (8, true));
+        assert_eq!(played(&format!("{take}, drain")), (7, false));
+        // EMPTY and FULL make no store.
+        let taken = "begin 0 put 5, step 0 5, begin 0 take, step 0 5, ".repeat(2);
+        let empty = format!("memory 2 40, fresh 3 1 1 2 1 1, {taken}");
+        assert_eq!(played(&format!("{empty}begin 0 take, step 0 1")), (8, false));
+        let full = format!("{empty}drain, drain, drain, begin 0 put 6, step 0 5, begin 0 put 7, step 0 2");
+        assert_eq!(played(&full), (8, false));
+    }
+
+    /// Two notes wait, with nothing to copy between them.
+    #[test]
+    fn commits_of_an_empty_queue_undrained() {
+        for kind in [2, 3, 5] {
+            let commit = "ask 0, begin 0 commit, step 0 3, ";
+            assert!(kept(&format!("memory 14 200, fresh {kind} 1 1 2 1 1, {commit}{commit}begin 0 put 8, step 0 6, state")));
+        }
+    }
+
+    /// The owner after so many steps of a commit, in an empty LIFO bench of one task.
+    fn in_a_commit(steps: u32) -> (Owner, Memory) {
+        let mut calls = Calls::new(Owner::new());
+        for line in ["memory 6 40", "fresh 1 1 1 2 1 1", "ask 0", "begin 0 commit", &format!("step 0 {steps}")] {
+            assert!(calls.line(line.as_bytes(), &mut Vec::new()).unwrap());
+        }
+        let owner = calls.into_witness();
+        assert!(!owner.is_wrong());
+        let before = owner.before.clone().unwrap();
+        (owner, before)
+    }
+
+    #[test]
+    fn a_commit_is_x1_to_x4_alone() {
+        let note = [Waiting::Note { published: 2 }];
+        // After X1, X2 and one X3 it is X4.
+        for steps in 0..=3 {
+            let (mut owner, now) = in_a_commit(steps);
+            assert_eq!(owner.step(SHAPE, Outcome::Committed, &now, &note).is_ok(), steps == 3, "{steps} steps");
+            let task = Task::default();
+            let ends = [Outcome::Finished(task), Outcome::HandedOut(task), Outcome::Full(task), Outcome::Empty, Outcome::Published];
+            for outcome in ends {
+                for new in [&[][..], &note[..]] {
+                    let (mut owner, now) = in_a_commit(steps);
+                    assert!(owner.step(SHAPE, outcome, &now, new).is_err(), "{outcome:?}");
+                }
+            }
+        }
+        let (mut owner, now) = in_a_commit(0);
+        assert!(owner.step(SHAPE, Outcome::GoesOn, &now, &[]).is_err(), "X1 claimed nothing");
+        let (mut owner, now) = before_the_last_line();
+        assert!(owner.step(SHAPE, Outcome::Committed, &now, &note).is_err(), "a put");
     }
 
     /// The owner as a bench shows it after a put of `[1, 5]` up to its last line,

@@ -30,6 +30,10 @@ impl<W: Witness> Player<W> {
         &self.witness
     }
 
+    pub fn into_witness(self) -> W {
+        self.witness
+    }
+
     /// How far a worker is; none without a bench or such a worker.
     pub fn place(&self, worker: u32) -> Option<Place> {
         self.game.as_ref()?.bench.place(worker)
@@ -38,12 +42,6 @@ impl<W: Witness> Player<W> {
     /// Whether the current array is full.
     pub fn full(&self) -> bool {
         self.game.as_ref().is_some_and(|game| game.bench.full())
-    }
-
-    /// The put numbers in the window; none without a bench.
-    pub fn standing(&self) -> Vec<u32> {
-        let window = self.game.iter().flat_map(|game| game.bench.window());
-        window.map(|task| task.number()).collect()
     }
 
     /// How many more entries the log can take; none without a bench.
@@ -143,6 +141,7 @@ impl<W: Witness> Player<W> {
                     account.other_entry();
                     print(listing, b'F', &[task.number()]);
                 }
+                Outcome::Committed => unreachable!("the program has no line for a commit"),
                 Outcome::Refused(number) => return Err(number),
             }
             witness.answered(worker, outcome);

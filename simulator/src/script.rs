@@ -263,6 +263,36 @@ impl Script {
         self.say(&format!("drop {worker}"));
     }
 
+    /// Words are set aside. The program has no line for this, for the drop of it or
+    /// for a commit.
+    pub fn ask(&mut self, worker: u32) {
+        self.say(&format!("ask {worker}"));
+    }
+
+    pub fn drop_ask(&mut self, worker: u32) {
+        self.say(&format!("unask {worker}"));
+    }
+
+    pub fn commit(&mut self, worker: u32) {
+        self.say(&format!("begin {worker} commit"));
+    }
+
+    /// How many tasks are in the window.
+    pub fn standing(&self) -> usize {
+        match &self.form {
+            Form::Program(_) => 0,
+            Form::Calls(calls) => calls.standing(),
+        }
+    }
+
+    /// Whether an ask stands.
+    pub fn asked(&self) -> bool {
+        match &self.form {
+            Form::Program(_) => false,
+            Form::Calls(calls) => calls.aside() > 0,
+        }
+    }
+
     pub fn who(&mut self, worker: u32) {
         self.say(&format!("who {worker}"));
     }
@@ -274,7 +304,8 @@ impl Script {
         }
     }
 
-    /// Whether links can fail here: the program has no line for it.
+    /// Whether links can fail here, and the owner can ask and commit: the program
+    /// has no line for it.
     pub fn has_event(&self) -> bool {
         matches!(self.form, Form::Calls(_))
     }

@@ -2,7 +2,7 @@
 //! It is written apart from the machines and knows nothing of how they read: with
 //! all waiting stores put down it is what the owner reads.
 
-use crate::store::{Array, Store};
+use crate::store::{Array, Store, LARGEST};
 use crate::task::Task;
 use crate::waiting::Waiting;
 use crate::witness::Shown;
@@ -61,6 +61,14 @@ impl Memory {
         self.arrays[self.published - 1].size
     }
 
+    /// The words that an array of twice that takes; none if X1 would answer FULL.
+    pub fn doubled(&self) -> Option<u32> {
+        let each = self.payload_words + 1;
+        let used: u32 = self.arrays.iter().map(|array| array.size * each).sum();
+        let words = 2 * self.size() * each;
+        (2 * self.size() <= LARGEST && (used + words) as usize <= self.words.len()).then_some(words)
+    }
+
     /// How many tasks are in the window.
     pub fn count(&self) -> u32 {
         match self.kind {
@@ -84,6 +92,30 @@ impl Memory {
     pub fn window(&self) -> Vec<Task> {
         let first = self.anchor[0];
         (first..first + self.count()).map(|index| self.task(index)).collect()
+    }
+}
+
+/// All that a bench shows, to be held against what it shows later.
+#[derive(Clone, Debug, PartialEq, Eq)]
+pub struct Kept {
+    pub memory: Memory,
+    pub line: Vec<Waiting>,
+    pub aside: u32,
+    pub restarts: [u32; 8],
+    pub copying: bool,
+    pub commits: bool,
+}
+
+impl Kept {
+    pub fn of(kind: u32, shown: &Shown) -> Kept {
+        Kept {
+            memory: Memory::of(kind, shown),
+            line: waiting(shown.store).copied().collect(),
+            aside: shown.store.aside(),
+            restarts: *shown.restarts,
+            copying: shown.copying,
+            commits: shown.commits,
+        }
     }
 }
 

@@ -1,5 +1,5 @@
-//! The store: the lent words, the arrays laid end to end in them, and the owner's
-//! waiting line.
+//! The store: the lent words, the arrays laid end to end in them, the words set
+//! aside for one more, and the owner's waiting line.
 //!
 //! A task takes its put number's word and the payload's, and an array as many
 //! times that as it holds tasks. What a thief reads is memory; what the owner
@@ -21,6 +21,15 @@ pub struct Array {
     pub size: u32,
 }
 
+/// Why the owner is at X1 to X4.
+#[derive(Clone, Copy, Debug, PartialEq, Eq)]
+pub enum Growth {
+    /// A put found the array full, and goes on at its line 1.
+    ForPut,
+    /// A commit, which ends by X4.
+    ForCommit,
+}
+
 #[derive(Clone, Debug)]
 pub struct Store {
     words: Vec<u32>,
@@ -31,6 +40,9 @@ pub struct Store {
     published: usize,
     /// The last of these, which nearly every line of a thief asks for.
     current: Array,
+    /// The words that an ask has set aside; 0 for none. It is a number alone: the
+    /// next array lies where it would lie without it.
+    aside: u32,
     line: Line,
 }
 
@@ -45,6 +57,7 @@ impl Store {
             arrays: vec![first],
             published: 1,
             current: first,
+            aside: 0,
             line: Line::default(),
         };
         store.zero(first);
@@ -138,10 +151,38 @@ impl Store {
         }
     }
 
-    /// X1: takes `array` for the owner and zeroes it. Neither waits.
+    /// X1: takes `array` for the owner and zeroes it. Neither waits. Words set
+    /// aside are used by it, whether a commit claims or a put.
     pub fn claim(&mut self, array: Array) {
         self.zero(array);
         self.arrays.push(array);
+        self.aside = 0;
+    }
+
+    /// The words that an ask has set aside; 0 for none.
+    pub fn aside(&self) -> u32 {
+        self.aside
+    }
+
+    /// An ask: as many words as the array that X1 would claim takes are set aside.
+    /// Answers whether X1 would claim one.
+    pub fn set_aside(&mut self) -> bool {
+        let next = self.next_array();
+        if let Some(array) = next {
+            self.aside = self.length(array);
+        }
+        next.is_some()
+    }
+
+    /// With so many words set aside, be they an ask's or not.
+    #[cfg(test)]
+    pub fn have_aside(&mut self, words: u32) {
+        self.aside = words;
+    }
+
+    /// The ask is dropped: its words are given back.
+    pub fn give_back(&mut self) {
+        self.aside = 0;
     }
 
     /// X3: the stores that carry the whole task at `index` into the claimed array.
@@ -352,6 +393,37 @@ mod tests {
         let next = store.next_array().unwrap();
         store.claim(next);
         assert_eq!(store.words, [0, 0, 0, 0, 0, 0, 0, 0, 0, 77]);
+    }
+
+    #[test]
+    fn an_ask_sets_aside_what_x1_would_claim() {
+        for payload_words in 1..=4 {
+            let each = payload_words + 1;
+            // Room for arrays of 1, 2 and 4 tasks, or a word less.
+            for (length, second) in [(room(7, payload_words), true), (room(7, payload_words) - 1, false)] {
+                for delayed in [false, true] {
+                    let mut store = store(length, 1, payload_words).with_line(delayed);
+                    assert_eq!(store.aside(), 0);
+                    let words = store.words().to_vec();
+                    assert!(store.set_aside());
+                    assert_eq!((store.aside(), store.arrays().len()), (2 * each, 1));
+                    assert_eq!(store.words(), words, "a number alone");
+                    let next = store.next_array().unwrap();
+                    assert_eq!(next.offset, each, "the next free one");
+                    store.claim(next);
+                    assert_eq!(store.aside(), 0, "used");
+                    publish(&mut store);
+                    // With delayed stores the note waits, and the owner goes by it.
+                    assert_eq!(store.published(), if delayed { 1 } else { 2 });
+                    assert_eq!(store.set_aside(), second);
+                    assert_eq!(store.aside(), if second { 4 * each } else { 0 });
+                    store.give_back();
+                    assert_eq!(store.aside(), 0);
+                }
+            }
+        }
+        assert!(!store(20_000, 1024, 1).set_aside());
+        assert!(store(20_000, 512, 1).set_aside());
     }
 
     #[test]

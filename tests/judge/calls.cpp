@@ -5,7 +5,7 @@
 #include <initializer_list>
 #include <vector>
 
-static_assert(BOMQELIR_VERSION == 2, "what is tested here");
+static_assert(BOMQELIR_VERSION == 3, "what is tested here");
 
 namespace {
 
@@ -32,6 +32,7 @@ struct Log {
     Log &out(uint32_t worker, uint32_t number, uint32_t payload) { return entry(2, worker, number, payload); }
     Log &empty(uint32_t worker) { return entry(3, worker, 0, 0); }
     Log &full(uint32_t number, uint32_t payload) { return entry(4, 0, number, payload); }
+    Log &grown() { return entry(5, 0, 0, 0); }
 };
 
 using Payload = std::vector<uint32_t>;
@@ -104,7 +105,10 @@ void wider(uint32_t words) {
     expect("twice, with FULL and EMPTY between", words,
            Wide().put(1, payload).full(5, payload).out(3, 1, payload).empty(2, words).out(0, 1, payload).bytes, {}, accepted(2, 1));
     expect("a FULL number that falls", words, Wide().put(5, payload).full(5, payload).bytes, list({5}), BOMQELIR_NO);
-    expect("kind 5", words, Wide().entry(5, 0, 0, payload).bytes, {}, BOMQELIR_NO);
+    expect("a commit between two puts", words, Wide().put(1, payload).entry(5, 0, 0, Payload(words)).put(2, payload).bytes, list({1, 2}),
+           accepted(0, 0));
+    expect("a commit with odd words", words, Wide().entry(5, 9, 9, payload).bytes, {}, accepted(0, 0));
+    expect("kind 6", words, Wide().entry(6, 0, 0, payload).bytes, {}, BOMQELIR_NO);
     expect("EMPTY with odd words", words, Wide().entry(3, 9, 9, payload).bytes, {}, accepted(0, 0));
     for (uint32_t k = 0; k < words; ++k) {
         Payload torn = payload;
@@ -160,7 +164,16 @@ int main() {
     expect("two puts with one number", Log().put(2, 65).full(2, 65).bytes, list({2}), BOMQELIR_NO);
     expect("a number that falls", Log().full(3, 65).put(2, 65).bytes, list({2}), BOMQELIR_NO);
     expect("kind 0", Log().entry(0, 0, 0, 0).bytes, {}, BOMQELIR_NO);
-    expect("kind 5", Log().entry(5, 0, 0, 0).bytes, {}, BOMQELIR_NO);
+    expect("a commit", Log().grown().bytes, {}, accepted(0, 0));
+    expect("a commit between two puts", Log().put(1, 65).grown().put(2, 66).out(3, 2, 66).bytes, list({1}), accepted(1, 0));
+    expect("a commit with a number that falls", Log().put(7, 65).entry(5, 0, 7, 0).put(8, 66).bytes, list({7, 8}), accepted(0, 0));
+    expect("a commit with a number above the next put's", Log().put(7, 65).entry(5, 0, 9, 0).put(8, 66).bytes, list({7, 8}),
+           accepted(0, 0));
+    expect("two puts with one number, a commit between", Log().put(2, 65).grown().put(2, 65).bytes, list({2}), BOMQELIR_NO);
+    expect("a commit's task handed out", Log().entry(5, 0, 1, 65).out(3, 1, 65).bytes, list({1}), BOMQELIR_NO);
+    expect("a commit hands nothing out", Log().put(1, 65).entry(5, 0, 1, 65).bytes, {}, BOMQELIR_NO);
+    expect("a commit with odd words", Log().entry(5, 9, 9, 9).bytes, {}, accepted(0, 0));
+    expect("kind 6", Log().entry(6, 0, 0, 0).bytes, {}, BOMQELIR_NO);
     expect("kind 256, the second byte of a word", Log().entry(256, 0, 0, 0).bytes, {}, BOMQELIR_NO);
     expect("EMPTY with odd words", Log().entry(3, 9, 9, 9).bytes, {}, accepted(0, 0));
     expect("a log of 15 bytes", cut(Log().put(1, 65).bytes, 15), {}, BOMQELIR_BAD_LENGTH);

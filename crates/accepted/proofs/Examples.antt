@@ -4,7 +4,7 @@ use mathlib.Core.Bool.{Bool, true, false}
 use mathlib.Core.List.{List, [], _∷_, _++_}
 use Prim.Native.Nat.{ℕ}
 use lib.ListN.{replicate}
-use Rattle.model.specs.declared.Operation.the-variants.{Put, Take, Steal}
+use Rattle.model.specs.declared.Operation.the-variants.{Put, Take, Steal, Commit}
 use Rattle.model.specs.Tests.{if_then_else_, _and_, _or_}
 use Rattle.model.specs.Memory.{zeros, wordAt, setWord, offsetAt, lengthAt, sizeAt}
 use Rattle.model.specs.Tasks.{payload, wordIn, withWord, gathered}
@@ -14,7 +14,7 @@ use Rattle.model.specs.Lines.{lineStep}
 use Rattle.model.specs.World.{World}
 use Rattle.model.specs.Limits.{validOf}
 use Rattle.model.specs.Counts.{someBelow, countBelow, entriesIn}
-use Rattle.model.specs.Calls.{freshOf, setup, beginOf, stepOf, frontOf, Call, step}
+use Rattle.model.specs.Calls.{freshOf, setup, beginOf, stepOf, askOf, frontOf, Call, step, ask}
 use Rattle.model.specs.Run.{after}
 use Rattle.model.specs.Window.{windowSize}
 use Rattle.order.specs.Order.{logFront}
@@ -92,3 +92,15 @@ wide = tried.does 0 (Put (payload 5 6 0 0)) 6 ++ tried.does 0 (Put (payload 7 8 
 pub wide-judged : verdict (freshOf (setup 3 1 2 2 2) (replicate 6 0) (replicate 40 5) .world) wide ≡ Accepted 1 0
 unfolding tried.does frontOf after judged wordsOf allBelow someBelow countBelow freshOf beginOf stepOf validOf lineStep landedAll zeros wordAt setWord offsetAt lengthAt sizeAt gathered wordIn withWord if_then_else_ _and_ _or_
 wide-judged = refl
+
+-- a commit between a put and its hand-out: its entry is passed over
+abbrev grown : List Call
+grown = tried.does 0 (Put (one 5)) 5 ++ ask 0 ∷ tried.does 0 Commit 5 ++ tried.does 1 Steal 6
+
+pub grown-judged : verdict (benchOf 1) grown ≡ Accepted 1 0
+unfolding benchOf tried.does frontOf after judged wordsOf allBelow someBelow countBelow freshOf beginOf stepOf askOf validOf lineStep landedAll zeros wordAt setWord offsetAt lengthAt sizeAt gathered wordIn withWord if_then_else_ _and_ _or_
+grown-judged = refl
+
+pub grown-logged : logFront (after (benchOf 1) grown) ≡ 1 ∷ 0 ∷ 1 ∷ 5 ∷ 5 ∷ 0 ∷ 0 ∷ 0 ∷ 2 ∷ 1 ∷ 1 ∷ 5 ∷ []
+unfolding benchOf tried.does frontOf after freshOf beginOf stepOf askOf validOf lineStep landedAll zeros wordAt setWord offsetAt lengthAt sizeAt gathered wordIn withWord if_then_else_ _and_ _or_
+grown-logged = refl

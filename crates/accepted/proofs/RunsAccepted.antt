@@ -64,7 +64,7 @@ module _ (ω : ℕ) (W : World) (cs : List Call) (g : ω ≤ 4) (C : AllCut ω (
   l = entries ω T
 
   known-all : allBelow (known ω l) (count T) ≡ true
-  known-all = all-true (known ω l) (count T) (λ j h. let (a, b) = entries-known ω T g j h in and-both _ _ (le-leb 1 _ a) (le-leb _ 4 b))
+  known-all = all-true (known ω l) (count T) (λ j h. let (a, b) = entries-known ω T g j h in and-both _ _ (le-leb 1 _ a) (le-leb _ 5 b))
 
   -- numbers of ended puts rise
   ends-put : (j : ℕ) → numbered ω l j ≡ true → At T (place T j) (EndsPut (entryAt ω l j .task .number))

@@ -1,10 +1,11 @@
-// What fresh and begin admit: the ranges of fresh's five numbers, who may begin what, and whether a put number is left.
+// What fresh and begin admit: the ranges of fresh's five numbers, who may begin what, whether a put number is left, and
+// whether a commit has been asked for.
 // Uses `model`. It is used by `limits` and `opening`.
 ghost use mathlib.Core.Path.{_≡_};
 ghost use lib.Dec.{ltb, leb};
 ghost use Rattle.model.specs.Tests.{_and_};
 ghost use Rattle.model.specs.Limits.{isSize, widthOk, crewOk, wordsOk};
-ghost use Rattle.model.specs.Calls.{kindOf, linkedOf, rightHand, numbersLeft};
+ghost use Rattle.model.specs.Calls.{kindOf, linkedOf, rightHand, numbersLeft, asked};
 use model::Kind;
 use model::Operation;
 
@@ -65,7 +66,7 @@ pub fn words_ok(words: u32) -> bool
     0 < words && words <= 4
 }
 
-// The owner puts and takes, a thief steals.
+// The owner puts, takes and commits, a thief steals.
 pub fn right_hand(worker: u32, operation: Operation) -> bool
     ensures { λ r. ⌜ r ≡ rightHand worker operation ⌝ }
 {
@@ -73,6 +74,7 @@ pub fn right_hand(worker: u32, operation: Operation) -> bool
         Operation::Put { payload: _ } => worker == 0,
         Operation::Take => worker == 0,
         Operation::Steal => 0 < worker,
+        Operation::Commit => worker == 0,
     }
 }
 
@@ -83,5 +85,18 @@ pub fn numbers_left(operation: Operation, used: u32) -> bool
         Operation::Put { payload: _ } => used < 65535,
         Operation::Take => true,
         Operation::Steal => true,
+        Operation::Commit => true,
+    }
+}
+
+// A commit needs words set aside.
+pub fn asked(operation: Operation, aside: u32) -> bool
+    ensures { λ r. ⌜ r ≡ asked operation aside ⌝ }
+{
+    match operation {
+        Operation::Put { payload: _ } => true,
+        Operation::Take => true,
+        Operation::Steal => true,
+        Operation::Commit => 0 < aside,
     }
 }

@@ -36,6 +36,9 @@ pub fn number_of(why: Refusal) -> u32
         Refusal::NoLink => 17,
         Refusal::WaitingFull => 18,
         Refusal::NoneWaiting => 19,
+        Refusal::NoSpace => 20,
+        Refusal::AskStands => 21,
+        Refusal::NoAsk => 22,
     }
 }
 
@@ -62,6 +65,7 @@ pub fn entry_of(answer: Answer) -> Entry
         Answer::HandedOut { worker, task } => entry_with(2, worker, task),
         Answer::Empty { worker } => entry_with(3, worker, none),
         Answer::Full { worker, task } => entry_with(4, worker, task),
+        Answer::Grown { worker } => entry_with(5, worker, none),
         Answer::Refused { why: _ } => entry_with(0, 0, none),
     }
 }

@@ -45,6 +45,8 @@ enum Key {
     Step,
     Drop,
     Drain,
+    Ask,
+    Unask,
     Who,
     Front,
     State,
@@ -112,6 +114,12 @@ fn keyword(word: &[u8]) -> Key {
     if text::same(word, b"drain") {
         return Key::Drain;
     }
+    if text::same(word, b"ask") {
+        return Key::Ask;
+    }
+    if text::same(word, b"unask") {
+        return Key::Unask;
+    }
     if text::same(word, b"who") {
         return Key::Who;
     }
@@ -134,6 +142,9 @@ fn operation(word: &[u8]) -> u32 {
     }
     if text::same(word, b"steal") {
         return 3;
+    }
+    if text::same(word, b"commit") {
+        return 6;
     }
     0
 }
@@ -214,19 +225,9 @@ fn form(key: Key, count: usize, v: [u32; 6]) -> ListLine {
                 },
             }
         }
-        Key::Drop => {
-            if count != 1 {
-                return ListLine::Bad;
-            }
-            ListLine::Asks {
-                asked: Request::Calls {
-                    operation: 4,
-                    worker: v[0],
-                    payload: payload_of(0, 0, 0, 0),
-                    times: 1,
-                },
-            }
-        }
+        Key::Drop => of_worker(4, count, v[0]),
+        Key::Ask => of_worker(7, count, v[0]),
+        Key::Unask => of_worker(8, count, v[0]),
         Key::Drain => {
             if count != 0 {
                 return ListLine::Bad;
@@ -273,6 +274,21 @@ fn payload_of(first: u32, second: u32, third: u32, fourth: u32) -> Payload {
         second,
         third,
         fourth,
+    }
+}
+
+// A call that names a worker and nothing else.
+fn of_worker(operation: u32, count: usize, worker: u32) -> ListLine {
+    if count != 1 {
+        return ListLine::Bad;
+    }
+    ListLine::Asks {
+        asked: Request::Calls {
+            operation,
+            worker,
+            payload: payload_of(0, 0, 0, 0),
+            times: 1,
+        },
     }
 }
 
@@ -423,6 +439,7 @@ pub fn show(out: &mut [u8], at: usize, words: u32, answer: &[u32]) -> usize
         2 => show_out(out, at, words, answer),
         3 => one(out, at, b'E', worker),
         4 => one(out, at, b'F', number),
+        5 => bare(out, at, b'C'),
         _ => show_other(out, at, worker, number),
     }
 }

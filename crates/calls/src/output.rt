@@ -264,7 +264,9 @@ fn show_shared(text: Text, state: model::Bench, out: &mut [u8]) -> Text
     let restarts = state.restarts;
     let mut shown = show_queue(text, state.queue, out);
     shown = show_counts(shown, state.used, state.written, restarts, out);
-    show_waiting(shown, state, out)
+    shown = show_waiting(shown, state, out);
+    let aside = [state.aside];
+    show_words(shown, &aside, out)
 }
 
 // The same with the words. A crew of 0 is no bench.

@@ -30,13 +30,13 @@ module _ (W : World) (v : validOf W ≡ true) (some : 0 < W .bench .waiting .cou
       (note-at (W .bench .waiting .stores) 0 (W .bench .waiting .count) some (omega (arith, eight)) (waits-noted W v)))
 
 same-world : (W : World) {q r : Queue} {m n : List ℕ} {k l : Waiting} → q ≡ r → m ≡ n → k ≡ l
-    → remembered W (shared q m) k ≡ remembered W (shared r n) l
+    → remembered W (shared q m) k (W .bench .aside) ≡ remembered W (shared r n) l (W .bench .aside)
 same-world W e f g = rw (e, f, g)
 
 -- the store s has landed, and left the line
 pub drains : (W : World) {s : Store} {q : Queue} {m : List ℕ} {l : Waiting} → s ≡ oldest (W .bench .waiting)
     → ((v : ℕ) (n : List ℕ) → q ≡ landed v (shared (W .bench .queue) n) s .queue) → m ≡ landed (W .bench .words) (memory W) s .store
-    → l ≡ oneLess (W .bench .waiting) → remembered W (shared q m) l ≡ drained W
+    → l ≡ oneLess (W .bench .waiting) → remembered W (shared q m) l (W .bench .aside) ≡ drained W
 drains W e f g h =
     same-world W
     (f (W .bench .words) (W .store) ∙ ap (λ (x : Store). landed (W .bench .words) (memory W) x .queue) e)

@@ -1,14 +1,18 @@
 // What happens to a bench beside begins and steps: a thief's link fails for no reason, the owner's oldest waiting store reaches
-// memory, and a worker's restarts are asked for.
-// Uses `model`, `limits`, `waiting` and `state`. It is used by `queues` and `replies`.
+// memory, an idle owner asks for growth or drops its ask, and a worker's restarts are asked for.
+// Uses `model`, `stages`, `slots`, `limits`, `waiting` and `state`. It is used by `queues` and `replies`.
+ghost use mathlib.Core.List.{List};
 ghost use mathlib.Core.Path.{_≡_};
-ghost use Rattle.model.specs.Calls.{lent, dropLinkOf, drainOf, whoOf};
+ghost use Prim.Native.Nat.{ℕ};
+ghost use Rattle.model.specs.Calls.{lent, setAside, askOf, dropAskOf, dropLinkOf, drainOf, whoOf};
 ghost use Rattle.state.specs.Outcomes.{returned};
+ghost use Rattle.events.specs.Idling.{OwnerStops};
 use model::Answer;
 use model::Bench;
 use model::Refusal;
 use model::Tally;
 use state::Returned;
+use state::Stop;
 
 // Worker `worker`'s link fails: refusals 12, 6 and 17.
 pub fn drop_link(bench: Bench, worker: u32, store: &[u32], log: &[u32]) -> Returned
@@ -54,6 +58,81 @@ pub fn drain(bench: Bench, store: &mut [u32], log: &[u32]) -> Returned
         bench: next,
         answer: Answer::Accepted,
     }
+}
+
+// What an idle owner may do at once: refusals 12, 6, 9 and 7.
+fn owner_stop(bench: Bench, worker: u32, store: &[u32], log: &[u32]) -> Stop
+    ensures { λ r. ⌜ OwnerStops (lent bench (now (store .entry)) (now (log .entry))) worker r ⌝ }
+{
+    if !limits::valid(bench, store, log) {
+        let why = Refusal::ForeignState;
+        return Stop::Why { why };
+    }
+    if bench.crew <= worker {
+        let why = Refusal::NoSuchWorker;
+        return Stop::Why { why };
+    }
+    if worker != 0 {
+        let why = Refusal::WrongHand;
+        return Stop::Why { why };
+    }
+    let own = bench.workers[0];
+    let line = own.line;
+    if !stages::is_idle(line) {
+        let why = Refusal::BusyWorker;
+        return Stop::Why { why };
+    }
+    Stop::No
+}
+
+fn set_aside(bench: Bench, words: u32) -> Returned
+    ensures { λ r. ⌜ ((m l : List ℕ) → returned r m l ≡ setAside (lent bench m l) words) ⌝ }
+{
+    let mut next = bench;
+    next.aside = words;
+    Returned {
+        bench: next,
+        answer: Answer::Accepted,
+    }
+}
+
+// The words of an array of twice the size of the one that the owner reads are set aside, where X1 finds room for it: refusals
+// 12, 6, 9, 7, 21 and 20.
+pub fn ask(bench: Bench, worker: u32, store: &[u32], log: &[u32]) -> Returned
+    ensures { λ r. ⌜ returned r (now (store .entry)) (now (log .entry)) ≡ askOf (lent bench (now (store .entry)) (now (log .entry))) worker ⌝ }
+{
+    let stop = owner_stop(bench, worker, store, log);
+    if let Stop::Why { why } = stop {
+        return state::refused(bench, why);
+    }
+    if bench.aside != 0 {
+        return state::refused(bench, Refusal::AskStands);
+    }
+    let line = bench.waiting;
+    let memory = bench.queue;
+    let queue = waiting::seen(memory, line);
+    if !slots::has_room(queue, store) {
+        return state::refused(bench, Refusal::NoSpace);
+    }
+    let here = queue.published - 1;
+    let at = here as usize;
+    let more = slots::twice_as_long(queue, at);
+    set_aside(bench, more)
+}
+
+// They are given back: refusals 12, 6, 9, 7 and 22.
+pub fn drop_ask(bench: Bench, worker: u32, store: &[u32], log: &[u32]) -> Returned
+    ensures { λ r. ⌜ returned r (now (store .entry)) (now (log .entry)) ≡ dropAskOf (lent bench (now (store .entry)) (now (log .entry))) worker ⌝ }
+{
+    let stop = owner_stop(bench, worker, store, log);
+    if let Stop::Why { why } = stop {
+        return state::refused(bench, why);
+    }
+    let words = bench.aside;
+    if words == 0 {
+        return state::refused(bench, Refusal::NoAsk);
+    }
+    set_aside(bench, 0)
 }
 
 // Worker `worker`'s restarts: refusals 12 and 6.

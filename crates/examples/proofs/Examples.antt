@@ -14,7 +14,7 @@ use Rattle.model.specs.declared.Payload.{Payload}
 use Rattle.model.specs.declared.Task.{Task}
 use Rattle.model.specs.declared.Operation.the-variants.{Put, Take, Steal}
 use Rattle.model.specs.declared.Answer.{Answer}
-use Rattle.model.specs.declared.Answer.the-variants.{Accepted, Numbered, GoesOn, Finished, HandedOut, Empty, Full, Refused}
+use Rattle.model.specs.declared.Answer.the-variants.{Accepted, Numbered, GoesOn, Finished, HandedOut, Empty, Full, Grown, Refused}
 use Rattle.model.proofs.Tests.{and-both, or-false}
 use Rattle.model.specs.Tests.{if_then_else_, _and_, _or_}
 use Rattle.model.specs.Memory.{zeros, wordAt, setWord, offsetAt, lengthAt, sizeAt}
@@ -26,7 +26,7 @@ use Rattle.model.specs.Stores.{landedAll}
 use Rattle.model.specs.Lines.{lineStep}
 use Rattle.model.specs.World.{World, tagBits, lineAt}
 use Rattle.model.specs.Limits.{validOf}
-use Rattle.model.specs.Calls.{freshOf, setup, beginOf, stepOf, Call, begin, step, dropLink, drain}
+use Rattle.model.specs.Calls.{freshOf, setup, beginOf, stepOf, Call, begin, step, dropLink, drain, ask, dropAsk}
 use Rattle.model.specs.Run.{Played, played, after}
 use Rattle.model.specs.Window.{windowSize}
 use Rattle.theorems.specs.Demand3.{At, Begins, Line1, Attempt, Out, AllOut, Stands, puts, between, Few, FewPuts, Demand3}
@@ -46,6 +46,7 @@ isOut t (Finished i u) = false
 isOut t (HandedOut i u) = sameTask u t
 isOut t (Empty i) = false
 isOut t (Full i u) = false
+isOut t (Grown i) = false
 isOut t (Refused r) = false
 
 unfoldable pub anyOut : Task → List Played → Bool
@@ -71,6 +72,8 @@ isStep i (begin j op) = false
 isStep i (step j) = eqb j i
 isStep i (dropLink j) = false
 isStep i drain = false
+isStep i (ask j) = false
+isStep i (dropAsk j) = false
 
 unfoldable pub startsAttempt : ℕ → Played → Bool
 startsAttempt i s = isStep i (s .call) and is-line-1 (lineAt (s .before .bench .workers) i)
@@ -113,6 +116,8 @@ does (begin i op) = begin i op ∷ replicate 5 (step i)
 does (step i) = step i ∷ []
 does (dropLink i) = dropLink i ∷ []
 does drain = drain ∷ []
+does (ask i) = ask i ∷ []
+does (dropAsk i) = dropAsk i ∷ []
 
 unfoldable pub p1 : List Call
 p1 = does (begin 0 (Put (one 65))) ++ does (begin 1 Steal) ++ does (begin 0 Take) ++ does (begin 0 (Put (one 66))) ++ does (begin 0 Take) ++ does (begin 0 (Put (one 67))) ++ step 1 ∷ []
@@ -248,6 +253,8 @@ does2 (begin i op) = begin i op ∷ replicate 6 (step i)
 does2 (step i) = step i ∷ []
 does2 (dropLink i) = dropLink i ∷ []
 does2 drain = drain ∷ []
+does2 (ask i) = ask i ∷ []
+does2 (dropAsk i) = dropAsk i ∷ []
 
 unfoldable pub bench2 : World
 bench2 = freshOf (setup 1 1 2 3 2) (replicate 18 0) (replicate 64 0) .world

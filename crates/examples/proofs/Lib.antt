@@ -3,3 +3,4 @@ pub mod OrderExamples
 pub mod ListingExamples
 pub mod LinkedExamples
 pub mod DelayedExamples
+pub mod GrowthExamples

@@ -3,12 +3,14 @@
 ghost use Prim.Native.Nat.{_<_};
 use crate::said::number;
 use crate::said::report;
-use crate::said::say;
+use crate::said::say_of;
 use crate::said::text;
 use crate::states::anchor;
 use crate::states::base;
+use crate::states::for_put;
 use crate::states::made;
 use crate::states::played;
+use crate::states::stepped;
 use crate::states::task;
 use crate::states::with_anchor;
 use crate::states::with_line;
@@ -19,9 +21,8 @@ use model::Operation;
 use model::Pending;
 use model::Store;
 use queues::Bench;
-use queues::Reply;
 
-fn delayed(kind: u32) -> model::Bench {
+pub fn delayed(kind: u32) -> model::Bench {
     made(kind, 1, true)
 }
 
@@ -35,7 +36,7 @@ fn with_count(state: model::Bench, count: u32) -> model::Bench {
 }
 
 // One more store waits.
-fn with_store(state: model::Bench, store: Store) -> model::Bench {
+pub fn with_store(state: model::Bench, store: Store) -> model::Bench {
     let mut next = state;
     let mut waiting = next.waiting;
     let at = waiting.count as usize;
@@ -48,14 +49,8 @@ fn with_store(state: model::Bench, store: Store) -> model::Bench {
 }
 
 // An array of 4 slots behind the first one: published, or claimed alone.
-fn with_second(state: model::Bench, published: u32) -> model::Bench {
+pub fn with_second(state: model::Bench, published: u32) -> model::Bench {
     with_pair(state, 1, 4, 8, published, 2)
-}
-
-fn say_of(call: &[u8], reply: Reply) {
-    let answer = reply.answer;
-    text(call);
-    say(answer);
 }
 
 // What each call says to a state in which thief 2 is idle.
@@ -114,7 +109,7 @@ pub fn words() {
     };
     try_calls(
         b"a word waits for the claimed array",
-        with_store(growing(Line::Publish { task: task(1) }), word),
+        with_store(growing(Line::Publish { why: for_put() }), word),
     );
 }
 
@@ -123,7 +118,7 @@ fn growing(line: Line) -> model::Bench {
     with_line(with_second(delayed(1), 1), 0, line)
 }
 
-fn note(place: u32) -> Store {
+pub fn note(place: u32) -> Store {
     Store::StoreNote { place }
 }
 
@@ -138,7 +133,7 @@ pub fn notes() {
     );
     try_calls(
         b"the note of the unpublished array waits",
-        with_store(growing(Line::Note { task: task(1) }), note(1)),
+        with_store(growing(Line::Note { why: for_put() }), note(1)),
     );
     try_calls(
         b"a note of the first array waits, the second one published",
@@ -346,15 +341,15 @@ pub fn full() {
 }
 
 // The owner at X3 or X4 with a task of so many payload words, and so many stores waiting; the first array's words, and the second's.
-fn try_growth(tried: &[u8], words: u32, first: u32, second: u32, count: u32, line: Line) {
+pub fn try_growth(tried: &[u8], words: u32, first: u32, second: u32, count: u32, line: Line) {
     let state = with_pair(made(1, words, true), 1, first, second, 1, 2);
     try_step(tried, with_count(with_line(state, 0, line), count));
 }
 
 pub fn full_growth() {
-    let task = task(1);
+    let why = for_put();
     let copy = Line::Copy {
-        task,
+        why,
         head: 0,
         noted: 2,
         copied: 0,
@@ -363,30 +358,24 @@ pub fn full_growth() {
     try_growth(b"X3, 1 payload word, 6 wait", 1, 4, 8, 6, copy);
     try_growth(b"X3, 4 payload words, 4 wait", 4, 10, 20, 4, copy);
     try_growth(b"X3, 4 payload words, 3 wait", 4, 10, 20, 3, copy);
-    try_growth(b"X4, 8 wait", 1, 4, 8, 8, Line::Publish { task });
-    try_growth(b"X4, 7 wait", 1, 4, 8, 7, Line::Publish { task });
+    try_growth(b"X4, 8 wait", 1, 4, 8, 8, Line::Publish { why });
+    try_growth(b"X4, 7 wait", 1, 4, 8, 7, Line::Publish { why });
 }
 
-// One step, with a log that has no room for an entry.
-fn try_order(tried: &[u8], count: u32, worker: u32) {
-    let task = task(1);
-    let read = anchor(0, 1, 0);
-    let mut state = with_line(delayed(1), 0, Line::PutFinish { task, read });
-    state.written = 8;
-    let mut store = [0u32; 30];
-    let mut log = [0u32; 8];
-    let bench = Bench {
-        state: with_count(state, count),
-    };
-    let reply = bench.step(worker, &mut store, &mut log);
-    let answer = reply.answer;
-    report(tried, answer);
+// One step, with so many stores waiting and a log that has no room for an entry.
+pub fn try_order(tried: &[u8], state: model::Bench, count: u32, worker: u32) {
+    let mut full = with_count(state, count);
+    full.written = 8;
+    report(tried, stepped(full, worker));
 }
 
 pub fn full_order() {
-    try_order(b"a put's last line, 8 wait, a full log", 8, 0);
-    try_order(b"a put's last line, 7 wait, a full log", 7, 0);
-    try_order(b"the same with 9 waiting", 9, 0);
-    try_order(b"a step of an idle thief, 8 wait", 8, 1);
-    try_order(b"a step of worker 3 of 3, 8 wait", 8, 3);
+    let task = task(1);
+    let read = anchor(0, 1, 0);
+    let state = with_line(delayed(1), 0, Line::PutFinish { task, read });
+    try_order(b"a put's last line, 8 wait, a full log", state, 8, 0);
+    try_order(b"a put's last line, 7 wait, a full log", state, 7, 0);
+    try_order(b"the same with 9 waiting", state, 9, 0);
+    try_order(b"a step of an idle thief, 8 wait", state, 8, 1);
+    try_order(b"a step of worker 3 of 3, 8 wait", state, 8, 3);
 }

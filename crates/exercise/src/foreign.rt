@@ -5,6 +5,7 @@ use crate::states::anchor;
 use crate::states::base;
 use crate::states::base_of;
 use crate::states::begun_on;
+use crate::states::for_put;
 use crate::states::numbered;
 use crate::states::payload_of;
 use crate::states::task;
@@ -87,7 +88,7 @@ pub fn directories() {
     try_directory(b"no array published", 0, 0, 4, 0, 0);
     try_directory(b"twelve arrays claimed", 0, 0, 4, 12, 12);
     try_directory(b"an array claimed and the owner idle", 1, 4, 8, 1, 2);
-    let note = Line::Note { task: task(1) };
+    let note = Line::Note { why: for_put() };
     try_pair(
         b"the owner at X2 and no array claimed",
         1,
@@ -239,7 +240,7 @@ pub fn takes() {
 // The owner at X3, a second array claimed, with `noted` indices from `head` on to copy and `copied` of them done.
 fn try_copy(tried: &[u8], kind: u32, head: u32, noted: u32, copied: u32) {
     let line = Line::Copy {
-        task: task(1),
+        why: for_put(),
         head: head,
         noted: noted,
         copied: copied,

@@ -20,6 +20,7 @@ use states::with_line;
 
 mod delayed;
 mod foreign;
+mod growth;
 mod links;
 mod restarts;
 mod said;
@@ -164,16 +165,22 @@ fn front_text(bench: Bench, log: &[u32]) {
     text(b" words\n");
 }
 
-// A put from its begin to its last line: it does so many lines.
-fn put(bench: Bench, lines: u32, store: &mut [u32], log: &mut [u32]) -> Reply {
-    let payload = payload_of(65, 66, 67, 68);
-    let mut last = bench.begin(0, Operation::Put { payload }, store, log);
+// So many steps of the owner, on what a call left.
+fn steps(reply: Reply, lines: u32, store: &mut [u32], log: &mut [u32]) -> Reply {
+    let mut last = reply;
     let mut line: u32 = 0;
     while line < lines {
         line += 1;
         last = last.bench.step(0, store, log);
     }
     last
+}
+
+// A put from its begin to its last line: it does so many lines.
+fn put(bench: Bench, lines: u32, store: &mut [u32], log: &mut [u32]) -> Reply {
+    let payload = payload_of(65, 66, 67, 68);
+    let begun = bench.begin(0, Operation::Put { payload }, store, log);
+    steps(begun, lines, store, log)
 }
 
 // Two puts of so many payload words and lines, of which the end of the second is told: the first has left fewer words in the log.
@@ -285,4 +292,20 @@ fn main() {
     delayed::full();
     delayed::full_growth();
     delayed::full_order();
+    growth::asks();
+    growth::space();
+    growth::sizes();
+    growth::asides();
+    growth::asides_fit();
+    growth::asides_size();
+    growth::asides_at_x1();
+    growth::asides_of_a_put();
+    growth::asides_of_a_commit();
+    growth::two_notes();
+    growth::two_notes_sizes();
+    growth::two_notes_asides();
+    growth::full();
+    growth::log_room();
+    growth::puts();
+    growth::empty();
 }

@@ -1,5 +1,5 @@
 // The restarts of each worker: who is refused, and what a compare that fails counts.
-use crate::said::number;
+use crate::said::say_tally;
 use crate::said::text;
 use crate::states::anchor;
 use crate::states::base;
@@ -26,13 +26,7 @@ fn beaten(count: u32) -> model::Bench {
 fn tell(tried: &[u8], tally: Tally) {
     text(tried);
     text(b": ");
-    match tally {
-        Tally::Counted { restarts } => number(restarts),
-        Tally::Refused { why } => {
-            text(b"refused ");
-            number(queues::number_of(why));
-        }
-    }
+    say_tally(tally);
     text(b"\n");
 }
 

@@ -4,6 +4,7 @@ ghost use Prim.Native.Nat.{_<_};
 use crate::said::report;
 use model::Anchor;
 use model::Answer;
+use model::Growth;
 use model::Line;
 use model::Operation;
 use model::Payload;
@@ -150,6 +151,12 @@ pub fn task(number: u32) -> Task {
         number: number,
         payload: payload(7),
     }
+}
+
+// The array grows for put 1.
+pub fn for_put() -> Growth {
+    let task = task(1);
+    Growth::ForPut { task }
 }
 
 // A task of which no payload word is read.

@@ -4,11 +4,13 @@
 ghost use mathlib.Core.Path.{_≡_};
 ghost use Prim.Native.Nat.{_≤_};
 ghost use Rattle.model.specs.declared.Line.the-variants.{Claim, PutWord};
+ghost use Rattle.model.specs.declared.Growth.the-variants.{ForPut};
 ghost use Rattle.model.specs.Tests.{if_then_else_};
 ghost use Rattle.model.specs.Figures.{isFull, putRead, takeRead, stealRead, stealLast, noteAll, note};
 ghost use Rattle.model.specs.Lines.{copyOn, putOn, takeOn, stealOn};
 ghost use Rattle.figures.specs.Bounds.{Ordered};
 use model::Anchor;
+use model::Growth;
 use model::Kind;
 use model::Line;
 use model::Task;
@@ -64,11 +66,12 @@ pub fn steal_read(kind: Kind, anchor: Anchor) -> Line
 // Put 2 (FIFO 3): X1 if the array of `size` tasks is full, else the write.
 pub fn put_test(kind: Kind, size: u32, read: Anchor, task: Task) -> Line
     requires { ⌜ (read .head ≤ 65535) × (size ≤ 1024) ⌝ }
-    ensures { λ r. ⌜ r ≡ if_then_else_ (isFull kind size read) (Claim task) (PutWord task read 0) ⌝ }
+    ensures { λ r. ⌜ r ≡ if_then_else_ (isFull kind size read) (Claim (ForPut task)) (PutWord task read 0) ⌝ }
 {
     let full = is_full(kind, size, read);
     if full {
-        Line::Claim { task }
+        let why = Growth::ForPut { task };
+        Line::Claim { why }
     } else {
         Line::PutWord {
             task,
@@ -98,14 +101,14 @@ fn steal_last(kind: Kind, read: Anchor, task: Task) -> Line
 }
 
 // X2: `noted` indices from `head` on are to be copied; with none, X4 is next.
-fn note_all(task: Task, head: u32, noted: u32) -> Line
-    ensures { λ r. ⌜ r ≡ noteAll task head noted ⌝ }
+fn note_all(why: Growth, head: u32, noted: u32) -> Line
+    ensures { λ r. ⌜ r ≡ noteAll why head noted ⌝ }
 {
     if noted == 0 {
-        Line::Publish { task }
+        Line::Publish { why }
     } else {
         Line::Copy {
-            task,
+            why,
             head,
             noted,
             copied: 0,
@@ -114,28 +117,28 @@ fn note_all(task: Task, head: u32, noted: u32) -> Line
 }
 
 // X2: LIFO notes slots 0 to size−1; FIFO head to tail−1, figure 3 h to h+s−1, as they are now.
-pub fn note_for(kind: Kind, size: u32, anchor: Anchor, task: Task) -> Line
+pub fn note_for(kind: Kind, size: u32, anchor: Anchor, why: Growth) -> Line
     requires { ⌜ Ordered kind anchor ⌝ }
-    ensures { λ r. ⌜ r ≡ note kind size anchor task ⌝ }
+    ensures { λ r. ⌜ r ≡ note kind size anchor why ⌝ }
 {
     match kind {
-        Kind::Lifo => note_all(task, 0, size),
-        Kind::Fifo => note_all(task, anchor.head, anchor.count - anchor.head),
-        Kind::Deque => note_all(task, anchor.head, anchor.count),
+        Kind::Lifo => note_all(why, 0, size),
+        Kind::Fifo => note_all(why, anchor.head, anchor.count - anchor.head),
+        Kind::Deque => note_all(why, anchor.head, anchor.count),
     }
 }
 
 // X3 has copied one task more: the next one, or X4.
-pub fn copy_on(task: Task, head: u32, noted: u32, copied: u32) -> Line
+pub fn copy_on(why: Growth, head: u32, noted: u32, copied: u32) -> Line
     requires { ⌜ copied ≤ 1024 ⌝ }
-    ensures { λ r. ⌜ r ≡ copyOn task head noted copied ⌝ }
+    ensures { λ r. ⌜ r ≡ copyOn why head noted copied ⌝ }
 {
     let up = copied + 1;
     if up == noted {
-        Line::Publish { task }
+        Line::Publish { why }
     } else {
         Line::Copy {
-            task,
+            why,
             head,
             noted,
             copied: up,

@@ -15,15 +15,15 @@ use Rattle.judgement.proofs.All.{all-fails, all-true, all-next}
 
 module _ (v : ℕ) (l : List ℕ) where
   module _ (j k : ℕ) (e : k ≡ entryAt v l j .kind) where
-    pub known-by : 1 ≤ k → k ≤ 4 → known v l j ≡ true
-    known-by a b = subst (λ (x : ℕ). (leb 1 x and leb x 4) ≡ true) e (and-both _ _ (le-leb 1 k a) (le-leb k 4 b))
+    pub known-by : 1 ≤ k → k ≤ 5 → known v l j ≡ true
+    known-by a b = subst (λ (x : ℕ). (leb 1 x and leb x 5) ≡ true) e (and-both _ _ (le-leb 1 k a) (le-leb k 5 b))
 
     pub too-low : k < 1 → known v l j ≡ false
-    too-low a = subst (λ (x : ℕ). (leb 1 x and leb x 4) ≡ false) e (fails (leb k 4) (lt-leb 1 k a))
+    too-low a = subst (λ (x : ℕ). (leb 1 x and leb x 5) ≡ false) e (fails (leb k 5) (lt-leb 1 k a))
 
-    pub too-high : 4 < k → known v l j ≡ false
+    pub too-high : 5 < k → known v l j ≡ false
     too-high a =
-        subst (λ (x : ℕ). (leb 1 x and leb x 4) ≡ false) e (ap (λ (y : Bool). leb 1 k and y) (lt-leb k 4 a) ∙ and-false (leb 1 k))
+        subst (λ (x : ℕ). (leb 1 x and leb x 5) ≡ false) e (ap (λ (y : Bool). leb 1 k and y) (lt-leb k 5 a) ∙ and-false (leb 1 k))
 
     pub plain-by : (k ≡ 1 → ⊥) → (k ≡ 4 → ⊥) → numbered v l j ≡ false
     unfolding _or_
@@ -35,8 +35,11 @@ module _ (v : ℕ) (l : List ℕ) where
     numbered-case false h a b c d =
         rw (h, eq-eqb k 4 (let g = eqb-false k 1 h in omega (arith, a, b, c, d, g)))
 
-    pub numbered-by : 1 ≤ k → k ≤ 4 → (k ≡ 2 → ⊥) → (k ≡ 3 → ⊥) → numbered v l j ≡ true
-    numbered-by a b c d = subst (λ (x : ℕ). (eqb x 1 or eqb x 4) ≡ true) e (numbered-case (eqb k 1) refl a b c d)
+    four : k ≤ 5 → (k ≡ 5 → ⊥) → k ≤ 4
+    four b f = omega (arith, b, f)
+
+    pub numbered-by : 1 ≤ k → k ≤ 5 → (k ≡ 2 → ⊥) → (k ≡ 3 → ⊥) → (k ≡ 5 → ⊥) → numbered v l j ≡ true
+    numbered-by a b c d f = subst (λ (x : ℕ). (eqb x 1 or eqb x 4) ≡ true) e (numbered-case (eqb k 1) refl a (four b f) c d)
 
   abbrev over : ℕ → ℕ → Bool
   over j i = not (numbered v l i) or ltb (entryAt v l i .task .number) (entryAt v l j .task .number)

@@ -15,7 +15,8 @@ abbrev pub bytesOf : List ℕ → List ℕ
 bytesOf [] = []
 bytesOf (w ∷ s) = w % 256 ∷ w / 256 % 256 ∷ w / 65536 % 256 ∷ w / 16777216 ∷ bytesOf s
 
--- entries: put n with payload p is finished, is handed out to worker i, found FULL; worker i found EMPTY
+-- entries: put n with payload p is finished, is handed out to worker i, found FULL; worker i found EMPTY; a commit ended,
+-- with n and p where its zeros belong
 abbrev put : ℕ → ℕ → List ℕ
 put n p = 1 ∷ 0 ∷ n ∷ p ∷ []
 
@@ -27,6 +28,9 @@ empty i = 3 ∷ i ∷ 0 ∷ 0 ∷ []
 
 abbrev full : ℕ → ℕ → List ℕ
 full n p = 4 ∷ 0 ∷ n ∷ p ∷ []
+
+abbrev grown : ℕ → ℕ → List ℕ
+grown n p = 5 ∷ 0 ∷ n ∷ p ∷ []
 
 pub record Row : Type 0 where
   pub words : ℕ
@@ -62,11 +66,19 @@ table =
     ∷ row (put 2 65 ++ full 2 66) (2 ∷ []) No
     ∷ row (full 3 66 ++ put 2 65) (2 ∷ []) No
     ∷ row (put 2 65 ++ out 0 2 65 ++ put 1 65) (1 ∷ []) No
-    -- kinds are 1 to 4; of EMPTY nothing else is judged
+    -- kinds are 1 to 5; of EMPTY nothing else is judged
     ∷ row (0 ∷ 0 ∷ 0 ∷ 0 ∷ []) [] No
-    ∷ row (5 ∷ 0 ∷ 1 ∷ 65 ∷ []) (1 ∷ []) No
+    ∷ row (6 ∷ 0 ∷ 1 ∷ 65 ∷ []) (1 ∷ []) No
     ∷ row (257 ∷ 0 ∷ 1 ∷ 65 ∷ []) (1 ∷ []) No
     ∷ row (empty 1 ++ 3 ∷ 9 ∷ 9 ∷ 9 ∷ []) [] (Accepted 0 0)
+    -- a commit is passed over, whatever its words: no rise is broken by it, none needs it, and it finishes no put
+    ∷ row (put 1 65 ++ grown 0 0 ++ put 2 66) (1 ∷ 2 ∷ []) (Accepted 0 0)
+    ∷ row (put 1 65 ++ grown 9 9 ++ put 2 66 ++ out 0 2 66) (1 ∷ []) (Accepted 1 0)
+    ∷ row (put 2 65 ++ grown 3 0 ++ put 2 66) (2 ∷ []) No
+    ∷ row (grown 1 65 ++ out 0 1 65) [] No
+    ∷ row (put 1 65 ++ grown 1 65) [] No
+    ∷ row (grown 1 65) [] (Accepted 0 0)
+    ∷ wide 2 (1 ∷ 0 ∷ 1 ∷ 65 ∷ 66 ∷ 5 ∷ 7 ∷ 1 ∷ 65 ∷ 66 ∷ 4 ∷ 0 ∷ 2 ∷ 0 ∷ 0 ∷ []) (1 ∷ []) (Accepted 0 0)
     -- wider payloads: all words count
     ∷ wide 2 (1 ∷ 0 ∷ 1 ∷ 65 ∷ 66 ∷ 2 ∷ 1 ∷ 1 ∷ 65 ∷ 66 ∷ []) [] (Accepted 1 0)
     ∷ wide 2 (1 ∷ 0 ∷ 1 ∷ 65 ∷ 66 ∷ 2 ∷ 1 ∷ 1 ∷ 65 ∷ 67 ∷ []) (1 ∷ []) No

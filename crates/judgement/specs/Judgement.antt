@@ -1,4 +1,4 @@
--- The judgement of a matcher's log, from its bytes: document 02, Wishes 1 and 5. The entries are those of the bench's own log
+-- The judgement of a matcher's log, from its bytes: document 02, Wishes 1, 5 and 9. The entries are those of the bench's own log
 -- (model/specs/Counts): kind, worker, put number, and v payload words.
 use mathlib.Core.Bool.{Bool, true, not}
 use mathlib.Core.List.{List, [], _∷_}
@@ -26,9 +26,9 @@ unfoldable pub allBelow : (ℕ → Bool) → ℕ → Bool
 allBelow p zero = true
 allBelow p (suc j) = p j and allBelow p j
 
--- 'kinds are 1 to 4'
+-- 'kinds are 1 to 4', and 'the judge passes over kind 5', a commit's: nothing else below asks for it
 abbrev pub known : ℕ → List ℕ → ℕ → Bool
-known v l j = leb 1 (entryAt v l j .kind) and leb (entryAt v l j .kind) 4
+known v l j = leb 1 (entryAt v l j .kind) and leb (entryAt v l j .kind) 5
 
 -- 'numbers of kinds 1 and 4 together strictly rise': entry j's is above each before it
 abbrev pub numbered : ℕ → List ℕ → ℕ → Bool

@@ -69,7 +69,7 @@ pub fn same_task(words: usize, log: &[u8], entry: usize, other: usize) -> bool
     true
 }
 
-// Whether kinds are 1 to 4 and the numbers of kinds 1 and 4 rise. `floor` is one above the last of them, at first 0.
+// Whether kinds are 1 to 5 and the numbers of kinds 1 and 4 rise. `floor` is one above the last of them, at first 0.
 pub fn in_order(words: usize, log: &[u8], entries: usize) -> bool
     requires { ⌜ entryBytes words * entries ≤ length (now log) ⌝ }
     ensures { λ r. ⌜ r ≡ (allBelow (known words (wordsOf (now (log .entry)))) entries and allBelow (rises words (wordsOf (now (log .entry)))) entries) ⌝ }
@@ -81,7 +81,7 @@ pub fn in_order(words: usize, log: &[u8], entries: usize) -> bool
         if kind < 1 {
             return false;
         }
-        if 4 < kind {
+        if 5 < kind {
             return false;
         }
         if kind == 2 {
@@ -89,6 +89,10 @@ pub fn in_order(words: usize, log: &[u8], entries: usize) -> bool
             continue;
         }
         if kind == 3 {
+            j += 1;
+            continue;
+        }
+        if kind == 5 {
             j += 1;
             continue;
         }

@@ -7,6 +7,7 @@ use native.Mathlib.Omega.{arith}
 use lib.Dec.{eqb, ltb}
 use borrow.Author.Tests.{eqb-true, ne-eqb, lt-ltb, le-ltb}
 use Rattle.model.specs.declared.Kind.{Kind}
+use Rattle.model.specs.declared.Growth.the-variants.{ForPut, ForCommit}
 use Rattle.model.specs.declared.Line.{Line}
 use Rattle.model.specs.declared.Line.the-variants.{
   Idle,
@@ -50,7 +51,8 @@ idle (PutTail t h) e = cc
 idle (PutTest t r) e = cc
 idle (PutWord t r j) e = cc
 idle (PutFinish t r) e = cc
-idle (Claim t) e = cc
+idle (Claim (ForPut t)) e = cc
+idle (Claim ForCommit) e = cc
 idle (Note t) e = cc
 idle (Copy t h n k) e = cc
 idle (Publish t) e = cc

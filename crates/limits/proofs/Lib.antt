@@ -7,4 +7,6 @@ pub mod Bounds
 pub mod Lengths
 pub mod Held
 pub mod Contents
+pub mod Asides
+pub mod Current
 pub mod Whole

@@ -82,7 +82,7 @@ module _ (κ : Kind) (w v : ℕ) (q p : Queue) (m : List ℕ) (O : Ordered v q (
 
 -- the limits of the directory and of the waiting line
 module _ (W : World) (v : validOf W ≡ true) where
-  directory : directoryOk (W .bench .words) (W .bench .queue) (ownersView W .queue .published) (W .store) (lineAt (W .bench .workers) 0) ≡ true
+  pub directory : directoryOk (W .bench .words) (W .bench .queue) (ownersView W .queue .published) (W .store) (lineAt (W .bench .workers) 0) ≡ true
   unfolding validOf
   directory = and-left _ _ (and-right _ _ (and-right _ _ (and-right _ _ (and-right _ _ v))))
 
@@ -90,7 +90,7 @@ module _ (W : World) (v : validOf W ≡ true) where
   unfolding validOf
   line = and-left _ _ (and-right _ _ (and-right _ _ (and-right _ _ (and-right _ _ (and-right _ _ (and-right _ _ (and-right _ _ (and-right _ _ (and-right _ _ v)))))))))
 
-  in-order : Ordered (W .bench .words) (W .bench .queue) (ownersView W .queue .published) (W .store)
+  pub in-order : Ordered (W .bench .words) (W .bench .queue) (ownersView W .queue .published) (W .store)
   in-order = ordered (W .bench .words) (W .bench .queue) (ownersView W .queue .published) (W .store) (lineAt (W .bench .workers) 0) directory
 
   pub waits-few : W .bench .waiting .count ≤ 8

@@ -60,11 +60,11 @@ module _ (W : World) where
         by false f = never (validOf W) (λ v. true≢false (sym (line-held W v) ∙ sym h ∙ f))
 
   module _ (e : frameOk (W .bench) (ownersView W .queue .published) (W .store) (W .log) ≡ true) where
-    pub not-filled : contentsOk (W .bench) (ownersView W .queue) ≡ false → validOf W ≡ false
+    pub not-filled : contentsOk (W .bench) (ownersView W .queue) (W .store) ≡ false → validOf W ≡ false
     unfolding validOf
     not-filled c = regroup _ _ _ _ _ _ _ ∙ holds e ∙ stands-not _ _ _ _ _ _ c
 
-    pub filled : lineHeld (W .bench .delayed) (W .bench .waiting) ≡ true → contentsOk (W .bench) (ownersView W .queue) ≡ true
+    pub filled : lineHeld (W .bench .delayed) (W .bench .waiting) ≡ true → contentsOk (W .bench) (ownersView W .queue) (W .store) ≡ true
         → validOf W ≡ waitsOk (W .bench) (ownersView W .queue)
     unfolding validOf
     filled h c = regroup _ _ _ _ _ _ _ ∙ holds e ∙ stands _ _ _ _ _ _ (and-left _ _ h) c

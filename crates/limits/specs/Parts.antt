@@ -26,6 +26,7 @@ use Rattle.model.specs.Limits.{
   anchorOk,
   numberOk,
   storesOk,
+  asideOk,
   linksOk,
   ownerOk,
   thiefOk,
@@ -80,10 +81,11 @@ waitsOk b p =
     anchorOk (b .kind) (tagBits b) (size (b .words) p) (p .anchor)
     and storesOk (b .kind) (tagBits b) (b .words) p (inLine (b .waiting))
 
-abbrev pub contentsOk : Bench → Queue → Bool
-contentsOk b p =
+abbrev pub contentsOk : Bench → Queue → List ℕ → Bool
+contentsOk b p m =
     anchorOk (b .kind) (tagBits b) (size (b .words) (b .queue)) (b .queue .anchor)
     and numberOk (b .used)
+    and asideOk (b .words) p m (lineAt (b .workers) 0) (b .aside)
     and linksOk (b .kind) (b .queue) (b .workers) 8
     and workersOk (b .kind) (tagBits b) (b .words) (b .queue) p (b .crew) (b .workers) 8
 

@@ -13,9 +13,10 @@ ghost use lib.ListN.{length, getD};
 ghost use Rattle.model.specs.declared.Queue.{Queue};
 ghost use Rattle.model.specs.Tests.{if_then_else_, _and_};
 ghost use Rattle.model.specs.Memory.{nowhere, sizeAt};
+ghost use Rattle.model.specs.Lines.{size};
 ghost use Rattle.model.specs.World.{isIdle, isExpanding};
 ghost use Rattle.model.specs.Stores.{shared, landedAll, inLine, taken};
-ghost use Rattle.model.specs.Limits.{tidy, directoryOk, kindOk, linkOk, linksOk, validOf};
+ghost use Rattle.model.specs.Limits.{tidy, directoryOk, kindOk, linkOk, linksOk, asideOk, validOf};
 ghost use Rattle.model.specs.Calls.{lent};
 ghost use Rattle.ranges.specs.Doubles.{Doubled};
 ghost use Rattle.limits.specs.Parts.{tasksIn, startsOk, followsOk, memberOk, workersOk, lineHeld, frameOk, waitsOk, contentsOk, Reached, Scoped, Seen};
@@ -365,15 +366,43 @@ fn waits_ok(bench: Bench, view: View) -> bool
     good
 }
 
-// Memory's anchor, the numbers given out, the links and the workers, over a directory that is in order; the owner reads `seen`
-// arrays as published.
-fn contents_ok(bench: Bench, seen: u32) -> bool
+// The words set aside, with the owner at line `owner` and a current array of `tasks` tasks, as it reads it: without an ask all but a
+// commit's X1 is in order.
+fn aside_ok(queue: Queue, tasks: u32, aside: u32, owner: Line, store: &[u32]) -> bool
+    requires { ⌜ (0 < queue .claimed) × (queue .claimed ≤ 11) ⌝ }
+    ensures { λ r. ⌜ ((v : ℕ) (p : Queue) → tasks ≡ size v p → p .arrays ≡ queue .arrays → p .claimed ≡ queue .claimed → r ≡ asideOk v p (now (store .entry)) owner aside) ⌝ }
+{
+    let at = stages::stage(owner);
+    if aside == 0 {
+        return at != 1;
+    }
+    if at == 2 {
+        return false;
+    }
+    let place = queue.claimed - 1;
+    let last = region_at(queue, place);
+    let long = last.length as usize;
+    let more = 2 * long;
+    if aside as usize != more {
+        return false;
+    }
+    if 512 < tasks {
+        return false;
+    }
+    let from = last.offset as usize + long;
+    let end = from + more;
+    end <= store.len()
+}
+
+// Memory's anchor, the numbers given out, the words set aside, the links and the workers, over a directory that is in order; the
+// owner reads `seen` arrays as published.
+fn contents_ok(bench: Bench, seen: u32, store: &[u32]) -> bool
     requires { ⌜ (bench .width ≤ 16) × (bench .words ≤ 4) ⌝ }
     requires { ⌜ (0 < bench .queue .published) × (bench .queue .published ≤ seen) ⌝ }
     requires { ⌜ (seen ≤ bench .queue .claimed) × (bench .queue .claimed ≤ 11) ⌝ }
     requires { ⌜ Doubled (bench .words) (bench .queue .arrays) (bench .queue .claimed) (bench .queue .initial) ⌝ }
     requires { ⌜ 0 < bench .crew ⌝ }
-    ensures { λ r. ⌜ ((p : Queue) → p .published ≡ seen → p .arrays ≡ bench .queue .arrays → r ≡ contentsOk bench p) ⌝ }
+    ensures { λ r. ⌜ ((p : Queue) → p .published ≡ seen → p .arrays ≡ bench .queue .arrays → p .claimed ≡ bench .queue .claimed → r ≡ contentsOk bench p (now (store .entry))) ⌝ }
 {
     let kind = bench.kind;
     let queue = bench.queue;
@@ -390,6 +419,11 @@ fn contents_ok(bench: Bench, seen: u32) -> bool
     }
     let last = seen - 1;
     let most = first << last;
+    let own = bench.workers[0];
+    let line = own.line;
+    if !aside_ok(queue, most, bench.aside, line, store) {
+        return false;
+    }
     let memory = Reach {
         published: queue.published,
         tasks: tasks,
@@ -451,7 +485,7 @@ pub fn valid(bench: Bench, store: &[u32], log: &[u32]) -> bool
     if !frame_ok(bench, view, store, log) {
         return false;
     }
-    if !contents_ok(bench, view.published) {
+    if !contents_ok(bench, view.published, store) {
         return false;
     }
     if bench.waiting.count == 0 {

@@ -13,6 +13,7 @@ use borrow.Author.Tests.{ltb-true, leb-true, eqb-true, lt-ltb}
 use Rattle.model.specs.declared.Kind.{Kind}
 use Rattle.model.specs.declared.Kind.the-variants.{Lifo, Fifo, Deque}
 use Rattle.model.specs.declared.Anchor.{Anchor}
+use Rattle.model.specs.declared.Growth.the-variants.{ForPut, ForCommit}
 use Rattle.model.specs.declared.Line.{Line}
 use Rattle.model.specs.declared.Line.the-variants.{
   Idle,
@@ -99,7 +100,7 @@ limits-of W v =
     let v6 = and-right _ _ (and-right _ _ v4) in
     let v7 = and-right _ _ v6 in
     let v9 = and-right _ _ (and-right _ _ v7) in
-    let v10 = and-right _ _ v9 in
+    let v10 = and-right _ _ (and-right _ _ v9) in
     let v11 = and-right _ _ v10 in
     record {
       width = and-left _ _ v1;
@@ -243,13 +244,14 @@ module _ (κ : Kind) (w v : ℕ) (q : Queue) (n : ℕ) (A : Arrays v q n) where
       let e2 = and-right _ _ e1 in
       let p = put-ready r (and-left _ _ e1) (and-left _ _ e2) in (p .0, p .1, leb-true _ _ (and-right _ _ e2))
   ready (PutFinish t r) a x e = range r (and-left _ _ (and-right _ _ e))
-  ready (Claim t) a x e = (x refl ∙ if-false _ refl, free)
-  ready (Note t) a x e = a
-  ready (Copy t h j k) a x e =
+  ready (Claim (ForPut t)) a x e = (x refl ∙ if-false _ refl, free)
+  ready (Claim ForCommit) a x e = (x refl ∙ if-false _ refl, free)
+  ready (Note g) a x e = a
+  ready (Copy g h j k) a x e =
       let e1 = and-right _ _ e in
       let e2 = and-right _ _ e1 in
       copy-ready h j k (x refl ∙ if-true _ refl) (and-left _ _ e1) (leb-true _ _ (and-left _ _ e2)) (ltb-true _ _ (and-right _ _ e2))
-  ready (Publish t) a x e = tt
+  ready (Publish g) a x e = tt
   ready TakeRead a x e = tt
   ready (TakeTail h) a x e = tt
   ready (TakeTest r) a x e = tt

@@ -43,7 +43,6 @@ use Rattle.model.specs.Figures.{putIndex, takeIndex, stealIndex}
 use Rattle.model.specs.Stores.{taken, nextLength}
 use Rattle.model.specs.Lines.{Effect, size}
 use Rattle.model.specs.Limits.{someOk}
-use Rattle.anchors.specs.After.{ofAnchor}
 use Rattle.figures.specs.Bounds.{Ordered}
 use Rattle.slots.specs.Bounds.{Wide, Slotted, Inside}
 use Rattle.lines.specs.declared.Action.{Action}
@@ -117,8 +116,16 @@ pub record Claimable (q : Queue) (n a z : ℕ) : Type 0 where
   pub inside : a + z ≤ n
   pub listed : q .claimed < 11
 
--- the action can be done on the queue q and a store of n words; what ends an operation has an answer with an entry, and stores the
--- anchor
+-- a store that ends an operation in the queue q writes the anchor, or notes the array behind the published ones
+unfoldable pub Concludes : Queue → Store → Type 0
+Concludes q (StoreWord k t j x) = ⊥
+Concludes q (StoreNote k) = k ≡ q .published
+Concludes q (StorePut a) = Unit {0}
+Concludes q (StoreOut a) = Unit {0}
+Concludes q (StoreHead h) = Unit {0}
+Concludes q (StoreTail t) = Unit {0}
+
+-- the action can be done on the queue q and a store of n words; what ends an operation has an answer with an entry
 unfoldable pub Doable : ℕ → Queue → ℕ → Action → Type 0
 Doable v q n Nothing = Unit {0}
 Doable v q n Fails = Unit {0}
@@ -126,7 +133,7 @@ Doable v q n (Stores s) = Lands v q n s
 Doable v q n (Copies k t u) = (k < 11) × (t ≤ 1024) × (offsetAt (q .arrays) k + (v + 1) * t + (v + 1) ≤ n)
 Doable v q n (Claims a z) = Claimable q n a z
 Doable v q n (Stops x) = ends x ≡ true
-Doable v q n (Ends s x) = (ofAnchor s ≡ true) × (ends x ≡ true)
+Doable v q n (Ends s x) = Concludes q s × (ends x ≡ true)
 
 -- the current array's offset and length, in words
 abbrev pub off : Queue → ℕ
@@ -168,11 +175,11 @@ Ready κ v q n (PutTail t h) = Unit {0}
 Ready κ v q n (PutTest t r) = Range r
 Ready κ v q n (PutWord t r j) = Range r × Lies κ v q n (q .published - 1) (putIndex κ r) × (j ≤ v)
 Ready κ v q n (PutFinish t r) = Range r
-Ready κ v q n (Claim t) = Free v q
-Ready κ v q n (Note t) = Ordered κ (q .anchor)
-Ready κ v q n (Copy t h j k) =
+Ready κ v q n (Claim g) = Free v q
+Ready κ v q n (Note g) = Ordered κ (q .anchor)
+Ready κ v q n (Copy g h j k) =
     (h ≤ 65535) × (k ≤ 1024) × Lies κ v q n (q .published - 1) (h + k) × Lies κ v q n (q .published) (h + k)
-Ready κ v q n (Publish t) = Unit {0}
+Ready κ v q n (Publish g) = Unit {0}
 Ready κ v q n TakeRead = Unit {0}
 Ready κ v q n (TakeTail h) = Unit {0}
 Ready κ v q n (TakeTest r) = Unit {0}

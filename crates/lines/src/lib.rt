@@ -3,18 +3,22 @@
 // Uses `model`, `tasks`, `anchors`, `figures` and `slots`. It is used by `machine` and `owner`.
 ghost use mathlib.Core.Path.{_≡_};
 ghost use mathlib.Core.Bool.{true, false, not};
+ghost use mathlib.Core.List.{List, [], _∷_};
 ghost use Prim.Native.Nat.{ℕ, _-_, _*_, _^_, _≤_, _<_};
 ghost use lib.ListN.{length};
 ghost use Rattle.model.specs.declared.Line.{Line};
 ghost use Rattle.model.specs.declared.Line.the-variants.{TakeWord, StealWord};
 ghost use Rattle.model.specs.declared.Queue.{Queue};
+ghost use Rattle.model.specs.declared.Store.{Store};
+ghost use Rattle.model.specs.declared.Store.the-variants.{StoreNote};
 ghost use Rattle.model.specs.Tasks.{noTask};
-ghost use Rattle.model.specs.Lines.{unlessEmpty, succeeds, compares, grows, lineStep, failsCompare};
+ghost use Rattle.model.specs.Lines.{unlessEmpty, succeeds, compares, taskFor, grows, publishes, lineStep, failsCompare};
 ghost use Rattle.model.specs.Limits.{someOk};
 ghost use Rattle.slots.specs.Bounds.{Sized, Small};
 ghost use Rattle.lines.specs.Actions.{Does, failsBy, Doable, Ground, Ready, Range, Free};
 use model::Anchor;
 use model::Answer;
+use model::Growth;
 use model::Kind;
 use model::Line;
 use model::Queue;
@@ -23,7 +27,7 @@ use model::Task;
 
 // What a line does beside moving its worker on, by the stores that it makes: nothing; it is a compare that fails; one store, of a
 // put's word or X4's note; X3's, one for each word of `task`, in slot `slot` of the array at `place` of the directory; it claims a
-// range; or it ends its operation, with no store or with one of the anchor. No line is in it: the prover writes out a type wherever
+// range; or it ends its operation, with no store or with one: of the anchor, or the note of a commit's X4. No line is in it: the prover writes out a type wherever
 // a value of it is in reach, and `Line` has 22 cases.
 pub enum Action {
     Nothing,
@@ -127,29 +131,35 @@ fn compare(kind: Kind, queue: Queue, worker: u32, read: Anchor, next: u32, task:
     }
 }
 
-// X1: to X2, or idle.
-fn past_claim(queue: Queue, store: &[u32], task: Task) -> Line
-    requires { ⌜ (0 < queue .published) × (queue .published ≤ 11) ⌝ }
-    requires { ⌜ queue .initial * 2 ^ (queue .published - 1) ≤ 1024 ⌝ }
-    requires { ⌜ Small queue (queue .published - 1) ⌝ }
-    requires { ⌜ queue .claimed ≡ queue .published ⌝ }
-    ensures { λ r. ⌜ ((v i : ℕ) → Sized v queue (queue .published - 1) → r ≡ grows v queue (now (store .entry)) i task .line) ⌝ }
+// Whose task is FULL: a commit comes to X1 only with words set aside, and then it fits.
+fn task_for(why: Growth) -> Task
+    ensures { λ r. ⌜ r ≡ taskFor why ⌝ }
 {
-    let room = slots::has_room(queue, store);
-    if room {
-        Line::Note { task }
-    } else {
-        Line::Idle
+    match why {
+        Growth::ForPut { task } => task,
+        Growth::ForCommit => tasks::no_task(),
     }
 }
 
-// X1: an array twice as long as the current one, behind it; where that does not fit, FULL.
-fn claim(queue: Queue, store: &[u32], worker: u32, task: Task) -> Action
+// X1: to X2, or idle.
+fn past_claim(queue: Queue, store: &[u32], why: Growth) -> Line
     requires { ⌜ (0 < queue .published) × (queue .published ≤ 11) ⌝ }
     requires { ⌜ queue .initial * 2 ^ (queue .published - 1) ≤ 1024 ⌝ }
     requires { ⌜ Small queue (queue .published - 1) ⌝ }
     requires { ⌜ queue .claimed ≡ queue .published ⌝ }
-    ensures { λ r. ⌜ ((v : ℕ) → Sized v queue (queue .published - 1) → Does v (grows v queue (now (store .entry)) worker task) r) ⌝ }
+    ensures { λ r. ⌜ ((v i : ℕ) → Sized v queue (queue .published - 1) → r ≡ grows v queue (now (store .entry)) i why .line) ⌝ }
+{
+    let room = slots::has_room(queue, store);
+    if room { Line::Note { why } } else { Line::Idle }
+}
+
+// X1: an array twice as long as the current one, behind it; where that does not fit, FULL.
+fn claim(queue: Queue, store: &[u32], worker: u32, why: Growth) -> Action
+    requires { ⌜ (0 < queue .published) × (queue .published ≤ 11) ⌝ }
+    requires { ⌜ queue .initial * 2 ^ (queue .published - 1) ≤ 1024 ⌝ }
+    requires { ⌜ Small queue (queue .published - 1) ⌝ }
+    requires { ⌜ queue .claimed ≡ queue .published ⌝ }
+    ensures { λ r. ⌜ ((v : ℕ) → Sized v queue (queue .published - 1) → Does v (grows v queue (now (store .entry)) worker why) r) ⌝ }
     ensures { λ r. ⌜ ((v : ℕ) → Sized v queue (queue .published - 1) → Free v queue → Doable v queue (length (now (store .entry))) r) ⌝ }
     ensures { λ r. ⌜ failsBy r ≡ false ⌝ }
 {
@@ -164,9 +174,38 @@ fn claim(queue: Queue, store: &[u32], worker: u32, task: Task) -> Action
             length: more,
         }
     } else {
+        let task = task_for(why);
         Action::Stops {
             answer: Answer::Full { worker, task },
         }
+    }
+}
+
+// X4: back to line 1 of put, or idle.
+fn past_publish(why: Growth) -> Line
+    ensures { λ r. ⌜ ((s : List Store) (i : ℕ) → r ≡ publishes s i why .line) ⌝ }
+{
+    match why {
+        Growth::ForPut { task } => Line::PutRead { task },
+        Growth::ForCommit => Line::Idle,
+    }
+}
+
+// X4: the note of the claimed array, which ends a commit.
+fn publish(queue: Queue, worker: u32, why: Growth) -> Action
+    ensures { λ r. ⌜ ((v : ℕ) → Does v (publishes (StoreNote (queue .published) ∷ []) worker why) r) ⌝ }
+    ensures { λ r. ⌜ ((v n : ℕ) → Doable v queue n r) ⌝ }
+    ensures { λ r. ⌜ failsBy r ≡ false ⌝ }
+{
+    let note = Store::StoreNote {
+        place: queue.published,
+    };
+    match why {
+        Growth::ForPut { task: _ } => Action::Stores { store: note },
+        Growth::ForCommit => Action::Ends {
+            store: note,
+            answer: Answer::Grown { worker },
+        },
     }
 }
 
@@ -206,21 +245,21 @@ pub fn next_line(
         // put 4; 5
         Line::PutFinish { task: _, read: _ } => Line::Idle,
         // X1
-        Line::Claim { task } => past_claim(queue, store, task),
+        Line::Claim { why } => past_claim(queue, store, why),
         // X2
-        Line::Note { task } => {
+        Line::Note { why } => {
             let size = slots::size_at(queue, at);
-            figures::note_for(kind, size, anchor, task)
+            figures::note_for(kind, size, anchor, why)
         }
         // X3
         Line::Copy {
-            task,
+            why,
             head,
             noted,
             copied,
-        } => figures::copy_on(task, head, noted, copied),
+        } => figures::copy_on(why, head, noted, copied),
         // X4
-        Line::Publish { task } => Line::PutRead { task },
+        Line::Publish { why } => past_publish(why),
         // take 1; 1
         Line::TakeRead => figures::take_read(kind, anchor),
         // FIFO's take 2
@@ -324,11 +363,11 @@ pub fn decide(
             }
         }
         // X1
-        Line::Claim { task } => claim(queue, store, worker, task),
-        Line::Note { task: _ } => Action::Nothing,
+        Line::Claim { why } => claim(queue, store, worker, why),
+        Line::Note { why: _ } => Action::Nothing,
         // X3
         Line::Copy {
-            task: _,
+            why: _,
             head,
             noted: _,
             copied,
@@ -341,12 +380,7 @@ pub fn decide(
             Action::Copies { place, slot, task }
         }
         // X4
-        Line::Publish { task: _ } => {
-            let place = queue.published;
-            Action::Stores {
-                store: Store::StoreNote { place },
-            }
-        }
+        Line::Publish { why } => publish(queue, worker, why),
         Line::TakeRead => Action::Nothing,
         Line::TakeTail { head: _ } => Action::Nothing,
         // take 2; 3

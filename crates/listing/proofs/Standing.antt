@@ -155,7 +155,7 @@ line-sound b m l zero once =
     ap (λ (S : Shared). isRefused (lineStep (b .kind) (tagBits b) (b .words) (S .queue) (S .store) 0 (lineAt (b .workers) 0) .answer))
     (sees-memory (lent b m l) 0 once)
     ∙ effect-answers
-    (lent (benchOf (b .kind) (b .width) (b .words) (b .crew) (b .queue) (b .written) (b .delayed) (record { stores = []; count = 0 }) (b .used) (b .restarts) (b .workers))
+    (lent (benchOf (b .kind) (b .width) (b .words) (b .crew) (b .queue) (b .written) (b .delayed) (record { stores = []; count = 0 }) (b .aside) (b .used) (b .restarts) (b .workers))
     m l)
     0
 line-sound b m l (suc i) once = effect-answers (lent b m l) (suc i)

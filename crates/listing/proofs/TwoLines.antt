@@ -12,7 +12,7 @@ use borrow.Author.Tests.{ltb-true, ltb-false}
 use Rattle.model.specs.declared.Line.{Line}
 use Rattle.model.specs.declared.Worker.{Worker}
 use Rattle.model.specs.declared.Answer.{Answer}
-use Rattle.model.specs.declared.Answer.the-variants.{Accepted, Numbered, GoesOn, Finished, HandedOut, Empty, Full, Refused}
+use Rattle.model.specs.declared.Answer.the-variants.{Accepted, Numbered, GoesOn, Finished, HandedOut, Empty, Full, Grown, Refused}
 use Rattle.model.specs.Tests.{if_then_else_}
 use Rattle.model.specs.Answers.{ends}
 use Rattle.model.specs.Lines.{Effect}
@@ -49,6 +49,7 @@ quiet v (Finished i t) e f = never f
 quiet v (HandedOut i t) e f = never f
 quiet v (Empty i) e f = never f
 quiet v (Full i t) e f = never f
+quiet v (Grown i) e f = refl
 quiet v (Refused r) e f = never e
 
 -- after a step that is not refused: nothing was printed, or the worker is idle

@@ -18,7 +18,7 @@ use Rattle.model.proofs.Landing.{landed-more}
 use Rattle.anchors.specs.After.{afterStore, ofAnchor}
 use Rattle.lines.specs.declared.Action.{Action}
 use Rattle.lines.specs.declared.Action.the-variants.{Ends}
-use Rattle.lines.specs.Actions.{wordStores, claimsBy, storesBy, Claimable, Doable}
+use Rattle.lines.specs.Actions.{wordStores, claimsBy, storesBy, Claimable, Concludes, Doable}
 use Rattle.machine.specs.Steps.{withArray, leftBy}
 
 -- the words f 0, f 1 .., n of them
@@ -90,6 +90,16 @@ anchor-lands v q m (StoreOut a) e = refl
 anchor-lands v q m (StoreHead h) e = refl
 anchor-lands v q m (StoreTail t) e = refl
 
+-- and X4 of a commit; a last line writes no task's word
+last-keeps : (v : ℕ) (q : Queue) (m : List ℕ) (s : Store) → Concludes q s → landed v (shared q m) s .store ≡ m
+unfolding Concludes
+last-keeps v q m (StoreWord k t j x) h = absurd h
+last-keeps v q m (StoreNote k) h = refl
+last-keeps v q m (StorePut a) h = refl
+last-keeps v q m (StoreOut a) h = refl
+last-keeps v q m (StoreHead a) h = refl
+last-keeps v q m (StoreTail a) h = refl
+
 pub ends-leave : {d : Action} {s : Store} {y : Answer} (v : ℕ) (q : Queue) (m : List ℕ) (n : ℕ) → d ≡ Ends s y → Doable v q n d
     → m ≡ leftBy v (shared q m) d .store
 unfolding claimsBy storesBy landedAll Doable
@@ -97,4 +107,4 @@ ends-leave {d} {s} {y} v q m n e h =
     let k = subst (Doable v q n) e h in
     sym
     (ap (λ (x : Action). leftBy v (shared q m) x .store) e
-    ∙ ap (λ (S : Shared). S .store) (anchor-lands v q m s (k .0)))
+    ∙ last-keeps v q m s (k .0))

@@ -3,18 +3,17 @@ use mathlib.Core.Bool.{Bool, true, false, not}
 use mathlib.Core.List.{List}
 use mathlib.Core.Path.{_≡_, refl, sym, ap, _∙_}
 use Prim.Native.Nat.{ℕ}
-use Rattle.model.specs.declared.Anchor.{Anchor}
 use Rattle.model.specs.declared.Store.{Store}
 use Rattle.model.specs.declared.Queue.{Queue}
 use Rattle.model.specs.declared.Refusal.the-variants.{LogFull}
 use Rattle.model.specs.declared.Answer.{Answer}
 use Rattle.model.specs.Calls.{logFull}
 use Rattle.model.proofs.Tests.{if-true, if-false}
-use Rattle.anchors.specs.After.{afterStore}
 use Rattle.lines.specs.declared.Action.{Action}
 use Rattle.lines.specs.declared.Action.the-variants.{Stops, Ends}
+use Rattle.machine.specs.declared.Made.{Made}
 use Rattle.machine.specs.declared.Made.the-variants as made
-use Rattle.machine.specs.Steps.{actedBy}
+use Rattle.machine.specs.Steps.{concludedBy, actedBy}
 
 has-room : {full r : Bool} → r ≡ not full → r ≡ true → full ≡ false
 has-room {full = true} e f = sym f ∙ e
@@ -34,9 +33,9 @@ module _ (v k : ℕ) (l : List ℕ) (q : Queue) {d : Action} {y : Answer} {r : B
   stops-full e f = sym (ap (actedBy v k l q) e ∙ if-true _ (is-full answers f))
 
   module _ {s : Store} where
-    pub ends : {a : Anchor} → d ≡ Ends s y → a ≡ afterStore (q .anchor) s → r ≡ true → made.Ends a y ≡ actedBy v k l q d
+    pub ends : {x : Made} → d ≡ Ends s y → x ≡ concludedBy (q .anchor) s y → r ≡ true → x ≡ actedBy v k l q d
     unfolding actedBy
-    ends e g f = ap (λ (x : Anchor). made.Ends x y) g ∙ sym (ap (actedBy v k l q) e ∙ if-false _ (has-room answers f))
+    ends e g f = g ∙ sym (ap (actedBy v k l q) e ∙ if-false _ (has-room answers f))
 
     pub ends-full : d ≡ Ends s y → r ≡ false → made.Refused LogFull ≡ actedBy v k l q d
     unfolding actedBy

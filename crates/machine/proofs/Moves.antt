@@ -26,13 +26,13 @@ use Rattle.model.specs.Lines.{Effect, goes, leftOf, holdsLink, failsCompare}
 use Rattle.model.specs.World.{World, Outcome, refuse, lineAt, isSteal1, isPast1}
 use Rattle.model.specs.Calls.{lent, raised, logFull, linkSet, relinked, restarted, joining, landing, stored, crowded, commit}
 use Rattle.model.proofs.Tests.{if-false, fails, and-false}
-use Rattle.anchors.specs.After.{afterStore}
+use Rattle.anchors.specs.After.{afterStore, ofAnchor}
 use Rattle.lines.specs.declared.Action.{Action}
 use Rattle.lines.specs.declared.Action.the-variants as action
-use Rattle.lines.specs.Actions.{claimsBy, storesBy, answerBy, failsBy, Does, Lands, Doable}
+use Rattle.lines.specs.Actions.{claimsBy, storesBy, answerBy, failsBy, Does, Lands, Concludes, Doable}
 use Rattle.machine.specs.declared.Made.{Made}
 use Rattle.machine.specs.declared.Made.the-variants as made
-use Rattle.machine.specs.Steps.{benchOf, withArray, benchAfter, answerAfter, movedBy, leftBy, madeBy, actedBy, logAfter, Fits}
+use Rattle.machine.specs.Steps.{benchOf, withArray, benchAfter, answerAfter, movedBy, leftBy, madeBy, concludedBy, actedBy, logAfter, Fits}
 use Rattle.machine.proofs.Landing.{copies-leave, claims-land, anchor-lands}
 
 -- no bits or as many as the width
@@ -125,15 +125,15 @@ joined-none s =
     ∙ ap (λ (l : List Pending). record { stores = l; count = s .count }) (take-append-drop (s .count) (s .stores))
 
 -- a step of worker i that comes to the line x and answers a, committed with the counts n of restarts, the queue q, the waiting
--- line s and the store m
-abbrev counted : World → ℕ → Line → Answer → List ℕ → Queue → Waiting → List ℕ → Outcome
-counted W i x a n q s m =
+-- line s, o words set aside and the store m
+abbrev counted : World → ℕ → Line → Answer → List ℕ → Queue → Waiting → ℕ → List ℕ → Outcome
+counted W i x a n q s o m =
     let b = W .bench in
     if ends a and logFull (b .words) (W .log) (b .written) then refuse W LogFull
     else record {
       world =
           lent
-          (benchOf (b .kind) (b .width) (b .words) (b .crew) q (if ends a then b .written + entryLength (b .words) else b .written) (b .delayed) s (b .used) n
+          (benchOf (b .kind) (b .width) (b .words) (b .crew) q (if ends a then b .written + entryLength (b .words) else b .written) (b .delayed) s o (b .used) n
           (set (b .workers) i (record { line = x }))) m
           (logged (b .words) (W .log) (b .written) a);
       answer = a;
@@ -143,6 +143,13 @@ module _ (b : Bench) (i : ℕ) (from to : Line) (m l : List ℕ) (at : lineAt (b
   -- what the action leaves
   abbrev left : Action → Shared
   left d = leftBy (b .words) (shared (b .queue) m) d
+
+  -- the words set aside are gone exactly if the line claims
+  abbrev unclaimed : Bool → ℕ
+  unclaimed x = if x then 0 else b .aside
+
+  abbrev kept-aside : Action → ℕ
+  kept-aside d = unclaimed (claimsBy d)
 
   left-is : (E : Effect) (d : Action) → Does (b .words) E d → leftOf (b .words) (shared (b .queue) m) E ≡ left d
   left-is E d D =
@@ -159,34 +166,64 @@ module _ (b : Bench) (i : ℕ) (from to : Line) (m l : List ℕ) (at : lineAt (b
   -- the line, by what it leaves of the shared words and answers
   by-stores : (E : Effect) (d : Action) → Prompt b i E → Does (b .words) E d → E .line ≡ to
       → commit (lent b m l) i E
-      ≡ counted (lent b m l) i to (answerBy d) (restarted (b .kind) (b .queue) i (lineAt (b .workers) i) (b .restarts)) (relinked (left d .queue) i (lineAt (b .workers) i) to) (b .waiting) (left d .store)
+      ≡ counted (lent b m l) i to (answerBy d) (restarted (b .kind) (b .queue) i (lineAt (b .workers) i) (b .restarts)) (relinked (left d .queue) i (lineAt (b .workers) i) to) (b .waiting) (kept-aside d) (left d .store)
   by-stores E d P D e =
       let n = restarted (b .kind) (b .queue) i (lineAt (b .workers) i) (b .restarts) in
       if-false _ (roomy E P)
-      ∙ ap (λ (s : Waiting). counted (lent b m l) i (E .line) (E .answer) n (relinked (stored (lent b m l) i E .queue) i (lineAt (b .workers) i) (E .line)) s (stored (lent b m l) i E .store))
+      ∙ ap (λ (s : Waiting). counted (lent b m l) i (E .line) (E .answer) n (relinked (stored (lent b m l) i E .queue) i (lineAt (b .workers) i) (E .line)) s (unclaimed (E .claims)) (stored (lent b m l) i E .store))
       (ap (joined (b .waiting)) (P .none) ∙ joined-none (b .waiting))
-      ∙ ap (λ (S : Shared). counted (lent b m l) i (E .line) (E .answer) n (relinked (S .queue) i (lineAt (b .workers) i) (E .line)) (b .waiting) (S .store))
+      ∙ ap (λ (S : Shared). counted (lent b m l) i (E .line) (E .answer) n (relinked (S .queue) i (lineAt (b .workers) i) (E .line)) (b .waiting) (unclaimed (E .claims)) (S .store))
       (ap (landedAll (b .words) (claimedBy (E .claims) (shared (b .queue) m))) (P .all) ∙ left-is E d D)
-      ∙ ap (λ (a : Answer). counted (lent b m l) i (E .line) a n (relinked (left d .queue) i (lineAt (b .workers) i) (E .line)) (b .waiting) (left d .store)) (sym (D .answer))
-      ∙ ap (λ (x : Line). counted (lent b m l) i x (answerBy d) n (relinked (left d .queue) i (lineAt (b .workers) i) x) (b .waiting) (left d .store)) e
+      ∙ ap (λ (a : Answer). counted (lent b m l) i (E .line) a n (relinked (left d .queue) i (lineAt (b .workers) i) (E .line)) (b .waiting) (unclaimed (E .claims)) (left d .store)) (sym (D .answer))
+      ∙ ap (λ (x : Line). counted (lent b m l) i x (answerBy d) n (relinked (left d .queue) i (lineAt (b .workers) i) x) (b .waiting) (unclaimed (E .claims)) (left d .store)) e
+      ∙ ap (λ (z : Bool). counted (lent b m l) i to (answerBy d) n (relinked (left d .queue) i (lineAt (b .workers) i) to) (b .waiting) (unclaimed z) (left d .store)) (sym (D .claims))
 
   -- the action counts a restart exactly if the compare fails
   commits : (E : Effect) (d : Action) {p q : Queue} → Prompt b i E → Does (b .words) E d → E .line ≡ to → failsBy d ≡ failsCompare (b .kind) (b .queue) i from
       → left d .queue ≡ p → relinked p i from to ≡ q
-      → commit (lent b m l) i E ≡ counted (lent b m l) i to (answerBy d) (if failsBy d then raised (b .restarts) i else b .restarts) q (b .waiting) (left d .store)
+      → commit (lent b m l) i E ≡ counted (lent b m l) i to (answerBy d) (if failsBy d then raised (b .restarts) i else b .restarts) q (b .waiting) (kept-aside d) (left d .store)
   commits E d {q = q} P D e f p g =
       by-stores E d P D e
-      ∙ ap (λ (x : Bool). counted (lent b m l) i to (answerBy d) (if x then raised (b .restarts) i else b .restarts) (relinked (left d .queue) i (lineAt (b .workers) i) to) (b .waiting) (left d .store))
+      ∙ ap (λ (x : Bool). counted (lent b m l) i to (answerBy d) (if x then raised (b .restarts) i else b .restarts) (relinked (left d .queue) i (lineAt (b .workers) i) to) (b .waiting) (kept-aside d) (left d .store))
       (ap (failsCompare (b .kind) (b .queue) i) at ∙ sym f)
-      ∙ ap (λ (q : Queue). counted (lent b m l) i to (answerBy d) (if failsBy d then raised (b .restarts) i else b .restarts) q (b .waiting) (left d .store))
+      ∙ ap (λ (q : Queue). counted (lent b m l) i to (answerBy d) (if failsBy d then raised (b .restarts) i else b .restarts) q (b .waiting) (kept-aside d) (left d .store))
       (ap (λ (y : Line). relinked (left d .queue) i y to) at ∙ ap (λ (x : Queue). relinked x i from to) p ∙ g)
 
   -- an action carried out is the line committed that it does
   module _ (E : Effect) (P : Prompt b i E) (e : E .line ≡ to) where
+    -- a last line that stores the anchor
+    ended : (s : Store) (y : Answer) → Does (b .words) E (action.Ends s y) → ofAnchor s ≡ true → ends y ≡ true
+        → failsBy (action.Ends s y) ≡ failsCompare (b .kind) (b .queue) i from → Leads (b .queue) i from to (action.Ends s y)
+        → movedBy b i to (if logFull (b .words) l (b .written) then made.Refused LogFull else made.Ends (afterStore (b .queue .anchor) s) y) (left (action.Ends s y) .store) (logAfter (b .words) (b .written) l (action.Ends s y))
+        ≡ commit (lent b m l) i E
+    unfolding logAfter benchAfter answerAfter claimsBy storesBy landedAll answerBy failsBy if_then_else_ _and_
+    ended s y D o h f L =
+        ap (λ (x : List ℕ). movedBy b i to (if logFull (b .words) l (b .written) then made.Refused LogFull else made.Ends (afterStore (b .queue .anchor) s) y) x (logAfter (b .words) (b .written) l (action.Ends s y))) kept
+        ∙ sym
+        (commits E (action.Ends s y) P D e f (ap (λ (S : Shared). S .queue) lands)
+        (unlink (anchored (b .queue) a) i from to (L .rests h) ∙ link-kept (anchored (b .queue) a) i false (none-held 8 i))
+        ∙ ap (counted (lent b m l) i to y (b .restarts) (anchored (b .queue) a) (b .waiting) (b .aside)) kept
+        ∙ full (logFull (b .words) l (b .written)) refl)
+      where
+        a : Anchor
+        a = afterStore (b .queue .anchor) s
+
+        lands : landed (b .words) (shared (b .queue) m) s ≡ shared (anchored (b .queue) a) m
+        lands = anchor-lands (b .words) (b .queue) m s o
+
+        kept : landed (b .words) (shared (b .queue) m) s .store ≡ m
+        kept = ap (λ (S : Shared). S .store) lands
+
+        full : (z : Bool) → logFull (b .words) l (b .written) ≡ z
+            → counted (lent b m l) i to y (b .restarts) (anchored (b .queue) a) (b .waiting) (b .aside) m
+            ≡ movedBy b i to (if z then made.Refused LogFull else made.Ends a y) m (if z then l else setAll l (b .written) (entryWords (b .words) (entryOf y)))
+        full true q = rw (h, q)
+        full false q = rw (h, q)
+
     pub acted : (d : Action) (n : ℕ) → Does (b .words) E d → Doable (b .words) (b .queue) n d
         → failsBy d ≡ failsCompare (b .kind) (b .queue) i from → Leads (b .queue) i from to d
         → movedBy b i to (actedBy (b .words) (b .written) l (b .queue) d) (left d .store) (logAfter (b .words) (b .written) l d) ≡ commit (lent b m l) i E
-    unfolding actedBy madeBy logAfter benchAfter answerAfter claimsBy storesBy landedAll answerBy failsBy Doable Lands if_then_else_ _and_
+    unfolding actedBy madeBy concludedBy logAfter benchAfter answerAfter claimsBy storesBy landedAll answerBy failsBy Doable Lands Concludes if_then_else_ _and_
     acted action.Nothing n D h f L = sym (commits E action.Nothing P D e f refl (relink (b .queue) i from to (L .plain) (λ e. L .stays (L .held e) refl refl)))
     acted action.Fails n D h f L = sym (commits E action.Fails P D e f refl (relink (b .queue) i from to (L .plain) (L .fails refl)))
     acted (action.Stores (StoreWord k t j x)) n D h f L =
@@ -210,32 +247,26 @@ module _ (b : Bench) (i : ℕ) (from to : Line) (m l : List ℕ) (at : lineAt (b
     acted (action.Stops y) n D h f L = sym (commits E (action.Stops y) P D e f refl (unlink (b .queue) i from to (L .rests h)) ∙ full (logFull (b .words) l (b .written)) refl)
       where
         full : (z : Bool) → logFull (b .words) l (b .written) ≡ z
-            → counted (lent b m l) i to y (b .restarts) (linkSet (b .queue) i false) (b .waiting) m
+            → counted (lent b m l) i to y (b .restarts) (linkSet (b .queue) i false) (b .waiting) (b .aside) m
             ≡ movedBy b i to (if z then made.Refused LogFull else made.Stops y) m (if z then l else setAll l (b .written) (entryWords (b .words) (entryOf y)))
         full true q = rw (h, q)
         full false q = rw (h, q)
-    acted (action.Ends s y) n D h f L =
-        ap (λ (x : List ℕ). movedBy b i to (actedBy (b .words) (b .written) l (b .queue) (action.Ends s y)) x (logAfter (b .words) (b .written) l (action.Ends s y))) kept
-        ∙ sym
-        (commits E (action.Ends s y) P D e f (ap (λ (S : Shared). S .queue) lands)
-        (unlink (anchored (b .queue) a) i from to (L .rests (h .1)) ∙ link-kept (anchored (b .queue) a) i false (none-held 8 i))
-        ∙ ap (counted (lent b m l) i to y (b .restarts) (anchored (b .queue) a) (b .waiting)) kept
+    acted (action.Ends (StoreWord k t j x) y) n D h f L = absurd (h .0)
+    acted (action.Ends (StoreNote k) y) n D h f L =
+        sym
+        (commits E (action.Ends (StoreNote k) y) P D e f (ap (publishing (b .queue)) (h .0))
+        (unlink (publishing (b .queue) (b .queue .published)) i from to (L .rests (h .1)))
         ∙ full (logFull (b .words) l (b .written)) refl)
       where
-        a : Anchor
-        a = afterStore (b .queue .anchor) s
-
-        lands : landed (b .words) (shared (b .queue) m) s ≡ shared (anchored (b .queue) a) m
-        lands = anchor-lands (b .words) (b .queue) m s (h .0)
-
-        kept : landed (b .words) (shared (b .queue) m) s .store ≡ m
-        kept = ap (λ (S : Shared). S .store) lands
-
         full : (z : Bool) → logFull (b .words) l (b .written) ≡ z
-            → counted (lent b m l) i to y (b .restarts) (anchored (b .queue) a) (b .waiting) m
-            ≡ movedBy b i to (if z then made.Refused LogFull else made.Ends a y) m (if z then l else setAll l (b .written) (entryWords (b .words) (entryOf y)))
+            → counted (lent b m l) i to y (b .restarts) (linkSet (publishing (b .queue) (b .queue .published)) i false) (b .waiting) (b .aside) m
+            ≡ movedBy b i to (if z then made.Refused LogFull else made.Grows y) m (if z then l else setAll l (b .written) (entryWords (b .words) (entryOf y)))
         full true q = rw (h .1, q)
         full false q = rw (h .1, q)
+    acted (action.Ends (StorePut a) y) n D h f L = ended (StorePut a) y D refl (h .1) f L
+    acted (action.Ends (StoreOut a) y) n D h f L = ended (StoreOut a) y D refl (h .1) f L
+    acted (action.Ends (StoreHead a) y) n D h f L = ended (StoreHead a) y D refl (h .1) f L
+    acted (action.Ends (StoreTail a) y) n D h f L = ended (StoreTail a) y D refl (h .1) f L
 
   -- and the line that links
   pub linked-line : Prompt b i (goes to) → (b .queue .linked and isSteal1 from) ≡ true → failsCompare (b .kind) (b .queue) i from ≡ false → isPast1 to ≡ true
@@ -253,7 +284,7 @@ logged-fits v q k l d f = go (logFull v l k) refl
     go false e = f (room-counts v k l e)
 
 pub fits : (v : ℕ) (q : Queue) (k n : ℕ) (l : List ℕ) (d : Action) → q .published ≤ 11 → Doable v q n d → Fits v q k (actedBy v k l q d)
-unfolding actedBy madeBy Fits Doable Lands
+unfolding actedBy madeBy concludedBy Fits Doable Lands
 fits v q k n l action.Nothing p h = tt
 fits v q k n l action.Fails p h = tt
 fits v q k n l (action.Stores (StoreWord a t j x)) p h = tt
@@ -265,4 +296,12 @@ fits v q k n l (action.Stores (StoreTail a)) p h = tt
 fits v q k n l (action.Copies a t u) p h = tt
 fits v q k n l (action.Claims a z) p h = h .listed
 fits v q k n l (action.Stops y) p h = logged-fits v q k l (made.Stops y) (λ r. (r, h))
-fits v q k n l (action.Ends s y) p h = logged-fits v q k l (made.Ends (afterStore (q .anchor) s) y) (λ r. (r, h .1))
+fits v q k n l (action.Ends s y) p h = logged-fits v q k l (concludedBy (q .anchor) s y) (λ r. last-fits s r)
+  where
+    last-fits : (s : Store) → k + entryLength v ≤ 4294967295 → Fits v q k (concludedBy (q .anchor) s y)
+    last-fits (StoreWord a t j x) r = (r, h .1)
+    last-fits (StoreNote a) r = (p, r, h .1)
+    last-fits (StorePut a) r = (r, h .1)
+    last-fits (StoreOut a) r = (r, h .1)
+    last-fits (StoreHead a) r = (r, h .1)
+    last-fits (StoreTail a) r = (r, h .1)

@@ -18,7 +18,7 @@ use Rattle.model.specs.declared.Queue.{Queue}
 use Rattle.model.specs.declared.Refusal.{Refusal}
 use Rattle.model.specs.declared.Refusal.the-variants.{NoSuchWorker, IdleWorker, LogFull, WaitingFull}
 use Rattle.model.specs.declared.Answer.{Answer}
-use Rattle.model.specs.declared.Answer.the-variants.{Accepted, Numbered, GoesOn, Finished, HandedOut, Empty, Full, Refused}
+use Rattle.model.specs.declared.Answer.the-variants.{Accepted, Numbered, GoesOn, Finished, HandedOut, Empty, Full, Grown, Refused}
 use Rattle.model.specs.Answers.{ends}
 use Rattle.model.specs.Listing.{isRefused}
 use Rattle.model.specs.Tests.{_and_}
@@ -207,19 +207,21 @@ ends-not-refused (Finished i t) e = refl
 ends-not-refused (HandedOut i t) e = refl
 ends-not-refused (Empty i) e = refl
 ends-not-refused (Full i t) e = refl
+ends-not-refused (Grown i) e = refl
 ends-not-refused (Refused r) e = cc e
 
 pub made-not-refused : (v : ℕ) (q : Queue) (k : ℕ) (d : Made) → (Refused WaitingFull ≡ answerAfter d → ⊥) → Fits v q k d
-    → OneOf (0 ∷ 2 ∷ 3 ∷ 4 ∷ 5 ∷ 6 ∷ 7 ∷ 8 ∷ []) (tagOf the-type d) → isRefused (answerAfter d) ≡ false
+    → OneOf (0 ∷ 2 ∷ 3 ∷ 4 ∷ 5 ∷ 6 ∷ 7 ∷ 8 ∷ 9 ∷ []) (tagOf the-type d) → isRefused (answerAfter d) ≡ false
 unfolding Fits answerAfter
 made-not-refused v q k made.Nothing n f h = refl
-made-not-refused v q k (made.Refused r) n f h = absurd (miss (0 ∷ 2 ∷ 3 ∷ 4 ∷ 5 ∷ 6 ∷ 7 ∷ 8 ∷ []) 1 tt h)
+made-not-refused v q k (made.Refused r) n f h = absurd (miss (0 ∷ 2 ∷ 3 ∷ 4 ∷ 5 ∷ 6 ∷ 7 ∷ 8 ∷ 9 ∷ []) 1 tt h)
 made-not-refused v q k made.Fails n f h = refl
 made-not-refused v q k made.Links n f h = refl
 made-not-refused v q k (made.Claims a z) n f h = refl
 made-not-refused v q k made.Publishes n f h = refl
 made-not-refused v q k (made.Stops y) n f h = ends-not-refused y (f .1)
 made-not-refused v q k (made.Ends a y) n f h = ends-not-refused y (f .1)
+made-not-refused v q k (made.Grows y) n f h = ends-not-refused y (f .2)
 made-not-refused v q k (made.Waits d) n f h = absurd (n refl)
 
 -- a caller's state after a step: settled, as it was, with the worker's record replaced, or with a restart counted beside it

@@ -7,6 +7,7 @@ use lib.ListN.{length, set}
 use Rattle.model.specs.declared.Kind.{Kind}
 use Rattle.model.specs.declared.Store.{Store}
 use Rattle.model.specs.declared.Store.the-variants.{StoreWord, StoreNote, StorePut, StoreOut, StoreHead, StoreTail}
+use Rattle.model.specs.declared.Anchor.{Anchor}
 use Rattle.model.specs.declared.Line.{Line}
 use Rattle.model.specs.declared.Queue.{Queue}
 use Rattle.model.specs.declared.Waiting.{Waiting}
@@ -30,10 +31,10 @@ use Rattle.machine.specs.declared.Made.{Made}
 use Rattle.machine.specs.declared.Moved.{Moved}
 use Rattle.machine.specs.declared.Made.the-variants as made
 
--- a state of what a step is handed, with the mode d, the waiting line s, u numbers used, the counts n of restarts and the
--- records ws
-abbrev pub benchOf : Kind → ℕ → ℕ → ℕ → Queue → ℕ → Bool → Waiting → ℕ → List ℕ → List Worker → Bench
-benchOf κ w v c q k d s u n ws =
+-- a state of what a step is handed, with the mode d, the waiting line s, a words set aside, u numbers used, the counts n of
+-- restarts and the records ws
+abbrev pub benchOf : Kind → ℕ → ℕ → ℕ → Queue → ℕ → Bool → Waiting → ℕ → ℕ → List ℕ → List Worker → Bench
+benchOf κ w v c q k d s a u n ws =
     record {
       kind = κ;
       width = w;
@@ -42,6 +43,7 @@ benchOf κ w v c q k d s u n ws =
       crew = c;
       queue = q;
       waiting = s;
+      aside = a;
       used = u;
       restarts = n;
       written = k;
@@ -56,7 +58,12 @@ pub record AtOnce (d : Bool) (s : Waiting) (i : ℕ) : Type 0 where
 -- the state with worker i at the line x, and another queue, other counts of restarts and another of words written
 abbrev pub moves : Bench → ℕ → Line → Queue → List ℕ → ℕ → Bench
 moves b i x q n k =
-    benchOf (b .kind) (b .width) (b .words) (b .crew) q k (b .delayed) (b .waiting) (b .used) n (set (b .workers) i (record { line = x }))
+    benchOf (b .kind) (b .width) (b .words) (b .crew) q k (b .delayed) (b .waiting) (b .aside) (b .used) n (set (b .workers) i (record { line = x }))
+
+-- the state with no words set aside
+abbrev pub unasked : Bench → Bench
+unasked b =
+    benchOf (b .kind) (b .width) (b .words) (b .crew) (b .queue) (b .written) (b .delayed) (b .waiting) 0 (b .used) (b .restarts) (b .workers)
 
 -- the queue with one pair more claimed
 abbrev pub withArray : Queue → ℕ → ℕ → Queue
@@ -77,10 +84,12 @@ benchAfter b i x made.Nothing = moves b i x (b .queue) (b .restarts) (b .written
 benchAfter b i x (made.Refused r) = b
 benchAfter b i x made.Fails = moves b i x (b .queue) (raised (b .restarts) i) (b .written)
 benchAfter b i x made.Links = moves b i x (linkSet (b .queue) i true) (b .restarts) (b .written)
-benchAfter b i x (made.Claims a z) = moves b i x (withArray (b .queue) a z) (b .restarts) (b .written)
+benchAfter b i x (made.Claims a z) = moves (unasked b) i x (withArray (b .queue) a z) (b .restarts) (b .written)
 benchAfter b i x made.Publishes = moves b i x (publishing (b .queue) (b .queue .published)) (b .restarts) (b .written)
 benchAfter b i x (made.Stops y) = moves b i x (linkSet (b .queue) i false) (b .restarts) (b .written + entryLength (b .words))
 benchAfter b i x (made.Ends a y) = moves b i x (anchored (b .queue) a) (b .restarts) (b .written + entryLength (b .words))
+benchAfter b i x (made.Grows y) =
+    moves b i x (linkSet (publishing (b .queue) (b .queue .published)) i false) (b .restarts) (b .written + entryLength (b .words))
 benchAfter b i x (made.Waits d) = b
 
 unfoldable pub answerAfter : Made → Answer
@@ -92,6 +101,7 @@ answerAfter (made.Claims a z) = GoesOn
 answerAfter made.Publishes = GoesOn
 answerAfter (made.Stops y) = y
 answerAfter (made.Ends a y) = y
+answerAfter (made.Grows y) = y
 answerAfter (made.Waits d) = Refused WaitingFull
 
 -- with the store m and the log l as the step left them
@@ -115,6 +125,15 @@ madeBy (StoreOut a) = made.Nothing
 madeBy (StoreHead h) = made.Nothing
 madeBy (StoreTail t) = made.Nothing
 
+-- a store that ends an operation with the answer y, landed: the note of the claimed array, or a store of the anchor, which was a
+unfoldable pub concludedBy : Anchor → Store → Answer → Made
+concludedBy a (StoreWord k t j x) y = made.Ends (afterStore a (StoreWord k t j x)) y
+concludedBy a (StoreNote k) y = made.Grows y
+concludedBy a (StorePut b) y = made.Ends (afterStore a (StorePut b)) y
+concludedBy a (StoreOut b) y = made.Ends (afterStore a (StoreOut b)) y
+concludedBy a (StoreHead h) y = made.Ends (afterStore a (StoreHead h)) y
+concludedBy a (StoreTail t) y = made.Ends (afterStore a (StoreTail t)) y
+
 -- an action carried out on the queue q: what it makes of the step, and of the log
 unfoldable pub actedBy : ℕ → ℕ → List ℕ → Queue → Action → Made
 actedBy v k l q action.Nothing = made.Nothing
@@ -124,7 +143,7 @@ actedBy v k l q (action.Copies p t u) = made.Nothing
 actedBy v k l q (action.Claims a z) = made.Claims a z
 actedBy v k l q (action.Stops y) = if logFull v l k then made.Refused LogFull else made.Stops y
 actedBy v k l q (action.Ends s y) =
-    if logFull v l k then made.Refused LogFull else made.Ends (afterStore (q .anchor) s) y
+    if logFull v l k then made.Refused LogFull else concludedBy (q .anchor) s y
 
 unfoldable pub logAfter : ℕ → ℕ → List ℕ → Action → List ℕ
 logAfter v k l action.Nothing = l
@@ -146,6 +165,7 @@ Fits v q k (made.Claims a z) = q .claimed < 11
 Fits v q k made.Publishes = q .published ≤ 11
 Fits v q k (made.Stops y) = (k + entryLength v ≤ 4294967295) × (ends y ≡ true)
 Fits v q k (made.Ends a y) = (k + entryLength v ≤ 4294967295) × (ends y ≡ true)
+Fits v q k (made.Grows y) = (q .published ≤ 11) × (k + entryLength v ≤ 4294967295) × (ends y ≡ true)
 Fits v q k (made.Waits d) = Unit {0}
 
 -- worker i, at the line y, can be stepped in a store of z words, in a crew of n

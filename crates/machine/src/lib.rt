@@ -30,6 +30,7 @@ ghost use Rattle.machine.specs.Steps.{
   madeBy,
   actedBy,
   logAfter,
+  concludedBy,
   Fits,
   Steppable,
   PlannedBy,
@@ -49,7 +50,7 @@ use state::Returned;
 
 // What a step did beside moving its worker on: nothing that changes the state; it was refused; its compare failed; it linked the
 // anchor; it claimed an array or published it; or it ended its operation, with the anchor as it is or another one, and logged its
-// entry. Or nothing is done yet: the step's action waits for a caller that lets its stores join the waiting line.
+// entry; or it did so and published the claimed array, at X4 of a commit. Or nothing is done yet: the step's action waits for a caller that lets its stores join the waiting line.
 pub enum Made {
     Nothing,
     Refused { why: Refusal },
@@ -59,6 +60,7 @@ pub enum Made {
     Publishes,
     Stops { answer: Answer },
     Ends { anchor: Anchor, answer: Answer },
+    Grows { answer: Answer },
     Waits { action: Action },
 }
 
@@ -108,6 +110,20 @@ fn land(words: u32, queue: Queue, landing: Store, store: &mut [u32]) -> Made
     }
 }
 
+// The last store of an operation, landed: the anchor is another one, or the claimed array is published.
+fn concluded(anchor: Anchor, landing: Store, answer: Answer) -> Made
+    ensures { λ r. ⌜ r ≡ concludedBy anchor landing answer ⌝ }
+{
+    let left = anchors::after_store(anchor, landing);
+    if let Store::StoreNote { place: _ } = landing {
+        return Made::Grows { answer };
+    }
+    Made::Ends {
+        anchor: left,
+        answer,
+    }
+}
+
 // Carries an action out: its stores land at once.
 fn act(
     words: u32,
@@ -149,9 +165,9 @@ fn act(
             store: landing,
             answer,
         } => {
-            let anchor = anchors::after_store(queue.anchor, landing);
+            let ended = concluded(queue.anchor, landing, answer);
             if log_answer(words, written, answer, log) {
-                Made::Ends { anchor, answer }
+                ended
             } else {
                 Made::Refused {
                     why: Refusal::LogFull,
@@ -192,9 +208,9 @@ pub fn step_in(
     ensures { λ r.
         ⌜
         (joins ≡ false
-        → (d : Bool) (s : Waiting) (u k : ℕ) (n : List ℕ) (ws : List Worker) → AtOnce d s worker → (worker < 8 → k ≡ worker) → lineAt ws k ≡ line
-        → movedBy (benchOf kind width words crew queue written d s u n ws) k (r .line) (r .made) (now (store .exit)) (now (log .exit))
-        ≡ stepIn (lent (benchOf kind width words crew queue written d s u n ws) (now (store .entry)) (now (log .entry))) worker)
+        → (d : Bool) (s : Waiting) (o u k : ℕ) (n : List ℕ) (ws : List Worker) → AtOnce d s worker → (worker < 8 → k ≡ worker) → lineAt ws k ≡ line
+        → movedBy (benchOf kind width words crew queue written d s o u n ws) k (r .line) (r .made) (now (store .exit)) (now (log .exit))
+        ≡ stepIn (lent (benchOf kind width words crew queue written d s o u n ws) (now (store .entry)) (now (log .entry))) worker)
         ⌝ }
     ensures { λ r. ⌜ (joins ≡ true → PlannedBy kind width words crew queue (now (store .entry)) worker line r) ⌝ }
     ensures { λ r. ⌜ (joins ≡ true → (now (store .exit) ≡ now (store .entry)) × (now (log .exit) ≡ now (log .entry))) ⌝ }
@@ -297,8 +313,11 @@ pub fn settled(bench: Bench, place: usize, line: Line, made: Made) -> Returned
         }
         Made::Claims { offset, length } => {
             let grown = with_array(queue, offset, length);
+            let mut next = replaced(bench, place, line, grown, written);
+            // The words that were set aside are the array's now.
+            next.aside = 0;
             Returned {
-                bench: replaced(bench, place, line, grown, written),
+                bench: next,
                 answer: Answer::GoesOn,
             }
         }
@@ -323,6 +342,15 @@ pub fn settled(bench: Bench, place: usize, line: Line, made: Made) -> Returned
             let length = written + (3 + bench.words);
             Returned {
                 bench: replaced(bench, place, line, left, length),
+                answer,
+            }
+        }
+        Made::Grows { answer } => {
+            let current = state::publish(queue, queue.published);
+            let grown = state::with_link(current, place, false);
+            let length = written + (3 + bench.words);
+            Returned {
+                bench: replaced(bench, place, line, grown, length),
                 answer,
             }
         }

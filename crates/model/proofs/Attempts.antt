@@ -9,6 +9,7 @@ use Rattle.model.specs.declared.Kind.{Kind}
 use Rattle.model.specs.declared.Kind.the-variants.{Lifo, Fifo, Deque}
 use Rattle.model.specs.declared.Anchor.{Anchor}
 use Rattle.model.specs.declared.Task.{Task}
+use Rattle.model.specs.declared.Growth.the-variants.{ForPut, ForCommit}
 use Rattle.model.specs.declared.Line.{Line}
 use Rattle.model.specs.declared.Line.the-variants.{
   Idle,
@@ -61,10 +62,11 @@ rests κ w v q m i (PutTail t h) = λ e. never e
 rests κ w v q m i (PutTest t r) = λ e. never e
 rests κ w v q m i (PutWord t r j) = λ e. never e
 rests κ w v q m i (PutFinish t r) = λ e. refl
-rests κ w v q m i (Claim t) = either Rests (fits v q m) _ _ (λ e. never e) (λ e. refl)
-rests κ w v q m i (Note t) = λ e. never e
-rests κ w v q m i (Copy t h n k) = λ e. never e
-rests κ w v q m i (Publish t) = λ e. never e
+rests κ w v q m i (Claim g) = either Rests (fits v q m) _ _ (λ e. never e) (λ e. refl)
+rests κ w v q m i (Note g) = λ e. never e
+rests κ w v q m i (Copy g h n k) = λ e. never e
+rests κ w v q m i (Publish (ForPut t)) = λ e. never e
+rests κ w v q m i (Publish ForCommit) = λ e. refl
 rests κ w v q m i TakeRead = λ e. never e
 rests κ w v q m i (TakeTail h) = λ e. never e
 rests κ w v q m i (TakeTest r) = either Rests (isEmpty κ r) _ _ (λ e. refl) (λ e. never e)
@@ -105,10 +107,11 @@ stays κ w v q m i (PutTail t h) p = never p
 stays κ w v q m i (PutTest t r) p = never p
 stays κ w v q m i (PutWord t r j) p = never p
 stays κ w v q m i (PutFinish t r) p = never p
-stays κ w v q m i (Claim t) p = never p
-stays κ w v q m i (Note t) p = never p
-stays κ w v q m i (Copy t h n k) p = never p
-stays κ w v q m i (Publish t) p = never p
+stays κ w v q m i (Claim (ForPut t)) p = never p
+stays κ w v q m i (Claim ForCommit) p = never p
+stays κ w v q m i (Note g) p = never p
+stays κ w v q m i (Copy g h n k) p = never p
+stays κ w v q m i (Publish g) p = never p
 stays κ w v q m i TakeRead p = never p
 stays κ w v q m i (TakeTail h) p = never p
 stays κ w v q m i (TakeTest r) p = never p
@@ -139,10 +142,11 @@ only-first (PutTail t h) e = never e
 only-first (PutTest t r) e = never e
 only-first (PutWord t r j) e = never e
 only-first (PutFinish t r) e = never e
-only-first (Claim t) e = never e
-only-first (Note t) e = never e
-only-first (Copy t h n k) e = never e
-only-first (Publish t) e = never e
+only-first (Claim (ForPut t)) e = never e
+only-first (Claim ForCommit) e = never e
+only-first (Note g) e = never e
+only-first (Copy g h n k) e = never e
+only-first (Publish g) e = never e
 only-first TakeRead e = never e
 only-first (TakeTail h) e = never e
 only-first (TakeTest r) e = never e
@@ -169,10 +173,10 @@ wins κ q i (PutTail t h) a e = refl
 wins κ q i (PutTest t r) a e = refl
 wins κ q i (PutWord t r j) a e = refl
 wins κ q i (PutFinish t r) a e = refl
-wins κ q i (Claim t) a e = refl
-wins κ q i (Note t) a e = refl
-wins κ q i (Copy t h n k) a e = refl
-wins κ q i (Publish t) a e = refl
+wins κ q i (Claim g) a e = refl
+wins κ q i (Note g) a e = refl
+wins κ q i (Copy g h n k) a e = refl
+wins κ q i (Publish g) a e = refl
 wins κ q i TakeRead a e = refl
 wins κ q i (TakeTail h) a e = refl
 wins κ q i (TakeTest r) a e = refl

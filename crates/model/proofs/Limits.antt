@@ -2,11 +2,12 @@
 use mathlib.Core.Path.{_≡_, refl}
 use mathlib.Core.Bool.{Bool, true, false}
 use mathlib.Core.List.{List, [], _∷_, _++_, map}
-use Prim.Native.Nat.{ℕ, _-_, _/_}
+use Prim.Native.Nat.{ℕ, _-_, _*_, _/_}
 use lib.ListN.{length, replicate}
 use Rattle.model.specs.declared.Kind.{Kind}
 use Rattle.model.specs.declared.Kind.the-variants.{Lifo, Fifo, Deque}
 use Rattle.model.specs.declared.Anchor.{Anchor}
+use Rattle.model.specs.declared.Growth.the-variants.{ForPut, ForCommit}
 use Rattle.model.specs.declared.Line.{Line}
 use Rattle.model.specs.declared.Line.the-variants.{
   Idle,
@@ -63,10 +64,10 @@ plain z a d p c =
 abbrev line : ℕ → List Store → Waiting
 line n s = record { stores = map pending s ++ replicate (8 - length s) nonePending; count = n }
 
--- all that the limits look at: the mode, the waiting line, payload words, kind, tag width, crew, the queue, the numbers used, the
--- log's length, the workers, and the lengths of store and log
-abbrev stateWith : Bool → Waiting → ℕ → Kind → ℕ → ℕ → Queue → ℕ → ℕ → List Worker → ℕ → ℕ → World
-stateWith d s v κ w n q u e l ms ls =
+-- all that the limits look at: the mode, the waiting line, the words set aside, payload words, kind, tag width, crew, the queue, the
+-- numbers used, the log's length, the workers, and the lengths of store and log
+abbrev stateWith : Bool → Waiting → ℕ → ℕ → Kind → ℕ → ℕ → Queue → ℕ → ℕ → List Worker → ℕ → ℕ → World
+stateWith d s a v κ w n q u e l ms ls =
     record {
       bench =
           record {
@@ -77,6 +78,7 @@ stateWith d s v κ w n q u e l ms ls =
             crew = n;
             queue = q;
             waiting = s;
+            aside = a;
             used = u;
             restarts = replicate 8 0;
             written = e;
@@ -87,7 +89,7 @@ stateWith d s v κ w n q u e l ms ls =
     }
 
 abbrev stateOf : ℕ → Kind → ℕ → ℕ → Queue → ℕ → ℕ → List Worker → ℕ → ℕ → World
-stateOf v κ w n q u e l ms ls = stateWith false (line 0 []) v κ w n q u e l ms ls
+stateOf v κ w n q u e l ms ls = stateWith false (line 0 []) 0 v κ w n q u e l ms ls
 
 -- one payload word, and the size that is kept is the first array's
 abbrev state : Kind → ℕ → ℕ → Anchor → List Region → ℕ → ℕ → ℕ → ℕ → List Worker → ℕ → ℕ → World
@@ -146,7 +148,13 @@ holding κ x a y z o t = marked κ x a y z false o t
 
 -- stores that wait; in memory p of the two claimed arrays are published
 abbrev delayed : Kind → Anchor → ℕ → List Store → Line → Line → World
-delayed κ a p s o t = stateWith true (line (length s) s) 1 κ 2 2 (plain 2 a two p 2) 9 0 (at o t Idle) 12 8
+delayed κ a p s o t = stateWith true (line (length s) s) 0 1 κ 2 2 (plain 2 a two p 2) 9 0 (at o t Idle) 12 8
+
+-- n words set aside, with one array of z tasks published and perhaps a second one claimed, and ms words of store
+abbrev asking : ℕ → ℕ → ℕ → ℕ → Line → World
+asking n z c ms o =
+    stateWith false (line 0 []) n 1 Lifo 2 2 (plain z (anchor 0 0 0) (pair 0 (2 * z) ∷ pair (2 * z) (4 * z) ∷ replicate 9 nowhere) 1 c) 9 0
+    (at o Idle Idle) ms 8
 
 -- fresh's ranges, the directory, the log's length, the anchor, put numbers, workers outside the crew
 abbrev still : Kind → ℕ → ℕ → Anchor → ℕ → ℕ → World
@@ -183,7 +191,7 @@ admitted =
     ∷ busy Lifo (anchor 0 0 0) (PutWord (task 1 (one 7)) (anchor 0 3 3) 0) Idle
     ∷ busy Fifo (anchor 0 0 0) (PutWord (task 1 (one 7)) (anchor 0 65534 0) 1) Idle
     ∷ busy Deque (anchor 0 0 0) (PutFinish (task 1 (one 7)) (anchor 2047 3 3)) Idle
-    ∷ busy Lifo (anchor 0 0 0) (Claim (task 1 (one 7))) Idle
+    ∷ busy Lifo (anchor 0 0 0) (Claim (ForPut (task 1 (one 7)))) Idle
     ∷ busy Fifo (anchor 0 0 0) (TakeTail 65535) Idle
     ∷ busy Fifo (anchor 0 0 0) (TakeTest (anchor 0 65535 0)) Idle
     ∷ busy Lifo (anchor 0 0 0) (TakeWord (anchor 0 1 0) noTask 0) Idle
@@ -193,11 +201,11 @@ admitted =
     ∷ busy Lifo (anchor 0 0 0) (PutWord (task 1 (one 7)) (anchor 0 0 0) 1) Idle
     ∷ busy Lifo (anchor 0 0 0) (TakeWord (anchor 0 1 0) (task 1 (one 0)) 1) Idle
     -- X2 to X4: exactly then an array is claimed and unpublished; what is noted is at most the old size
-    ∷ growing Lifo (anchor 0 0 0) (Note (task 1 (one 7)))
-    ∷ growing Lifo (anchor 0 0 0) (Copy (task 1 (one 7)) 0 2 1)
-    ∷ growing Fifo (anchor 0 0 0) (Copy (task 1 (one 7)) 65533 2 1)
-    ∷ growing Deque (anchor 0 0 0) (Copy (task 1 (one 7)) 2047 2 1)
-    ∷ growing Lifo (anchor 0 0 0) (Publish (task 1 (one 7)))
+    ∷ growing Lifo (anchor 0 0 0) (Note (ForPut (task 1 (one 7))))
+    ∷ growing Lifo (anchor 0 0 0) (Copy (ForPut (task 1 (one 7))) 0 2 1)
+    ∷ growing Fifo (anchor 0 0 0) (Copy (ForPut (task 1 (one 7))) 65533 2 1)
+    ∷ growing Deque (anchor 0 0 0) (Copy (ForPut (task 1 (one 7))) 2047 2 1)
+    ∷ growing Lifo (anchor 0 0 0) (Publish (ForPut (task 1 (one 7))))
     -- a thief at a line of steal; noted arrays and slots exist
     ∷ busy Fifo (anchor 0 0 0) Idle (StealTail 65535)
     ∷ busy Fifo (anchor 0 0 0) Idle (StealTest (anchor 0 65535 0))
@@ -232,9 +240,18 @@ admitted =
     ∷ delayed Fifo (anchor 0 2 0) 1 (StoreNote 1 ∷ StoreTail 3 ∷ StoreTail 4 ∷ StoreHead 4 ∷ []) Idle Idle
     -- what the owner read is limited by the array that it reads: an array whose note waits counts as published
     ∷ delayed Lifo (anchor 0 2 0) 1 (StoreNote 1 ∷ []) (PutTest (task 1 (one 7)) (anchor 0 4 0)) (StealTest (anchor 0 2 0))
-    ∷ delayed Lifo (anchor 0 0 0) 1 [] (Note (task 1 (one 7))) Idle
+    ∷ delayed Lifo (anchor 0 0 0) 1 [] (Note (ForPut (task 1 (one 7)))) Idle
     -- without the mode none waits
-    ∷ stateWith false (line 0 []) 1 Lifo 2 2 (plain 2 (anchor 0 0 0) two 2 2) 9 0 (at Idle Idle Idle) 12 8
+    ∷ stateWith false (line 0 []) 0 1 Lifo 2 2 (plain 2 (anchor 0 0 0) two 2 2) 9 0 (at Idle Idle Idle) 12 8
+    -- words set aside: what an ask would set aside, just fitting; at a commit's X1, at a put's; none at X2 of a commit
+    ∷ asking 8 2 1 12 Idle
+    ∷ asking 2048 512 1 3072 Idle
+    ∷ asking 8 2 1 12 (Claim ForCommit)
+    ∷ asking 8 2 1 12 (Claim (ForPut (task 1 (one 7))))
+    ∷ asking 0 2 1 12 (Claim (ForPut (task 1 (one 7))))
+    ∷ asking 0 2 2 12 (Note ForCommit)
+    ∷ asking 0 2 2 12 (Copy ForCommit 0 2 1)
+    ∷ asking 0 2 2 12 (Publish ForCommit)
     ∷ []
 
 abbrev foreign : List World
@@ -260,9 +277,9 @@ foreign =
     ∷ directory two 3 3 12
     -- a claimed array with the owner not at X2 to X4, none with it there
     ∷ directory two 1 2 12
-    ∷ busy Lifo (anchor 0 0 0) (Note (task 1 (one 7))) Idle
-    ∷ busy Lifo (anchor 0 0 0) (Publish (task 1 (one 7))) Idle
-    ∷ growing Lifo (anchor 0 0 0) (Claim (task 1 (one 7)))
+    ∷ busy Lifo (anchor 0 0 0) (Note (ForPut (task 1 (one 7)))) Idle
+    ∷ busy Lifo (anchor 0 0 0) (Publish (ForPut (task 1 (one 7)))) Idle
+    ∷ growing Lifo (anchor 0 0 0) (Claim (ForPut (task 1 (one 7))))
     ∷ still Lifo 2 2 (anchor 0 0 0) 9 9
     -- the anchor
     ∷ still Lifo 2 2 (anchor 0 0 4) 9 0
@@ -301,11 +318,11 @@ foreign =
     ∷ busy Deque (anchor 0 0 0) (TakeWord (anchor 0 0 0) (task 1 (one 0)) 1) Idle
     ∷ busy Lifo (anchor 0 0 0) (TakeWord (anchor 0 1 0) (task 65536 (one 0)) 1) Idle
     ∷ busy Lifo (anchor 0 0 0) (TakeFinish (anchor 0 1 0) (task 65536 (one 7))) Idle
-    ∷ growing Lifo (anchor 0 0 0) (Copy (task 1 (one 7)) 1 1 0)
-    ∷ growing Lifo (anchor 0 0 0) (Copy (task 1 (one 7)) 0 3 1)
-    ∷ growing Lifo (anchor 0 0 0) (Copy (task 1 (one 7)) 0 2 2)
-    ∷ growing Fifo (anchor 0 0 0) (Copy (task 1 (one 7)) 65534 2 1)
-    ∷ growing Deque (anchor 0 0 0) (Copy (task 1 (one 7)) 2048 2 1)
+    ∷ growing Lifo (anchor 0 0 0) (Copy (ForPut (task 1 (one 7))) 1 1 0)
+    ∷ growing Lifo (anchor 0 0 0) (Copy (ForPut (task 1 (one 7))) 0 3 1)
+    ∷ growing Lifo (anchor 0 0 0) (Copy (ForPut (task 1 (one 7))) 0 2 2)
+    ∷ growing Fifo (anchor 0 0 0) (Copy (ForPut (task 1 (one 7))) 65534 2 1)
+    ∷ growing Deque (anchor 0 0 0) (Copy (ForPut (task 1 (one 7))) 2048 2 1)
     ∷ busy Lifo (anchor 0 0 0) Idle (StealNote (anchor 0 0 0))
     ∷ busy Lifo (anchor 0 0 0) Idle (StealWord (anchor 0 1 0) 2 noTask 0)
     ∷ busy Lifo (anchor 0 0 0) Idle (StealWord (anchor 0 3 0) 0 noTask 0)
@@ -319,10 +336,10 @@ foreign =
     ∷ busy Lifo (anchor 0 0 0) (PutWord (task 65536 (one 7)) (anchor 0 0 0) 0) Idle
     ∷ busy Lifo (anchor 0 0 0) (PutWord (task 65536 (one 7)) (anchor 0 0 0) 1) Idle
     ∷ busy Lifo (anchor 0 0 0) (PutFinish (task 65536 (one 7)) (anchor 0 0 0)) Idle
-    ∷ busy Lifo (anchor 0 0 0) (Claim (task 65536 (one 7))) Idle
-    ∷ growing Lifo (anchor 0 0 0) (Note (task 65536 (one 7)))
-    ∷ growing Lifo (anchor 0 0 0) (Copy (task 65536 (one 7)) 0 2 1)
-    ∷ growing Lifo (anchor 0 0 0) (Publish (task 65536 (one 7)))
+    ∷ busy Lifo (anchor 0 0 0) (Claim (ForPut (task 65536 (one 7)))) Idle
+    ∷ growing Lifo (anchor 0 0 0) (Note (ForPut (task 65536 (one 7))))
+    ∷ growing Lifo (anchor 0 0 0) (Copy (ForPut (task 65536 (one 7))) 0 2 1)
+    ∷ growing Lifo (anchor 0 0 0) (Publish (ForPut (task 65536 (one 7))))
     ∷ busy Deque (anchor 0 0 0) Idle (StealNext (anchor 0 1 0) (task 65536 (one 7)))
     ∷ busy Lifo (anchor 0 0 0) Idle (StealCompare (anchor 0 1 0) 0 (task 65536 (one 7)))
     -- the anchor read: here its tag is 2^w
@@ -346,7 +363,7 @@ foreign =
     ∷ busy Deque (anchor 0 0 0) Idle (StealNext (anchor 0 0 0) (task 1 (one 7)))
     -- the noted array, once claimed and not yet published; the slot in it; an h2 that is not figure 3's
     ∷ busy Deque (anchor 0 0 0) Idle (StealWord (anchor 0 1 0) 2 noTask 0)
-    ∷ state Deque 2 2 (anchor 0 0 0) two 1 2 9 0 (at (Note (task 1 (one 7))) (StealWord (anchor 0 1 0) 1 noTask 0) Idle) 12 8
+    ∷ state Deque 2 2 (anchor 0 0 0) two 1 2 9 0 (at (Note (ForPut (task 1 (one 7)))) (StealWord (anchor 0 1 0) 1 noTask 0) Idle) 12 8
     ∷ busy Lifo (anchor 0 0 0) Idle (StealWord (anchor 0 3 0) 0 (task 1 (one 0)) 1)
     ∷ busy Fifo (anchor 0 0 0) Idle (StealCompare (anchor 0 1 0) 1 (task 1 (one 7)))
     -- a word past the task's; words that a task has not or that are not read yet
@@ -387,17 +404,18 @@ foreign =
     ∷ holding Lifo true (anchor 0 0 1) false false Idle Idle
     ∷ holding Lifo true (anchor 0 0 0) false false (TakeTest (anchor 0 0 1)) Idle
     -- nine wait, or one without the mode
-    ∷ stateWith true (line 9 []) 1 Lifo 2 2 (plain 2 (anchor 0 0 0) two 2 2) 9 0 (at Idle Idle Idle) 12 8
-    ∷ stateWith false (line 1 []) 1 Lifo 2 2 (plain 2 (anchor 0 0 0) two 2 2) 9 0 (at Idle Idle Idle) 12 8
+    ∷ stateWith true (line 9 []) 0 1 Lifo 2 2 (plain 2 (anchor 0 0 0) two 2 2) 9 0 (at Idle Idle Idle) 12 8
+    ∷ stateWith false (line 1 []) 0 1 Lifo 2 2 (plain 2 (anchor 0 0 0) two 2 2) 9 0 (at Idle Idle Idle) 12 8
     -- a word of no array, no slot, no word, a put number above 65,535
     ∷ delayed Lifo (anchor 0 0 0) 2 (StoreWord 2 0 0 0 ∷ []) Idle Idle
+    ∷ stateWith true (line 1 (StoreWord 1 0 0 0 ∷ [])) 0 1 Lifo 2 2 (plain 2 (anchor 0 0 0) two 1 1) 9 0 (at Idle Idle Idle) 12 8
     ∷ delayed Lifo (anchor 0 0 0) 2 (StoreWord 0 2 0 0 ∷ []) Idle Idle
     ∷ delayed Lifo (anchor 0 0 0) 2 (StoreWord 0 0 2 0 ∷ []) Idle Idle
     ∷ delayed Lifo (anchor 0 0 0) 2 (StoreWord 0 0 0 65536 ∷ []) Idle Idle
     -- a note of no array or of the unpublished one; an older array than the one in memory
     ∷ delayed Lifo (anchor 0 0 0) 2 (StoreNote 2 ∷ []) Idle Idle
-    ∷ delayed Lifo (anchor 0 0 0) 1 (StoreNote 1 ∷ StoreNote 0 ∷ []) (Note (task 1 (one 7))) Idle
-    ∷ delayed Lifo (anchor 0 0 0) 2 (StoreNote 0 ∷ []) (Note (task 1 (one 7))) Idle
+    ∷ delayed Lifo (anchor 0 0 0) 1 (StoreNote 1 ∷ StoreNote 0 ∷ []) (Note (ForPut (task 1 (one 7)))) Idle
+    ∷ delayed Lifo (anchor 0 0 0) 2 (StoreNote 0 ∷ []) (Note (ForPut (task 1 (one 7)))) Idle
     -- an anchor of another kind's form, or out of its ranges
     ∷ delayed Fifo (anchor 0 0 0) 2 (StorePut (anchor 0 0 0) ∷ []) Idle Idle
     ∷ delayed Lifo (anchor 0 0 0) 2 (StoreHead 0 ∷ []) Idle Idle
@@ -414,8 +432,18 @@ foreign =
     -- a thief's noted array is one that thieves have been able to read
     ∷ delayed Deque (anchor 0 2 0) 1 (StoreNote 1 ∷ []) Idle (StealWord (anchor 0 2 0) 1 noTask 0)
     -- an array whose note waits is not claimed and unpublished
-    ∷ delayed Lifo (anchor 0 0 0) 1 (StoreNote 1 ∷ []) (Note (task 1 (one 7))) Idle
+    ∷ delayed Lifo (anchor 0 0 0) 1 (StoreNote 1 ∷ []) (Note (ForPut (task 1 (one 7)))) Idle
     ∷ delayed Lifo (anchor 0 0 0) 1 [] Idle Idle
+    -- words set aside that no longer fit, are not what an ask would set aside, stand at X2, or are missing at a commit's X1
+    ∷ asking 8 2 1 11 Idle
+    ∷ asking 4 2 1 12 Idle
+    ∷ asking 9 2 1 13 Idle
+    ∷ asking 4096 1024 1 6144 Idle
+    ∷ asking 16 2 2 28 (Note ForCommit)
+    ∷ asking 16 2 2 28 (Publish (ForPut (task 1 (one 7))))
+    ∷ asking 0 2 1 12 (Claim ForCommit)
+    -- a commit's line is not a thief's
+    ∷ busy Lifo (anchor 0 0 0) Idle (Claim ForCommit)
     ∷ []
 
 pub limits : map validOf (admitted ++ foreign) ≡ map (λ W. true) admitted ++ map (λ W. false) foreign

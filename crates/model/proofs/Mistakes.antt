@@ -9,6 +9,7 @@ use Rattle.model.specs.declared.Kind.the-variants.{Lifo}
 use Rattle.model.specs.declared.Anchor.{Anchor}
 use Rattle.model.specs.declared.Queue.{Queue}
 use Rattle.model.specs.declared.Line.{Line}
+use Rattle.model.specs.declared.Growth.the-variants.{ForPut}
 use Rattle.model.specs.declared.Line.the-variants.{Publish, StealCompare}
 use Rattle.model.specs.declared.Operation.the-variants.{Put}
 use Rattle.model.specs.declared.Refusal.the-variants.{NoSuchWorker, LogFull, ForeignState}
@@ -106,7 +107,7 @@ eight n = 9 ∷ n ∷ 4294967295 ∷ replicate 5 0
 abbrev pub counted : List (List ℕ)
 counted =
     map (λ (n : ℕ). restarted Lifo (at false (anchor 0 1 0)) 1 (StealCompare (anchor 0 1 1) 0 (task 1 (one 7))) (eight n)) (4 ∷ 4294967294 ∷ 4294967295 ∷ [])
-    ++ map (λ (l : Line). restarted Lifo (at false (anchor 0 1 0)) 1 l (eight 4)) (StealCompare (anchor 0 1 0) 0 (task 1 (one 7)) ∷ Publish (task 1 (one 7)) ∷ [])
+    ++ map (λ (l : Line). restarted Lifo (at false (anchor 0 1 0)) 1 l (eight 4)) (StealCompare (anchor 0 1 0) 0 (task 1 (one 7)) ∷ Publish (ForPut (task 1 (one 7))) ∷ [])
     ++ map (λ (x : Bool). restarted Lifo (linkSet (at true (anchor 0 1 0)) 1 x) 1 (StealCompare (anchor 0 1 0) 0 (task 1 (one 7))) (eight 4)) (false ∷ true ∷ [])
 
 pub counter : counted ≡ map eight (5 ∷ 4294967295 ∷ 4294967295 ∷ 4 ∷ 4 ∷ 5 ∷ 4 ∷ [])
@@ -126,6 +127,7 @@ tallied ns =
       crew = b .crew;
       queue = b .queue;
       waiting = b .waiting;
+      aside = b .aside;
       used = b .used;
       restarts = ns;
       written = b .written;

@@ -4,18 +4,31 @@ use mathlib.Core.Bool.{true, false}
 use mathlib.Core.List.{List, [], _∷_, _++_, map}
 use Prim.Native.Nat.{ℕ}
 use lib.ListN.{replicate}
-use Rattle.model.specs.declared.Operation.the-variants.{Put, Take, Steal}
-use Rattle.model.specs.declared.Refusal.the-variants.{NoSuchWorker, WrongHand, LogFull, NoLink, WaitingFull, NoneWaiting}
-use Rattle.model.specs.declared.Answer.the-variants.{Accepted, Numbered, GoesOn, Finished, HandedOut, Empty, Full, Refused}
+use Rattle.model.specs.declared.Operation.the-variants.{Put, Take, Steal, Commit}
+use Rattle.model.specs.declared.Refusal.the-variants.{
+  NoSuchWorker,
+  BusyWorker,
+  WrongHand,
+  LogFull,
+  NoLink,
+  WaitingFull,
+  NoneWaiting,
+  NoSpace,
+  AskStands,
+  NoAsk,
+}
+use Rattle.model.specs.declared.Answer.{Answer}
+use Rattle.model.specs.declared.Answer.the-variants.{Accepted, Numbered, GoesOn, Finished, HandedOut, Empty, Full, Grown, Refused}
 use Rattle.model.specs.declared.Command.{Command}
 use Rattle.model.specs.declared.Command.the-variants.{Open, BeginPut, BeginTake, BeginSteal, Steps, Who, End}
 use Rattle.model.specs.Tests.{if_then_else_, _and_, _or_}
 use Rattle.model.specs.Memory.{zeros, wordAt, setWord, offsetAt, lengthAt, sizeAt}
 use Rattle.model.specs.Tasks.{task, payload, wordIn, withWord, gathered}
+use Rattle.model.specs.Answers.{entryOf, entryWords}
 use Rattle.model.specs.Stores.{landedAll}
 use Rattle.model.specs.Lines.{lineStep}
 use Rattle.model.specs.Limits.{validOf}
-use Rattle.model.specs.Calls.{freshOf, beginOf, stepOf, dropLinkOf, drainOf, whoOf, begin, step, dropLink, drain}
+use Rattle.model.specs.Calls.{freshOf, beginOf, stepOf, dropLinkOf, drainOf, askOf, dropAskOf, whoOf, begin, step, dropLink, drain, ask, dropAsk}
 use Rattle.model.specs.Run.{played}
 use Rattle.model.specs.Counts.{someBelow, countBelow, sumBelow, countsOf}
 use Rattle.model.specs.Listing.{D, H, E, F, R, Wi, T, stepsOf, respond, listingFrom}
@@ -172,8 +185,35 @@ table =
     shows answers
     (Accepted ∷ Numbered 1 ∷ replicate 7 GoesOn ++ Finished 0 (task 1 (payload 1 2 3 4)) ∷ Numbered 2 ∷ replicate 4 GoesOn ++ Refused WaitingFull
     ∷ replicate 3 Accepted ++ GoesOn ∷ Refused WaitingFull ∷ Accepted ∷ GoesOn ∷ GoesOn ∷ GoesOn ∷ Refused WaitingFull ∷ Accepted ∷ GoesOn ∷ []))
+    -- ask, commit, drop: 22 with none; 21 before 20; a thief's 9; 7 while an operation is open; a commit's X1, X2, X4 end with kind 5
+    ∷ (calls 2 1 1 2 1 false 6 12
+    (dropAsk 0 ∷ begin 0 Commit ∷ ask 1 ∷ ask 2 ∷ ask 0 ∷ ask 0 ∷ begin 1 Commit ∷ dropAsk 1 ∷ begin 0 Commit ∷ ask 0 ∷ dropAsk 0 ∷ step 0 ∷ step 0 ∷ step 0 ∷ ask 0 ∷ dropAsk 0 ∷ [])
+    shows answers
+    (Accepted ∷ Refused NoAsk ∷ Refused NoAsk ∷ Refused WrongHand ∷ Refused NoSuchWorker ∷ Accepted ∷ Refused AskStands ∷ Refused WrongHand ∷ Refused WrongHand
+    ∷ Accepted ∷ Refused BusyWorker ∷ Refused BusyWorker ∷ GoesOn ∷ GoesOn ∷ Grown 0 ∷ Refused NoSpace ∷ Refused NoAsk ∷ []))
+    -- an ask dropped; a put that must grow uses the words set aside, and the ask is gone; LIFO copies all slots at a commit
+    ∷ (calls 1 1 1 1 1 false 14 20
+    (ask 0 ∷ dropAsk 0 ∷ dropAsk 0 ∷ begin 0 (Put (one 7)) ∷ replicate 5 (step 0) ++ ask 0 ∷ begin 0 (Put (one 8)) ∷ replicate 11 (step 0) ++ begin 0 Commit ∷ ask 0
+    ∷ begin 0 Commit ∷ replicate 5 (step 0) ++ begin 0 Take ∷ replicate 5 (step 0))
+    shows answers
+    (Accepted ∷ Accepted ∷ Accepted ∷ Refused NoAsk ∷ Numbered 1 ∷ replicate 4 GoesOn ++ Finished 0 (task 1 (one 7)) ∷ Accepted ∷ Numbered 2
+    ∷ replicate 10 GoesOn ++ Finished 0 (task 2 (one 8)) ∷ Refused NoAsk ∷ Accepted ∷ Accepted ∷ replicate 4 GoesOn ++ Grown 0 ∷ Accepted ∷ replicate 4 GoesOn
+    ++ HandedOut 0 (task 2 (one 8)) ∷ []))
+    -- with delayed stores an ask goes by the array that the owner reads; two notes wait
+    ∷ (calls 3 1 1 1 1 true 14 8
+    (ask 0 ∷ begin 0 Commit ∷ replicate 3 (step 0) ++ ask 0 ∷ begin 0 Commit ∷ replicate 3 (step 0) ++ ask 0 ∷ drain ∷ drain ∷ drain ∷ [])
+    shows answers
+    (Accepted ∷ Accepted ∷ Accepted ∷ GoesOn ∷ GoesOn ∷ Grown 0 ∷ Accepted ∷ Accepted ∷ GoesOn ∷ GoesOn ∷ Grown 0 ∷ Refused NoSpace ∷ Accepted ∷ Accepted
+    ∷ Refused NoneWaiting ∷ []))
     ∷ []
 
 pub p1-to-p9 : map (λ r. show (r .run)) table ≡ map (λ r. r .shown) table
-unfolding show played listingFrom respond stepsOf countsOf someBelow countBelow sumBelow freshOf beginOf stepOf dropLinkOf drainOf whoOf validOf lineStep landedAll zeros wordAt setWord offsetAt lengthAt sizeAt if_then_else_ _and_ _or_ gathered wordIn withWord
+unfolding show played listingFrom respond stepsOf countsOf someBelow countBelow sumBelow freshOf beginOf stepOf dropLinkOf drainOf askOf dropAskOf whoOf validOf lineStep landedAll zeros wordAt setWord offsetAt lengthAt sizeAt if_then_else_ _and_ _or_ gathered wordIn withWord
 p1-to-p9 = refl
+
+-- the words of each kind of entry, with two payload words
+pub entries :
+    map (λ (a : Answer). entryWords 2 (entryOf a))
+    (Finished 0 (task 9 (payload 5 6 0 0)) ∷ HandedOut 3 (task 9 (payload 5 6 0 0)) ∷ Empty 3 ∷ Full 0 (task 9 (payload 5 6 0 0)) ∷ Grown 0 ∷ [])
+    ≡ (1 ∷ 0 ∷ 9 ∷ 5 ∷ 6 ∷ []) ∷ (2 ∷ 3 ∷ 9 ∷ 5 ∷ 6 ∷ []) ∷ (3 ∷ 3 ∷ 0 ∷ 0 ∷ 0 ∷ []) ∷ (4 ∷ 0 ∷ 9 ∷ 5 ∷ 6 ∷ []) ∷ (5 ∷ 0 ∷ 0 ∷ 0 ∷ 0 ∷ []) ∷ []
+entries = refl

@@ -24,6 +24,9 @@ use Rattle.model.specs.declared.Refusal.the-variants.{
   NoLink,
   WaitingFull,
   NoneWaiting,
+  NoSpace,
+  AskStands,
+  NoAsk,
 }
 use Rattle.model.specs.declared.Answer.{Answer}
 use Rattle.model.specs.declared.Answer.the-variants.{
@@ -34,6 +37,7 @@ use Rattle.model.specs.declared.Answer.the-variants.{
   HandedOut,
   Empty,
   Full,
+  Grown,
   Refused,
 }
 use Rattle.model.specs.Tests.{if_then_else_}
@@ -59,6 +63,9 @@ numberOf PayloadWords = 16
 numberOf NoLink = 17
 numberOf WaitingFull = 18
 numberOf NoneWaiting = 19
+numberOf NoSpace = 20
+numberOf AskStands = 21
+numberOf NoAsk = 22
 
 -- an entry of the log
 pub record Entry : Type 0 where
@@ -78,6 +85,7 @@ entryOf (Finished i t) = entry 1 i t
 entryOf (HandedOut i t) = entry 2 i t
 entryOf (Empty i) = entry 3 i noTask
 entryOf (Full i t) = entry 4 i t
+entryOf (Grown i) = entry 5 i noTask
 entryOf (Refused r) = entry 0 0 noTask
 
 -- the answer ends an operation

@@ -6,15 +6,16 @@ use lib.Dec.{eqb, ltb, leb}
 use lib.ListN.{length, getD, set, replicate, take}
 use Rattle.model.specs.declared.Kind.{Kind}
 use Rattle.model.specs.declared.Kind.the-variants.{Lifo, Fifo, Deque}
+use Rattle.model.specs.declared.Growth.the-variants.{ForCommit}
 use Rattle.model.specs.declared.Line.{Line}
-use Rattle.model.specs.declared.Line.the-variants.{PutRead, TakeRead, StealRead}
+use Rattle.model.specs.declared.Line.the-variants.{PutRead, Claim, TakeRead, StealRead}
 use Rattle.model.specs.declared.Queue.{Queue}
 use Rattle.model.specs.declared.Store.{Store}
 use Rattle.model.specs.declared.Waiting.{Waiting}
 use Rattle.model.specs.declared.Bench.{Bench}
 use Rattle.model.specs.declared.Setup.{Setup}
 use Rattle.model.specs.declared.Operation.{Operation}
-use Rattle.model.specs.declared.Operation.the-variants.{Put, Take, Steal}
+use Rattle.model.specs.declared.Operation.the-variants.{Put, Take, Steal, Commit}
 use Rattle.model.specs.declared.Refusal.the-variants.{
   UnknownQueue,
   TagWidth,
@@ -32,6 +33,9 @@ use Rattle.model.specs.declared.Refusal.the-variants.{
   NoLink,
   WaitingFull,
   NoneWaiting,
+  NoSpace,
+  AskStands,
+  NoAsk,
 }
 use Rattle.model.specs.declared.Answer.{Answer}
 use Rattle.model.specs.declared.Answer.the-variants.{Accepted, Numbered}
@@ -42,9 +46,9 @@ use Rattle.model.specs.Tasks.{task, firstWords}
 use Rattle.model.specs.Memory.{zeros, nowhere}
 use Rattle.model.specs.Answers.{ends, logged, entryLength}
 use Rattle.model.specs.Figures.{anchor}
-use Rattle.model.specs.Stores.{Shared, shared, landed, landedAll, nonePending, joined, oldest, oneLess, claimedBy}
-use Rattle.model.specs.Lines.{Effect, lineStep, holdsLink, failsCompare}
-use Rattle.model.specs.World.{World, Outcome, refuse, remembered, memory, viewOf, tagBits, resting, lineAt, isIdle, isSteal1, isPast1}
+use Rattle.model.specs.Stores.{Shared, shared, landed, landedAll, nonePending, joined, oldest, oneLess, claimedBy, nextLength}
+use Rattle.model.specs.Lines.{Effect, fits, lineStep, holdsLink, failsCompare}
+use Rattle.model.specs.World.{World, Outcome, refuse, remembered, memory, ownersView, viewOf, tagBits, resting, lineAt, isIdle, isSteal1, isPast1}
 use Rattle.model.specs.Limits.{isSize, widthOk, crewOk, wordsOk, validOf}
 
 -- FRESH. A bench with no operation open, an array of c tasks of v payload words, and all counters 0
@@ -67,6 +71,7 @@ blank κ x w c n v d =
             links = replicate 8 false;
           };
       waiting = record { stores = replicate 8 nonePending; count = 0 };
+      aside = 0;
       used = 0;
       restarts = replicate 8 0;
       written = 0;
@@ -109,33 +114,45 @@ setupIn k w c n v d = record { kind = k; width = w; size = c; crew = n; words = 
 abbrev pub setup : ℕ → ℕ → ℕ → ℕ → ℕ → Setup
 setup k w c n v = setupIn k w c n v false
 
--- BEGIN. The owner, worker 0, puts and takes; a thief steals
+-- BEGIN. The owner, worker 0, puts, takes and commits; a thief steals
 abbrev pub rightHand : ℕ → Operation → Bool
 rightHand i (Put p) = eqb i 0
 rightHand i Take = eqb i 0
 rightHand i Steal = ltb 0 i
+rightHand i Commit = eqb i 0
 
 -- a put uses the next number, at most 65,535; u are used
 abbrev pub numbersLeft : Operation → ℕ → Bool
 numbersLeft (Put p) u = ltb u 65535
 numbersLeft Take u = true
 numbersLeft Steal u = true
+numbersLeft Commit u = true
+
+-- a commit needs an ask; n words are set aside
+abbrev pub asked : Operation → ℕ → Bool
+asked (Put p) n = true
+asked Take n = true
+asked Steal n = true
+asked Commit n = ltb 0 n
 
 abbrev pub usedBy : Operation → ℕ → ℕ
 usedBy (Put p) u = u + 1
 usedBy Take u = u
 usedBy Steal u = u
+usedBy Commit u = u
 
--- line 1 (a task has v payload words; a payload's words past them are not used), and the answer
+-- line 1, a commit's X1 (a task has v payload words; a payload's words past them are not used), and the answer
 abbrev pub firstLine : Operation → ℕ → ℕ → Line
 firstLine (Put p) v u = PutRead (firstWords (v + 1) (task (u + 1) p))
 firstLine Take v u = TakeRead
 firstLine Steal v u = StealRead
+firstLine Commit v u = Claim ForCommit
 
 abbrev pub beginAnswer : Operation → ℕ → Answer
 beginAnswer (Put p) u = Numbered (u + 1)
 beginAnswer Take u = Accepted
 beginAnswer Steal u = Accepted
+beginAnswer Commit u = Accepted
 
 abbrev pub begun : World → ℕ → Operation → Outcome
 begun W i op =
@@ -151,6 +168,7 @@ begun W i op =
                   crew = W .bench .crew;
                   queue = W .bench .queue;
                   waiting = W .bench .waiting;
+                  aside = W .bench .aside;
                   used = usedBy op (W .bench .used);
                   restarts = W .bench .restarts;
                   written = W .bench .written;
@@ -162,13 +180,14 @@ begun W i op =
       answer = beginAnswer op (W .bench .used);
     }
 
--- past the test of the limits: refusals 6, 9, 7, 10
+-- past the test of the limits: refusals 6, 9, 7, 10, 22
 abbrev pub beginIn : World → ℕ → Operation → Outcome
 beginIn W i op =
     unless ltb i (W .bench .crew) then refuse W NoSuchWorker
     else unless rightHand i op then refuse W WrongHand
     else unless isIdle (lineAt (W .bench .workers) i) then refuse W BusyWorker
     else unless numbersLeft op (W .bench .used) then refuse W NumbersSpent
+    else unless asked op (W .bench .aside) then refuse W NoAsk
     else begun W i op
 
 -- refusal 12 comes first
@@ -239,6 +258,7 @@ stepped W i E =
                   crew = W .bench .crew;
                   queue = relinked (stored W i E .queue) i (lineAt (W .bench .workers) i) (E .line);
                   waiting = lineAfter W i E;
+                  aside = if E .claims then 0 else W .bench .aside;
                   used = W .bench .used;
                   restarts =
                       restarted (W .bench .kind) (W .bench .queue) i (lineAt (W .bench .workers) i)
@@ -286,17 +306,42 @@ stepIn W i =
 unfoldable pub stepOf : World → ℕ → Outcome
 stepOf W i = unless validOf W then refuse W ForeignState else stepIn W i
 
+-- ASK AND DROP. What an idle owner does at once, without a line: refusals 12, 6, 9, 7, and then O
+abbrev pub ofIdleOwner : World → ℕ → Outcome → Outcome
+ofIdleOwner W i O =
+    unless validOf W then refuse W ForeignState
+    else unless ltb i (W .bench .crew) then refuse W NoSuchWorker
+    else unless eqb i 0 then refuse W WrongHand
+    else unless isIdle (lineAt (W .bench .workers) i) then refuse W BusyWorker
+    else O
+
+-- n words are set aside, a number only
+abbrev pub setAside : World → ℕ → Outcome
+setAside W n = record { world = remembered W (memory W) (W .bench .waiting) n; answer = Accepted }
+
+-- the words of an array of twice the size of the one that the owner reads: refusals 21, 20
+unfoldable pub askOf : World → ℕ → Outcome
+askOf W i =
+    ofIdleOwner W i
+    (unless eqb (W .bench .aside) 0 then refuse W AskStands
+    else unless fits (W .bench .words) (ownersView W .queue) (W .store) then refuse W NoSpace
+    else setAside W (nextLength (ownersView W .queue)))
+
+-- the words are given back: refusal 22
+unfoldable pub dropAskOf : World → ℕ → Outcome
+dropAskOf W i = ofIdleOwner W i (unless ltb 0 (W .bench .aside) then refuse W NoAsk else setAside W 0)
+
 -- LINK DROPPED. The event that makes worker i's link fail for no reason: refusals 12, 6, 17
 unfoldable pub dropLinkOf : World → ℕ → Outcome
 dropLinkOf W i =
     unless validOf W then refuse W ForeignState
     else unless ltb i (W .bench .crew) then refuse W NoSuchWorker
     else unless holdsLink (W .bench .queue) i then refuse W NoLink
-    else record { world = remembered W (shared (linkSet (W .bench .queue) i false) (W .store)) (W .bench .waiting); answer = Accepted }
+    else record { world = remembered W (shared (linkSet (W .bench .queue) i false) (W .store)) (W .bench .waiting) (W .bench .aside); answer = Accepted }
 
 -- DRAIN. The event that puts the oldest waiting store to its place in memory: refusals 12, 19
 abbrev pub drained : World → World
-drained W = remembered W (landed (W .bench .words) (memory W) (oldest (W .bench .waiting))) (oneLess (W .bench .waiting))
+drained W = remembered W (landed (W .bench .words) (memory W) (oldest (W .bench .waiting))) (oneLess (W .bench .waiting)) (W .bench .aside)
 
 unfoldable pub drainOf : World → Outcome
 drainOf W =
@@ -321,9 +366,13 @@ pub data Call : Type 0 where
   step : ℕ → Call
   dropLink : ℕ → Call
   drain : Call
+  ask : ℕ → Call
+  dropAsk : ℕ → Call
 
 abbrev pub callOf : World → Call → Outcome
 callOf W (begin i op) = beginOf W i op
 callOf W (step i) = stepOf W i
 callOf W (dropLink i) = dropLinkOf W i
 callOf W drain = drainOf W
+callOf W (ask i) = askOf W i
+callOf W (dropAsk i) = dropAskOf W i

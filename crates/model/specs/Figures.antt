@@ -9,6 +9,7 @@ use Rattle.model.specs.declared.Task.{Task}
 use Rattle.model.specs.declared.Anchor.{Anchor}
 use Rattle.model.specs.declared.Store.{Store}
 use Rattle.model.specs.declared.Store.the-variants.{StorePut, StoreOut, StoreHead, StoreTail}
+use Rattle.model.specs.declared.Growth.{Growth}
 use Rattle.model.specs.declared.Line.{Line}
 use Rattle.model.specs.declared.Line.the-variants.{
   PutTail,
@@ -103,13 +104,13 @@ stealRead Fifo a = StealTail (a .head)
 stealRead Deque a = StealTest a
 
 -- X2 in an array of z tasks: k indices from h on are noted; with none, X4 is next
-abbrev pub noteAll : Task → ℕ → ℕ → Line
-noteAll t h k = if eqb k 0 then Publish t else Copy t h k 0
+abbrev pub noteAll : Growth → ℕ → ℕ → Line
+noteAll g h k = if eqb k 0 then Publish g else Copy g h k 0
 
-abbrev pub note : Kind → ℕ → Anchor → Task → Line
-note Lifo z a t = noteAll t 0 z
-note Fifo z a t = noteAll t (a .head) (a .count - a .head)
-note Deque z a t = noteAll t (a .head) (a .count)
+abbrev pub note : Kind → ℕ → Anchor → Growth → Line
+note Lifo z a g = noteAll g 0 z
+note Fifo z a g = noteAll g (a .head) (a .count - a .head)
+note Deque z a g = noteAll g (a .head) (a .count)
 
 -- a steal that has read its task: figure 3 works out h2 first
 abbrev pub stealLast : Kind → Anchor → Task → Line

@@ -8,6 +8,8 @@ use Rattle.model.specs.declared.Kind.{Kind}
 use Rattle.model.specs.declared.Kind.the-variants.{Lifo, Fifo, Deque}
 use Rattle.model.specs.declared.Task.{Task}
 use Rattle.model.specs.declared.Anchor.{Anchor}
+use Rattle.model.specs.declared.Growth.{Growth}
+use Rattle.model.specs.declared.Growth.the-variants.{ForPut, ForCommit}
 use Rattle.model.specs.declared.Line.{Line}
 use Rattle.model.specs.declared.Line.the-variants.{
   Idle,
@@ -44,9 +46,9 @@ use Rattle.model.specs.Tests.{if_then_else_, _and_, _or_}
 use Rattle.model.specs.Tasks.{noneFrom}
 use Rattle.model.specs.Memory.{offsetAt, lengthAt, sizeAt}
 use Rattle.model.specs.Figures.{anchor, isSame}
-use Rattle.model.specs.Stores.{inLine, taken}
-use Rattle.model.specs.Lines.{size}
-use Rattle.model.specs.World.{World, ownersView, tagBits, lineAt, isIdle, isPast1, isExpanding, isOwners, isThiefs}
+use Rattle.model.specs.Stores.{inLine, taken, nextLength}
+use Rattle.model.specs.Lines.{size, fits}
+use Rattle.model.specs.World.{World, ownersView, tagBits, lineAt, isIdle, isPast1, isExpanding, isCommit1, isOwners, isThiefs}
 
 -- a power of two from 1 to 2^e; sizes go up to 2^10 = 1,024
 abbrev pub isSize : ℕ → ℕ → Bool
@@ -155,6 +157,10 @@ numberOk n = leb n 65535
 abbrev pub taskOk : ℕ → Task → Bool
 taskOk n t = numberOk (t .number) and noneFrom n t
 
+abbrev pub growthOk : ℕ → Growth → Bool
+growthOk v (ForPut t) = taskOk (v + 1) t
+growthOk v ForCommit = true
+
 -- what a worker at the line has read; q is the queue as it reads it
 abbrev pub lineOk : Kind → ℕ → ℕ → Queue → Line → Bool
 lineOk κ w v q Idle = true
@@ -164,10 +170,10 @@ lineOk κ w v q (PutTest t r) = taskOk (v + 1) t and readOk κ w (size v q) r
 lineOk κ w v q (PutWord t r j) =
     taskOk (v + 1) t and readOk κ w (size v q) r and roomOk κ (size v q) r and leb j v
 lineOk κ w v q (PutFinish t r) = taskOk (v + 1) t and readOk κ w (size v q) r and roomOk κ (size v q) r
-lineOk κ w v q (Claim t) = taskOk (v + 1) t
-lineOk κ w v q (Note t) = taskOk (v + 1) t
-lineOk κ w v q (Copy t h n k) = taskOk (v + 1) t and notedOk κ h n and leb n (size v q) and ltb k n
-lineOk κ w v q (Publish t) = taskOk (v + 1) t
+lineOk κ w v q (Claim g) = growthOk v g
+lineOk κ w v q (Note g) = growthOk v g
+lineOk κ w v q (Copy g h n k) = growthOk v g and notedOk κ h n and leb n (size v q) and ltb k n
+lineOk κ w v q (Publish g) = growthOk v g
 lineOk κ w v q TakeRead = true
 lineOk κ w v q (TakeTail h) = headOk κ h
 lineOk κ w v q (TakeTest r) = readOk κ w (size v q) r
@@ -190,10 +196,10 @@ readBy (PutTail t h) = anchor 0 0 0
 readBy (PutTest t r) = anchor 0 0 0
 readBy (PutWord t r j) = anchor 0 0 0
 readBy (PutFinish t r) = anchor 0 0 0
-readBy (Claim t) = anchor 0 0 0
-readBy (Note t) = anchor 0 0 0
-readBy (Copy t h n k) = anchor 0 0 0
-readBy (Publish t) = anchor 0 0 0
+readBy (Claim g) = anchor 0 0 0
+readBy (Note g) = anchor 0 0 0
+readBy (Copy g h n k) = anchor 0 0 0
+readBy (Publish g) = anchor 0 0 0
 readBy TakeRead = anchor 0 0 0
 readBy (TakeTail h) = anchor 0 0 0
 readBy (TakeTest r) = anchor 0 0 0
@@ -251,6 +257,12 @@ storesOk κ w v q (s ∷ l) = storeOk κ w v q s and storesOk κ w v q l
 abbrev pub waitingOk : Kind → ℕ → ℕ → Queue → Bool → Waiting → Bool
 waitingOk κ w v q d l = leb (l .count) (if d then 8 else 0) and storesOk κ w v q (inLine l)
 
+-- n words set aside, with the owner at line o: what an ask would set aside, fitting the store; none at X2 to X4, and some at a
+-- commit's X1
+abbrev pub asideOk : ℕ → Queue → List ℕ → Line → ℕ → Bool
+asideOk v q m o n =
+    if eqb n 0 then not (isCommit1 o) else eqb n (nextLength q) and fits v q m and not (isExpanding o)
+
 -- q is the queue in memory, p as the owner reads it
 abbrev pub benchOk : Bench → Queue → Queue → List ℕ → List ℕ → Bool
 benchOk b q p m l =
@@ -264,6 +276,7 @@ benchOk b q p m l =
     and anchorOk (b .kind) (tagBits b) (size (b .words) p) (p .anchor)
     and numberOk (b .used)
     and waitingOk (b .kind) (tagBits b) (b .words) p (b .delayed) (b .waiting)
+    and asideOk (b .words) p m (lineAt (b .workers) 0) (b .aside)
     and linksOk (b .kind) q (b .workers) 8
     and ownerOk (b .kind) (tagBits b) (b .words) p (lineAt (b .workers) 0)
     and thievesOk (b .kind) (tagBits b) (b .words) q (b .crew) (b .workers) 7

@@ -9,6 +9,8 @@ use Rattle.model.specs.declared.Task.{Task}
 use Rattle.model.specs.declared.Anchor.{Anchor}
 use Rattle.model.specs.declared.Store.{Store}
 use Rattle.model.specs.declared.Store.the-variants.{StoreWord, StoreNote}
+use Rattle.model.specs.declared.Growth.{Growth}
+use Rattle.model.specs.declared.Growth.the-variants.{ForPut, ForCommit}
 use Rattle.model.specs.declared.Line.{Line}
 use Rattle.model.specs.declared.Line.the-variants.{
   Idle,
@@ -36,7 +38,7 @@ use Rattle.model.specs.declared.Line.the-variants.{
 }
 use Rattle.model.specs.declared.Queue.{Queue}
 use Rattle.model.specs.declared.Answer.{Answer}
-use Rattle.model.specs.declared.Answer.the-variants.{GoesOn, Finished, HandedOut, Empty, Full}
+use Rattle.model.specs.declared.Answer.the-variants.{GoesOn, Finished, HandedOut, Empty, Full, Grown}
 use Rattle.model.specs.Tests.{if_then_else_, _and_}
 use Rattle.model.specs.Tasks.{noTask, wordIn, withWord}
 use Rattle.model.specs.Memory.{wordAt, offsetAt, sizeAt}
@@ -104,11 +106,16 @@ stealOn κ v r k t j = if eqb j v then stealLast κ r t else StealWord r k t (j 
 abbrev pub fits : ℕ → Queue → List ℕ → Bool
 fits v q m = leb (2 * size v q) 1024 and leb (taken q + nextLength q) (length m)
 
-abbrev pub grows : ℕ → Queue → List ℕ → ℕ → Task → Effect
-grows v q m i t =
+-- FULL ends a put; a commit comes to X1 only with words set aside, and then it fits
+abbrev pub taskFor : Growth → Task
+taskFor (ForPut t) = t
+taskFor ForCommit = noTask
+
+abbrev pub grows : ℕ → Queue → List ℕ → ℕ → Growth → Effect
+grows v q m i g =
     if fits v q m
-    then record { claims = true; stores = []; line = Note t; answer = GoesOn }
-    else eff [] Idle (Full i t)
+    then record { claims = true; stores = []; line = Note g; answer = GoesOn }
+    else eff [] Idle (Full i (taskFor g))
 
 -- X3: the stores that copy the first n words of index i's task from the current array into the claimed one
 abbrev pub copyWords : Kind → ℕ → Queue → List ℕ → ℕ → ℕ → List Store
@@ -116,8 +123,13 @@ copyWords κ v q m i zero = []
 copyWords κ v q m i (suc j) =
     copyWords κ v q m i j ++ writeWord κ v q (q .published) i j (wordOf κ v q m (q .published - 1) i j) ∷ []
 
-abbrev pub copyOn : Task → ℕ → ℕ → ℕ → Line
-copyOn t h n k = if eqb (k + 1) n then Publish t else Copy t h n (k + 1)
+abbrev pub copyOn : Growth → ℕ → ℕ → ℕ → Line
+copyOn g h n k = if eqb (k + 1) n then Publish g else Copy g h n (k + 1)
+
+-- X4, with its store s: back to line 1 of put, or the commit ends
+abbrev pub publishes : List Store → ℕ → Growth → Effect
+publishes s i (ForPut t) = eff s (PutRead t) GoesOn
+publishes s i ForCommit = eff s Idle (Grown i)
 
 -- the test for EMPTY, at worker i; the line l follows it
 abbrev pub unlessEmpty : Kind → ℕ → Anchor → Line → Effect
@@ -143,15 +155,15 @@ lineStep κ w v q m i Idle = goes Idle
 -- put: figure 1 and 3's lines 1, 2, 3 word by word, 4; figure 2's 1, 2, 3, 4 word by word, 5
 lineStep κ w v q m i (PutRead t) = goes (putRead κ (q .anchor) t)
 lineStep κ w v q m i (PutTail t h) = goes (PutTest t (anchor h (q .anchor .count) (q .anchor .tag)))
-lineStep κ w v q m i (PutTest t r) = goes (if isFull κ (size v q) r then Claim t else PutWord t r 0)
+lineStep κ w v q m i (PutTest t r) = goes (if isFull κ (size v q) r then Claim (ForPut t) else PutWord t r 0)
 lineStep κ w v q m i (PutWord t r j) =
     eff (writeWord κ v q (q .published - 1) (putIndex κ r) j (wordIn t j) ∷ []) (putOn v t r j) GoesOn
 lineStep κ w v q m i (PutFinish t r) = eff (putStore κ w r ∷ []) Idle (Finished i t)
 -- X1 to X4
-lineStep κ w v q m i (Claim t) = grows v q m i t
-lineStep κ w v q m i (Note t) = goes (note κ (size v q) (q .anchor) t)
-lineStep κ w v q m i (Copy t h n k) = eff (copyWords κ v q m (h + k) (v + 1)) (copyOn t h n k) GoesOn
-lineStep κ w v q m i (Publish t) = eff (StoreNote (q .published) ∷ []) (PutRead t) GoesOn
+lineStep κ w v q m i (Claim g) = grows v q m i g
+lineStep κ w v q m i (Note g) = goes (note κ (size v q) (q .anchor) g)
+lineStep κ w v q m i (Copy g h n k) = eff (copyWords κ v q m (h + k) (v + 1)) (copyOn g h n k) GoesOn
+lineStep κ w v q m i (Publish g) = publishes (StoreNote (q .published) ∷ []) i g
 -- take: lines 1, 2, 3 word by word, 4; figure 2's 1, 2, 3, 4 word by word, 5
 lineStep κ w v q m i TakeRead = goes (takeRead κ (q .anchor))
 lineStep κ w v q m i (TakeTail h) = goes (TakeTest (anchor h (q .anchor .count) (q .anchor .tag)))

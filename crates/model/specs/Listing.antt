@@ -16,6 +16,7 @@ use Rattle.model.specs.declared.Answer.the-variants.{
   HandedOut,
   Empty,
   Full,
+  Grown,
   Refused,
 }
 use Rattle.model.specs.declared.Tally.{Tally}
@@ -40,7 +41,7 @@ pub data Print : Type 0 where
   Wi : ℕ → ℕ → Print
   T : ℕ → ℕ → ℕ → ℕ → ℕ → ℕ → Print
 
--- what an answer prints, with v payload words: an accepted begin and a step that goes on, nothing
+-- what an answer prints, with v payload words: an accepted begin and a step that goes on, nothing; it never commits
 abbrev pub printed : ℕ → Answer → List Print
 printed v Accepted = []
 printed v (Numbered n) = []
@@ -49,6 +50,7 @@ printed v (Finished i t) = D (t .number) ∷ []
 printed v (HandedOut i t) = H i (t .number) (take v (drop 1 (wordsIn t))) ∷ []
 printed v (Empty i) = E i ∷ []
 printed v (Full i t) = F (t .number) ∷ []
+printed v (Grown i) = []
 printed v (Refused r) = R (numberOf r) ∷ []
 
 -- what a call prints: as many payload words as its bench has
@@ -68,6 +70,7 @@ isRefused (Finished i t) = false
 isRefused (HandedOut i t) = false
 isRefused (Empty i) = false
 isRefused (Full i t) = false
+isRefused (Grown i) = false
 isRefused (Refused r) = true
 
 abbrev pub totals : Counts → Print

@@ -4,6 +4,8 @@ use mathlib.Core.List.{List}
 use Prim.Native.Nat.{ℕ, zero, suc}
 use lib.Dec.{eqb, ltb}
 use lib.ListN.{getD}
+use Rattle.model.specs.declared.Growth.{Growth}
+use Rattle.model.specs.declared.Growth.the-variants.{ForPut, ForCommit}
 use Rattle.model.specs.declared.Line.{Line}
 use Rattle.model.specs.declared.Line.the-variants.{
   Idle,
@@ -51,9 +53,9 @@ pub record Outcome : Type 0 where
 abbrev pub refuse : World → Refusal → Outcome
 refuse W r = record { world = W; answer = Refused r }
 
--- the same with other shared words and another waiting line
-abbrev pub remembered : World → Shared → Waiting → World
-remembered W S l =
+-- the same with other shared words, another waiting line, and n words set aside
+abbrev pub remembered : World → Shared → Waiting → ℕ → World
+remembered W S l n =
     record {
       bench =
           record {
@@ -64,6 +66,7 @@ remembered W S l =
             crew = W .bench .crew;
             queue = S .queue;
             waiting = l;
+            aside = n;
             used = W .bench .used;
             restarts = W .bench .restarts;
             written = W .bench .written;
@@ -95,19 +98,23 @@ resting = record { line = Idle }
 abbrev pub lineAt : List Worker → ℕ → Line
 lineAt l i = getD l i resting .line
 
--- where a worker stands: 0 idle; the owner 1 at a line 1, 2 at X2 to X4, 3 elsewhere; a thief 4 at line 1, 5 past it
+-- where a worker stands: 0 idle; the owner 1 at a commit's X1, 2 at X2 to X4, 3 elsewhere; a thief 4 at line 1, 5 past it
+abbrev pub claimStage : Growth → ℕ
+claimStage (ForPut t) = 3
+claimStage ForCommit = 1
+
 abbrev pub stage : Line → ℕ
 stage Idle = 0
-stage (PutRead t) = 1
+stage (PutRead t) = 3
 stage (PutTail t h) = 3
 stage (PutTest t r) = 3
 stage (PutWord t r j) = 3
 stage (PutFinish t r) = 3
-stage (Claim t) = 3
-stage (Note t) = 2
-stage (Copy t h n k) = 2
-stage (Publish t) = 2
-stage TakeRead = 1
+stage (Claim g) = claimStage g
+stage (Note g) = 2
+stage (Copy g h n k) = 2
+stage (Publish g) = 2
+stage TakeRead = 3
 stage (TakeTail h) = 3
 stage (TakeTest r) = 3
 stage (TakeWord r t j) = 3
@@ -134,7 +141,10 @@ isPast1 l = eqb (stage l) 5
 abbrev pub isExpanding : Line → Bool
 isExpanding l = eqb (stage l) 2
 
--- a line of put or take; a line of steal
+abbrev pub isCommit1 : Line → Bool
+isCommit1 l = eqb (stage l) 1
+
+-- a line of put, take or commit; a line of steal
 abbrev pub isOwners : Line → Bool
 isOwners l = ltb (stage l) 4
 

@@ -59,6 +59,12 @@ pub enum Store {
     },
 }
 
+// Why the array grows: for a put, or for a commit, an operation of X1 to X4 alone.
+pub enum Growth {
+    ForPut { task: Task },
+    ForCommit,
+}
+
 // The line a worker is at, with the values read so far, a thread's own variables; `read` is the anchor as it read it. Put, take
 // and steal are the figures' names; X1 to X4 are their `expand`. Beside each case: the line's number in figures 1 and 3, then in
 // figure 2.
@@ -91,22 +97,22 @@ pub enum Line {
     },
     // X1
     Claim {
-        task: Task,
+        why: Growth,
     },
     // X2
     Note {
-        task: Task,
+        why: Growth,
     },
     // X3: `noted` indices from `head` on are to be copied, `copied` of them are
     Copy {
-        task: Task,
+        why: Growth,
         head: u32,
         noted: u32,
         copied: u32,
     },
     // X4
     Publish {
-        task: Task,
+        why: Growth,
     },
     // take 1; 1
     TakeRead,
@@ -201,8 +207,8 @@ pub struct Waiting {
 }
 
 // The bench's state. `width` is the tag's, `words` counts the payload words of a task; with `delayed` the owner's stores wait before
-// they reach memory; `crew` counts the workers, `used` the put numbers given out, `restarts` each worker's compares that failed (the
-// field's retries); `written` is the log's length, in words.
+// they reach memory; `crew` counts the workers, `aside` the words that an ask has set aside (0 without one), `used` the put numbers
+// given out, `restarts` each worker's compares that failed (the field's retries); `written` is the log's length, in words.
 pub struct Bench {
     pub kind: Kind,
     pub width: u32,
@@ -211,6 +217,7 @@ pub struct Bench {
     pub crew: u32,
     pub queue: Queue,
     pub waiting: Waiting,
+    pub aside: u32,
     pub used: u32,
     pub restarts: [u32; 8],
     pub written: u32,
@@ -234,6 +241,7 @@ pub enum Operation {
     Put { payload: Payload },
     Take,
     Steal,
+    Commit,
 }
 
 // The table of refusals, in its order (14 and 15 are the judge's own).
@@ -255,11 +263,14 @@ pub enum Refusal {
     NoLink,
     WaitingFull,
     NoneWaiting,
+    NoSpace,
+    AskStands,
+    NoAsk,
 }
 
 // What a call answers: a fresh, a begin or an event is accepted (a put with its number); a step goes on, or ends its operation with an
 // entry of the log; or the call is refused. A hand-out is what the field calls an extraction: a take or a steal returns a task.
-// FULL is the bench's own: the figures' `expand` always finds memory.
+// FULL is the bench's own: the figures' `expand` always finds memory. Grown ends a commit.
 pub enum Answer {
     Accepted,
     Numbered { number: u32 },
@@ -268,6 +279,7 @@ pub enum Answer {
     HandedOut { worker: u32, task: Task },
     Empty { worker: u32 },
     Full { worker: u32, task: Task },
+    Grown { worker: u32 },
     Refused { why: Refusal },
 }
 

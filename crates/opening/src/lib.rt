@@ -12,6 +12,7 @@ ghost use Rattle.state.specs.Outcomes.{returned};
 ghost use Rattle.opening.specs.Begins.{BeginStops};
 use model::Answer;
 use model::Bench;
+use model::Growth;
 use model::Line;
 use model::Operation;
 use model::Refusal;
@@ -100,6 +101,17 @@ fn accept(bench: Bench, worker: u32, operation: Operation) -> Returned
             bench: state::opens(bench, i, used, Line::StealRead),
             answer: Answer::Accepted,
         },
+        Operation::Commit => Returned {
+            bench: state::opens(
+                bench,
+                i,
+                used,
+                Line::Claim {
+                    why: Growth::ForCommit,
+                },
+            ),
+            answer: Answer::Accepted,
+        },
     }
 }
 
@@ -129,6 +141,11 @@ pub fn begin_stop(bench: Bench, worker: u32, operation: Operation) -> Stop
     if !admission::numbers_left(operation, bench.used) {
         return Stop::Why {
             why: Refusal::NumbersSpent,
+        };
+    }
+    if !admission::asked(operation, bench.aside) {
+        return Stop::Why {
+            why: Refusal::NoAsk,
         };
     }
     Stop::No

@@ -5,11 +5,12 @@ use mathlib.Core.Logic.{inl, inr}
 use mathlib.Core.List.{List, [], _∷_}
 use Prim.Native.Nat.{ℕ, zero, suc, _+_, _≤_}
 use Rattle.model.specs.declared.Kind.{Kind}
+use Rattle.model.specs.declared.Growth.the-variants.{ForPut, ForCommit}
 use Rattle.model.specs.declared.Line.{Line}
 use Rattle.model.specs.declared.Line.the-variants.{Idle, PutRead, PutTail, PutTest, PutWord, PutFinish, Claim, Note, Copy, Publish, TakeRead, TakeTail, TakeTest, TakeWord, TakeFinish, StealRead, StealTail, StealTest, StealNote, StealWord, StealNext, StealCompare}
 use Rattle.model.specs.declared.Queue.{Queue}
 use Rattle.model.specs.declared.Operation.{Operation}
-use Rattle.model.specs.declared.Operation.the-variants.{Put, Take, Steal}
+use Rattle.model.specs.declared.Operation.the-variants.{Put, Take, Steal, Commit}
 use Rattle.model.specs.Tests.{if_then_else_}
 use Rattle.model.specs.Tasks.{noTask, wordIn, gathered, firstWords}
 use Rattle.model.specs.Figures.{isEmpty}
@@ -50,11 +51,13 @@ line-cut κ w ω q m i low τ (PutTest t r) s = none-cut (ω + 1)
 line-cut κ w ω q m i low τ (PutWord t r j) s = none-cut (ω + 1)
 line-cut κ w ω q m i low τ (PutFinish t r) (inl s) = s .0 .1
 line-cut κ w ω q m i low τ (PutFinish t r) (inr s) = absurd s
-line-cut κ w ω q m i low τ (Claim t) (inl s) = either ω (fits ω q m) _ _ (none-cut (ω + 1)) (s .1)
+line-cut κ w ω q m i low τ (Claim (ForPut t)) (inl s) = either ω (fits ω q m) _ _ (none-cut (ω + 1)) (s .1)
+line-cut κ w ω q m i low τ (Claim ForCommit) (inl s) = either ω (fits ω q m) _ _ (none-cut (ω + 1)) (none-cut (ω + 1))
 line-cut κ w ω q m i low τ (Claim t) (inr s) = absurd s
 line-cut κ w ω q m i low τ (Note t) s = none-cut (ω + 1)
 line-cut κ w ω q m i low τ (Copy t h n k) s = none-cut (ω + 1)
-line-cut κ w ω q m i low τ (Publish t) s = none-cut (ω + 1)
+line-cut κ w ω q m i low τ (Publish (ForPut t)) s = none-cut (ω + 1)
+line-cut κ w ω q m i low τ (Publish ForCommit) s = none-cut (ω + 1)
 line-cut κ w ω q m i low τ TakeRead s = none-cut (ω + 1)
 line-cut κ w ω q m i low τ (TakeTail h) s = none-cut (ω + 1)
 line-cut κ w ω q m i low τ (TakeTest r) s = either ω (isEmpty κ r) _ _ (none-cut (ω + 1)) (none-cut (ω + 1))
@@ -74,10 +77,11 @@ begin-cut : (ω : ℕ) (op : Operation) (u : ℕ) → Cut ω (beginAnswer op u)
 begin-cut ω (Put p) u = none-cut (ω + 1)
 begin-cut ω Take u = none-cut (ω + 1)
 begin-cut ω Steal u = none-cut (ω + 1)
+begin-cut ω Commit u = none-cut (ω + 1)
 
 call-cut : (W : World) → Whole W → (c : Call) → Cut (W .bench .words) (callOf W c .answer)
 call-cut W H c =
-    call-cases (λ (D : Outcome). Cut (W .bench .words) (D .answer)) W (λ r l. none-cut _) (λ i op B. begin-cut _ op (W .bench .used)) (λ i M. step-cut i) (λ i. none-cut _) (λ some. none-cut _) c
+    call-cases (λ (D : Outcome). Cut (W .bench .words) (D .answer)) W (λ r l. none-cut _) (λ i op B. begin-cut _ op (W .bench .used)) (λ i M. step-cut i) (λ i. none-cut _) (λ some. none-cut _) (λ n A. none-cut _) c
   where
     step-cut : (i : ℕ) → Cut (W .bench .words) (effectOf W i .answer)
     step-cut zero = line-cut _ _ _ _ _ 0 _ _ (lineAt (W .bench .workers) 0) (inl (H .shape .own .shape))

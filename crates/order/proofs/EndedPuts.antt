@@ -1,7 +1,7 @@
 -- The numbers of puts that end, finished or FULL, rise along every list: while a put is open its number is one of the used
 -- ones, and the next put to begin has a larger one.
 use mathlib.Core.Path.{_≡_, refl, sym, subst}
-use mathlib.Core.Bool.{Bool, true, false}
+use mathlib.Core.Bool.{Bool, true, false, true≢false}
 use mathlib.Core.Logic.{_⊎_, inl, inr, _≢_}
 use mathlib.Core.List.{List, [], _∷_}
 use Prim.Native.Nat.{ℕ, zero, suc, _+_, _-_, _≤_, _<_}
@@ -12,13 +12,15 @@ use Rattle.model.specs.declared.Kind.{Kind}
 use Rattle.model.specs.declared.Kind.the-variants.{Lifo, Fifo, Deque}
 use Rattle.model.specs.declared.Task.{Task}
 use Rattle.model.specs.declared.Anchor.{Anchor}
+use Rattle.model.specs.declared.Growth.{Growth}
+use Rattle.model.specs.declared.Growth.the-variants.{ForPut, ForCommit}
 use Rattle.model.specs.declared.Line.{Line}
 use Rattle.model.specs.declared.Line.the-variants.{Idle, PutRead, PutTail, PutTest, PutWord, PutFinish, Claim, Note, Copy, Publish, TakeRead, TakeTail, TakeTest, TakeWord, TakeFinish, StealRead, StealTail, StealTest, StealNote, StealWord, StealNext, StealCompare}
 use Rattle.model.specs.declared.Queue.{Queue}
 use Rattle.model.specs.declared.Operation.{Operation}
-use Rattle.model.specs.declared.Operation.the-variants.{Put, Take, Steal}
+use Rattle.model.specs.declared.Operation.the-variants.{Put, Take, Steal, Commit}
 use Rattle.model.specs.declared.Answer.{Answer}
-use Rattle.model.specs.declared.Answer.the-variants.{Accepted, Numbered, GoesOn, Finished, HandedOut, Empty, Full, Refused}
+use Rattle.model.specs.declared.Answer.the-variants.{Accepted, Numbered, GoesOn, Finished, HandedOut, Empty, Full, Refused, Grown}
 use Rattle.model.specs.Tests.{if_then_else_}
 use Rattle.model.specs.Tasks.{task}
 use Rattle.model.proofs.Tasks.{first-number}
@@ -30,6 +32,7 @@ use Rattle.model.specs.Calls.{usedBy, firstLine, beginAnswer, begun, freshOf, C
 use Rattle.model.specs.Run.{Played, played}
 use Rattle.theorems.specs.Demand3.{At, finishes, FromFresh}
 use Rattle.theorems.proofs.Shape.{ThiefShape}
+use Rattle.theorems.proofs.CommitsGrow.{commit-fits, commit-own}
 use Rattle.theorems.proofs.Valid.{thieves, Whole}
 use Rattle.theorems.proofs.Cases.{effectOf, MayBegin, MayStep, stepTo, call-cases}
 use Rattle.theorems.proofs.WholeRun.{idle-is, line-same, line-other, not-thief, not-owner, in-crew, call-whole}
@@ -39,7 +42,11 @@ use Rattle.theorems.proofs.Fresh.{Started, fresh-started}
 abbrev pub EndsPut : ℕ → Played → Type 0
 EndsPut n s = ((entryOf (s .answer) .kind ≡ 1) ⊎ (entryOf (s .answer) .kind ≡ 4)) × (entryOf (s .answer) .task .number ≡ n)
 
--- the number of the put that is open at a line; d if none is
+-- the number of the put that the array grows for, and of the put that is open at a line; d if none is
+abbrev pub openNumber : Growth → ℕ → ℕ
+openNumber (ForPut t) d = t .number
+openNumber ForCommit d = d
+
 abbrev pub openPut : Line → ℕ → ℕ
 openPut Idle d = d
 openPut (PutRead t) d = t .number
@@ -47,10 +54,10 @@ openPut (PutTail t h) d = t .number
 openPut (PutTest t r) d = t .number
 openPut (PutWord t r j) d = t .number
 openPut (PutFinish t r) d = t .number
-openPut (Claim t) d = t .number
-openPut (Note t) d = t .number
-openPut (Copy t h n k) d = t .number
-openPut (Publish t) d = t .number
+openPut (Claim g) d = openNumber g d
+openPut (Note g) d = openNumber g d
+openPut (Copy g h n k) d = openNumber g d
+openPut (Publish g) d = openNumber g d
 openPut TakeRead d = d
 openPut (TakeTail h) d = d
 openPut (TakeTest r) d = d
@@ -73,6 +80,7 @@ Next x y (Finished i t) = (t .number ≡ x) × (x < y)
 Next x y (HandedOut i t) = x ≤ y
 Next x y (Empty i) = x ≤ y
 Next x y (Full i t) = (t .number ≡ x) × (x < y)
+Next x y (Grown i) = x ≤ y
 Next x y (Refused r) = x ≤ y
 
 -- with u numbers used the next put to end at the line o has number `openPut o (suc u)`: an open put's number is used
@@ -106,10 +114,10 @@ put-reads Lifo a t d = refl
 put-reads Fifo a t d = refl
 put-reads Deque a t d = refl
 
-put-notes : (κ : Kind) (z : ℕ) (a : Anchor) (t : Task) (d : ℕ) → openPut (note κ z a t) d ≡ t .number
-put-notes Lifo z a t d = either-line d (t .number) (eqb z 0) _ _ refl refl
-put-notes Fifo z a t d = either-line d (t .number) (eqb (a .count - a .head) 0) _ _ refl refl
-put-notes Deque z a t d = either-line d (t .number) (eqb (a .count) 0) _ _ refl refl
+put-notes : (κ : Kind) (z : ℕ) (a : Anchor) (t : Growth) (d : ℕ) → openPut (note κ z a t) d ≡ openNumber t d
+put-notes Lifo z a t d = either-line d (openNumber t d) (eqb z 0) _ _ refl refl
+put-notes Fifo z a t d = either-line d (openNumber t d) (eqb (a .count - a .head) 0) _ _ refl refl
+put-notes Deque z a t d = either-line d (openNumber t d) (eqb (a .count) 0) _ _ refl refl
 
 take-reads : (κ : Kind) (a : Anchor) (d : ℕ) → openPut (takeRead κ a) d ≡ d
 take-reads Lifo a d = refl
@@ -126,32 +134,40 @@ steal-lasts Lifo r t d = refl
 steal-lasts Fifo r t d = refl
 steal-lasts Deque r t d = refl
 
-line-leaves : (u : ℕ) (κ : Kind) (w ω : ℕ) (q : Queue) (m : List ℕ) (i : ℕ) (o : Line) → Within u o → Leaves u o (lineStep κ w ω q m i o)
+-- a commit's X1 is left by a claim
+fit-leaves : (u : ℕ) (o : Line) (x : Bool) (E E′ : Effect) → x ≡ true → Leaves u o E → Leaves u o (if x then E else E′)
+unfolding if_then_else_
+fit-leaves u o true E E′ e a = a
+fit-leaves u o false E E′ e a = absurd (true≢false (sym e))
+
+line-leaves : (u : ℕ) (κ : Kind) (w ω : ℕ) (q : Queue) (m : List ℕ) (i : ℕ) (o : Line) → (o ≡ Claim ForCommit → fits ω q m ≡ true) → Within u o → Leaves u o (lineStep κ w ω q m i o)
 unfolding lineStep
-line-leaves u κ w ω q m i Idle l = omega arith
-line-leaves u κ w ω q m i (PutRead t) l = same-put u (PutRead t) (putRead κ (q .anchor) t) l (put-reads κ (q .anchor) t)
-line-leaves u κ w ω q m i (PutTail t h) l = omega arith
-line-leaves u κ w ω q m i (PutTest t r) l = same-put u (PutTest t r) (if isFull κ (size ω q) r then Claim t else PutWord t r 0) l (λ d. either-line d (t .number) (isFull κ (size ω q) r) (Claim t) (PutWord t r 0) refl refl)
-line-leaves u κ w ω q m i (PutWord t r j) l = same-put u (PutWord t r j) (putOn ω t r j) l (λ d. either-line d (t .number) (eqb j ω) (PutFinish t r) (PutWord t r (j + 1)) refl refl)
-line-leaves u κ w ω q m i (PutFinish t r) l = omega arith
-line-leaves u κ w ω q m i (Claim t) l = either u (Claim t) (fits ω q m) _ _ (omega arith) (omega arith)
-line-leaves u κ w ω q m i (Note t) l = same-put u (Note t) (note κ (size ω q) (q .anchor) t) l (put-notes κ (size ω q) (q .anchor) t)
-line-leaves u κ w ω q m i (Copy t h n k) l = same-put u (Copy t h n k) (copyOn t h n k) l (λ d. either-line d (t .number) (eqb (k + 1) n) (Publish t) (Copy t h n (k + 1)) refl refl)
-line-leaves u κ w ω q m i (Publish t) l = omega arith
-line-leaves u κ w ω q m i TakeRead l = same-put u TakeRead (takeRead κ (q .anchor)) l (take-reads κ (q .anchor))
-line-leaves u κ w ω q m i (TakeTail h) l = omega arith
-line-leaves u κ w ω q m i (TakeTest r) l = either u (TakeTest r) (isEmpty κ r) _ _ (omega arith) (omega arith)
-line-leaves u κ w ω q m i (TakeWord r t j) l =
+line-leaves u κ w ω q m i Idle F l = omega arith
+line-leaves u κ w ω q m i (PutRead t) F l = same-put u (PutRead t) (putRead κ (q .anchor) t) l (put-reads κ (q .anchor) t)
+line-leaves u κ w ω q m i (PutTail t h) F l = omega arith
+line-leaves u κ w ω q m i (PutTest t r) F l = same-put u (PutTest t r) (if isFull κ (size ω q) r then Claim (ForPut t) else PutWord t r 0) l (λ d. either-line d (t .number) (isFull κ (size ω q) r) (Claim (ForPut t)) (PutWord t r 0) refl refl)
+line-leaves u κ w ω q m i (PutWord t r j) F l = same-put u (PutWord t r j) (putOn ω t r j) l (λ d. either-line d (t .number) (eqb j ω) (PutFinish t r) (PutWord t r (j + 1)) refl refl)
+line-leaves u κ w ω q m i (PutFinish t r) F l = omega arith
+line-leaves u κ w ω q m i (Claim (ForPut t)) F l = either u (Claim (ForPut t)) (fits ω q m) _ _ (omega arith) (omega arith)
+line-leaves u κ w ω q m i (Claim ForCommit) F l = fit-leaves u (Claim ForCommit) (fits ω q m) _ _ (F refl) (omega arith)
+line-leaves u κ w ω q m i (Note t) F l = same-put u (Note t) (note κ (size ω q) (q .anchor) t) l (put-notes κ (size ω q) (q .anchor) t)
+line-leaves u κ w ω q m i (Copy t h n k) F l = same-put u (Copy t h n k) (copyOn t h n k) l (λ d. either-line d (openNumber t d) (eqb (k + 1) n) (Publish t) (Copy t h n (k + 1)) refl refl)
+line-leaves u κ w ω q m i (Publish (ForPut t)) F l = omega arith
+line-leaves u κ w ω q m i (Publish ForCommit) F l = omega arith
+line-leaves u κ w ω q m i TakeRead F l = same-put u TakeRead (takeRead κ (q .anchor)) l (take-reads κ (q .anchor))
+line-leaves u κ w ω q m i (TakeTail h) F l = omega arith
+line-leaves u κ w ω q m i (TakeTest r) F l = either u (TakeTest r) (isEmpty κ r) _ _ (omega arith) (omega arith)
+line-leaves u κ w ω q m i (TakeWord r t j) F l =
     same-put u (TakeWord r t j) (takeOn ω r _ j) l (λ d. either-line d d (eqb j ω) (TakeFinish r _) (TakeWord r _ (j + 1)) refl refl)
-line-leaves u κ w ω q m i (TakeFinish r t) l = omega arith
-line-leaves u κ w ω q m i StealRead l = same-put u StealRead (stealRead κ (q .anchor)) l (steal-reads κ (q .anchor))
-line-leaves u κ w ω q m i (StealTail h) l = omega arith
-line-leaves u κ w ω q m i (StealTest r) l = either u (StealTest r) (isEmpty κ r) _ _ (omega arith) (omega arith)
-line-leaves u κ w ω q m i (StealNote r) l = omega arith
-line-leaves u κ w ω q m i (StealWord r k t j) l =
+line-leaves u κ w ω q m i (TakeFinish r t) F l = omega arith
+line-leaves u κ w ω q m i StealRead F l = same-put u StealRead (stealRead κ (q .anchor)) l (steal-reads κ (q .anchor))
+line-leaves u κ w ω q m i (StealTail h) F l = omega arith
+line-leaves u κ w ω q m i (StealTest r) F l = either u (StealTest r) (isEmpty κ r) _ _ (omega arith) (omega arith)
+line-leaves u κ w ω q m i (StealNote r) F l = omega arith
+line-leaves u κ w ω q m i (StealWord r k t j) F l =
     same-put u (StealWord r k t j) (stealOn κ ω r k _ j) l (λ d. either-line d d (eqb j ω) (stealLast κ r _) (StealWord r k _ (j + 1)) (steal-lasts κ r _ d) refl)
-line-leaves u κ w ω q m i (StealNext r t) l = omega arith
-line-leaves u κ w ω q m i (StealCompare r e t) l = either u (StealCompare r e t) (succeeds κ q i r) _ _ (omega arith) (omega arith)
+line-leaves u κ w ω q m i (StealNext r t) F l = omega arith
+line-leaves u κ w ω q m i (StealCompare r e t) F l = either u (StealCompare r e t) (succeeds κ q i r) _ _ (omega arith) (omega arith)
 
 -- a thief has no put open, and so ends none
 thief-open : (κ : Kind) (w ω : ℕ) (q : Queue) (τ : ℕ) (θ : Line) → ThiefShape κ w ω q τ θ → (d : ℕ) → openPut θ d ≡ d
@@ -186,6 +202,7 @@ ends-none x y z (Finished i t) h n = absurd (omega arith)
 ends-none x y z (HandedOut i t) h n = omega arith
 ends-none x y z (Empty i) h n = omega arith
 ends-none x y z (Full i t) h n = absurd (omega arith)
+ends-none x y z (Grown i) h n = omega arith
 ends-none x y z (Refused r) h n = omega arith
 
 -- A CALL. The number of the next put to end in a world; an open put's number is used
@@ -223,13 +240,15 @@ module _ {W : World} (H : Whole W) (J : OpenUsed W) where
   begun-moves (suc k) (Put p) B = not-thief k (B .hand)
   begun-moves zero Take B = own-begins Take B (omega arith)
   begun-moves (suc k) Take B = not-thief k (B .hand)
+  begun-moves zero Commit B = own-begins Commit B (omega arith)
+  begun-moves (suc k) Commit B = not-thief k (B .hand)
   begun-moves zero Steal B = not-owner (B .hand)
   begun-moves (suc k) Steal B = thief-moves k StealRead Accepted (omega arith)
 
   line-of : (i : ℕ) → Within (W .bench .used) (lineAt (W .bench .workers) i)
       → Leaves (W .bench .used) (lineAt (W .bench .workers) i) (effectOf W i)
-  line-of zero l = line-leaves (W .bench .used) (W .bench .kind) (tagBits (W .bench)) (W .bench .words) _ _ 0 (lineAt (W .bench .workers) 0) l
-  line-of (suc k) l = line-leaves (W .bench .used) (W .bench .kind) (tagBits (W .bench)) (W .bench .words) (W .bench .queue) (W .store) (suc k) (lineAt (W .bench .workers) (suc k)) l
+  line-of zero l = line-leaves (W .bench .used) (W .bench .kind) (tagBits (W .bench)) (W .bench .words) _ _ 0 (lineAt (W .bench .workers) 0) (commit-fits W H) l
+  line-of (suc k) l = line-leaves (W .bench .used) (W .bench .kind) (tagBits (W .bench)) (W .bench .words) (W .bench .queue) (W .store) (suc k) (lineAt (W .bench .workers) (suc k)) (λ e. absurd (commit-own W H k e)) l
 
   thief-ends-none : (k z : ℕ) → Next z z (effectOf W (suc k) .answer)
   thief-ends-none k z =
@@ -244,7 +263,7 @@ module _ {W : World} (H : Whole W) (J : OpenUsed W) where
   stepped-moves (suc k) M = thief-moves k (effectOf W (suc k) .line) (effectOf W (suc k) .answer) (thief-ends-none k)
 
   pub call-moves : (c : Call) → Moves W (callOf W c)
-  call-moves c = call-cases (Moves W) W (λ r l. (J, omega arith)) begun-moves stepped-moves (λ i. (J, omega arith)) (λ some. (J, omega arith)) c
+  call-moves c = call-cases (Moves W) W (λ r l. (J, omega arith)) begun-moves stepped-moves (λ i. (J, omega arith)) (λ some. (J, omega arith)) (λ n A. (J, omega arith)) c
 
 -- A LIST. What ends a put ends the next one, and the next number only rises
 pub next-rises : (x y : ℕ) (a : Answer) → Next x y a → finishes a + x ≤ y
@@ -255,6 +274,7 @@ next-rises x y (Finished i t) n = omega arith
 next-rises x y (HandedOut i t) n = omega arith
 next-rises x y (Empty i) n = omega arith
 next-rises x y (Full i t) n = omega arith
+next-rises x y (Grown i) n = omega arith
 next-rises x y (Refused r) n = omega arith
 
 abbrev Ends : Answer → Type 0
@@ -272,6 +292,7 @@ ends-next x y (Finished i t) n e = n
 ends-next x y (HandedOut i t) n e = other-kind 2 (omega arith) (omega arith) e
 ends-next x y (Empty i) n e = other-kind 3 (omega arith) (omega arith) e
 ends-next x y (Full i t) n e = n
+ends-next x y (Grown i) n e = other-kind 5 (omega arith) (omega arith) e
 ends-next x y (Refused r) n e = other-kind 0 (omega arith) (omega arith) e
 
 ended-from : (cs : List Call) (W : World) → Whole W → OpenUsed W → (j n : ℕ) → At (played W cs) j (EndsPut n) → next W ≤ n

@@ -11,7 +11,7 @@ use lib.Seq.{getD-append-add, getD-take, length-take-le}
 use borrow.Author.Tests.{ltb-true}
 use Rattle.model.specs.declared.Task.{Task}
 use Rattle.model.specs.declared.Answer.{Answer}
-use Rattle.model.specs.declared.Answer.the-variants.{Accepted, Numbered, GoesOn, Finished, HandedOut, Empty, Full, Refused}
+use Rattle.model.specs.declared.Answer.the-variants.{Accepted, Numbered, GoesOn, Finished, HandedOut, Empty, Full, Refused, Grown}
 use Rattle.model.specs.Tests.{if_then_else_}
 use Rattle.model.specs.Tasks.{wordsIn, wordIn, firstWords}
 use Rattle.model.proofs.Tasks.{same-words}
@@ -31,6 +31,7 @@ kind-1 (Finished i t) e = (i, t, refl)
 kind-1 (HandedOut i t) e = absurd (omega arith)
 kind-1 (Empty i) e = absurd (omega arith)
 kind-1 (Full i t) e = absurd (omega arith)
+kind-1 (Grown i) e = absurd (omega arith)
 kind-1 (Refused r) e = absurd (omega arith)
 
 pub kind-2 : (a : Answer) → entryOf a .kind ≡ 2 → (i : ℕ) × (t : Task) × (a ≡ HandedOut i t)
@@ -41,6 +42,7 @@ kind-2 (Finished i t) e = absurd (omega arith)
 kind-2 (HandedOut i t) e = (i, t, refl)
 kind-2 (Empty i) e = absurd (omega arith)
 kind-2 (Full i t) e = absurd (omega arith)
+kind-2 (Grown i) e = absurd (omega arith)
 kind-2 (Refused r) e = absurd (omega arith)
 
 -- PLACES. That of the answer that wrote entry j: answers without an entry are passed over. Past the entries any rising numbers do
@@ -180,7 +182,7 @@ pub entries-long : (ω : ℕ) (T : List Played) → ω ≤ 4 → length (entries
 entries-long ω [] h = omega arith
 entries-long ω (s ∷ T) h = long-behind ω (s .answer) (entries ω T) (count T) (ends (s .answer)) h (entries-long ω T h)
 
-kind-le : (a : Answer) → entryOf a .kind ≤ 4
+kind-le : (a : Answer) → entryOf a .kind ≤ 5
 kind-le Accepted = omega arith
 kind-le (Numbered n) = omega arith
 kind-le GoesOn = omega arith
@@ -188,13 +190,14 @@ kind-le (Finished i t) = omega arith
 kind-le (HandedOut i t) = omega arith
 kind-le (Empty i) = omega arith
 kind-le (Full i t) = omega arith
+kind-le (Grown i) = omega arith
 kind-le (Refused r) = omega arith
 
 kind-here : (ω : ℕ) (a : Answer) (l : List ℕ) → entryAt ω (entryWords ω (entryOf a) ++ l) 0 .kind ≡ entryOf a .kind
 kind-here ω a l = let none : entryLength ω * 0 ≡ 0 = omega arith in rw none
 
 abbrev Known : ℕ → List ℕ → ℕ → Type 0
-Known ω l n = (j : ℕ) → j < n → (0 < entryAt ω l j .kind) × (entryAt ω l j .kind ≤ 4)
+Known ω l n = (j : ℕ) → j < n → (0 < entryAt ω l j .kind) × (entryAt ω l j .kind ≤ 5)
 
 known-behind : (ω : ℕ) (a : Answer) (l : List ℕ) (n : ℕ) (x : Bool) → ends a ≡ x → ω ≤ 4 → Known ω l n → Known ω (behind ω x a l) (countBehind x n)
 unfolding if_then_else_

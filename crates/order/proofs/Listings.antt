@@ -17,6 +17,7 @@ use Rattle.model.specs.declared.Answer.the-variants.{
   HandedOut,
   Empty,
   Full,
+  Grown,
   Refused,
 }
 use Rattle.model.specs.declared.Operation.the-variants.{Put, Take, Steal}
@@ -60,7 +61,7 @@ use Rattle.theorems.specs.Demand3.{FewPuts}
 use Rattle.order.specs.Listings.{
   Item,
   plays,
-  asks,
+  tells,
   badLine,
   endLine,
   stepItems,
@@ -149,7 +150,7 @@ unfolding shows
 bad-line W cs e = ap (λ (l : List Print). R (numberOf BadLine) ∷ l) e
 
 who-line : (W : World) (i : ℕ) (cs : List Command) → listingFrom (playing W) cs ≡ shows W (itemsOf W cs)
-    → printedTally i (whoOf W i) ++ listingFrom (playing W) cs ≡ shows W (asks i ∷ itemsOf W cs)
+    → printedTally i (whoOf W i) ++ listingFrom (playing W) cs ≡ shows W (tells i ∷ itemsOf W cs)
 unfolding shows
 who-line W i cs e = ap (λ (l : List Print). printedTally i (whoOf W i) ++ l) e
 
@@ -289,6 +290,7 @@ none-answered v (Finished i t) = (refl, tt)
 none-answered v (HandedOut i t) = (refl, tt)
 none-answered v (Empty i) = (refl, tt)
 none-answered v (Full i t) = (refl, tt)
+none-answered v (Grown i) = tt
 none-answered v (Refused r) = (refl, tt)
 
 none-told : (i : ℕ) (x : Tally) → NoneLostIn (printedTally i x)
@@ -306,7 +308,7 @@ none-shown W [] e = tt
 none-shown W (plays c ∷ is) e =
     none-joined (printedBy (callOf W c)) (shows (callOf W c .world) is) (none-answered _ (callOf W c .answer))
     (none-shown (callOf W c .world) is e)
-none-shown W (asks i ∷ is) e =
+none-shown W (tells i ∷ is) e =
     none-joined (printedTally i (whoOf W i)) (shows W is) (none-told i (whoOf W i)) (none-shown W is e)
 none-shown W (badLine ∷ is) e = (refl, none-shown W is e)
 none-shown W (endLine ∷ is) e = (e, tt)

@@ -10,7 +10,7 @@ use lib.ListN.{length, set, take, length-set}
 use lib.Seq.{length-take-le}
 use borrow.Author.Tests.{ltb-false}
 use Rattle.model.specs.declared.Operation.{Operation}
-use Rattle.model.specs.declared.Operation.the-variants.{Put, Take, Steal}
+use Rattle.model.specs.declared.Operation.the-variants.{Put, Take, Steal, Commit}
 use Rattle.model.specs.declared.Answer.{Answer}
 use Rattle.model.specs.declared.Answer.the-variants.{Accepted, Refused}
 use Rattle.model.specs.Tests.{if_then_else_, _and_}
@@ -62,6 +62,7 @@ begin-ends-none : (op : Operation) (u : ℕ) → ends (beginAnswer op u) ≡ fal
 begin-ends-none (Put p) u = refl
 begin-ends-none Take u = refl
 begin-ends-none Steal u = refl
+begin-ends-none Commit u = refl
 
 adds-none : (ω : ℕ) (l : List ℕ) (a : Answer) → ends a ≡ false → l ≡ l ++ words ω a
 unfolding if_then_else_
@@ -82,7 +83,7 @@ call-adds : (W : World) → W .bench .words ≤ 4 → W .bench .written ≤ leng
 call-adds W g h c =
     call-cases (Adds W) W (λ r l. (h, adds-none (W .bench .words) front (Refused r) refl))
     (λ i op B. (h, adds-none (W .bench .words) front (beginAnswer op (W .bench .used)) (begin-ends-none op (W .bench .used))))
-    (λ i M. step-adds (W .bench .words) (W .log) (W .bench .written) (effectOf W i .answer) (ends (effectOf W i .answer)) g h (M .room)) (λ i. (h, adds-none (W .bench .words) front Accepted refl)) (λ some. (h, adds-none (W .bench .words) front Accepted refl)) c
+    (λ i M. step-adds (W .bench .words) (W .log) (W .bench .written) (effectOf W i .answer) (ends (effectOf W i .answer)) g h (M .room)) (λ i. (h, adds-none (W .bench .words) front Accepted refl)) (λ some. (h, adds-none (W .bench .words) front Accepted refl)) (λ n A. (h, adds-none (W .bench .words) front Accepted refl)) c
   where
     front : List ℕ
     front = take (W .bench .written) (W .log)

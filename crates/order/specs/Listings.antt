@@ -41,7 +41,7 @@ use Rattle.theorems.specs.Demand3.{FewPuts}
 -- WHILE A BENCH IS PLAYED. What lines come to: calls, `who`, lines refused 13, and `end`
 pub data Item : Type 0 where
   plays : Call → Item
-  asks : ℕ → Item
+  tells : ℕ → Item
   badLine : Item
   endLine : Item
 
@@ -51,14 +51,14 @@ stepItems W i zero = []
 stepItems W i (suc m) =
     plays (step i) ∷ (if isRefused (stepOf W i .answer) then [] else stepItems (stepOf W i .world) i m)
 
--- a `put` with another count of words than the queue's is a bad line; no line drops a link
+-- a `put` with another count of words than the queue's is a bad line; no line drops a link, asks or commits
 abbrev pub lineItems : World → Command → List Item
 lineItems W (Open k w c n s v) = badLine ∷ []
 lineItems W (BeginPut v p) = if eqb v (W .bench .words) then plays (begin 0 (Put p)) ∷ [] else badLine ∷ []
 lineItems W BeginTake = plays (begin 0 Take) ∷ []
 lineItems W (BeginSteal i) = plays (begin i Steal) ∷ []
 lineItems W (Steps i m) = stepItems W i m
-lineItems W (Who i) = asks i ∷ []
+lineItems W (Who i) = tells i ∷ []
 lineItems W End = endLine ∷ []
 lineItems W Bad = badLine ∷ []
 
@@ -66,7 +66,7 @@ lineItems W Bad = badLine ∷ []
 unfoldable pub callsIn : List Item → List Call
 callsIn [] = []
 callsIn (plays c ∷ is) = c ∷ callsIn is
-callsIn (asks i ∷ is) = callsIn is
+callsIn (tells i ∷ is) = callsIn is
 callsIn (badLine ∷ is) = callsIn is
 callsIn (endLine ∷ is) = []
 
@@ -80,7 +80,7 @@ itemsOf W (c ∷ cs) = lineItems W c ++ itemsOf (after W (callsIn (lineItems W c
 unfoldable pub shows : World → List Item → List Print
 shows W [] = []
 shows W (plays c ∷ is) = printedBy (callOf W c) ++ shows (callOf W c .world) is
-shows W (asks i ∷ is) = printedTally i (whoOf W i) ++ shows W is
+shows W (tells i ∷ is) = printedTally i (whoOf W i) ++ shows W is
 shows W (badLine ∷ is) = R (numberOf BadLine) ∷ shows W is
 shows W (endLine ∷ is) = totals (countsOf W) ∷ []
 

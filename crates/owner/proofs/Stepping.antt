@@ -38,7 +38,7 @@ use Rattle.state.specs.declared.Returned.{Returned}
 use Rattle.state.specs.Outcomes.{returned}
 use Rattle.machine.specs.declared.Made.{Made}
 use Rattle.machine.specs.declared.Made.the-variants as made
-use Rattle.machine.specs.Steps.{moves, withArray, benchAfter, answerAfter, movedBy, logBy, leftBy, actedBy, logAfter, effectOn, PlannedBy}
+use Rattle.machine.specs.Steps.{moves, unasked, withArray, benchAfter, answerAfter, movedBy, logBy, leftBy, actedBy, logAfter, effectOn, PlannedBy}
 use Rattle.machine.proofs.Made.{the-type}
 use Rattle.machine.proofs.Landing.{claims-land}
 use Rattle.machine.proofs.Moves.{link-kept}
@@ -137,7 +137,7 @@ module _ (b : Bench) (m l : List ℕ) (v : validOf (lent b m l) ≡ true) where
     not-fails f = ⊎-elim (λ g. fails-not-refused (sym f ∙ g)) (λ g. fails-not-waits (sym f ∙ g .1)) idle-or-waits
 
     -- nothing waits: refusal 8
-    pub idles : OneOf (0 ∷ 1 ∷ 2 ∷ 3 ∷ 4 ∷ 5 ∷ 6 ∷ 7 ∷ []) (tagOf the-type c) → refuse (lent b m l) IdleWorker ≡ stepIn (lent b m l) 0
+    pub idles : OneOf (0 ∷ 1 ∷ 2 ∷ 3 ∷ 4 ∷ 5 ∷ 6 ∷ 7 ∷ 8 ∷ []) (tagOf the-type c) → refuse (lent b m l) IdleWorker ≡ stepIn (lent b m l) 0
     idles o = by (isIdle y) refl
       where
         by : (t : Bool) → isIdle y ≡ t → refuse (lent b m l) IdleWorker ≡ stepIn (lent b m l) 0
@@ -145,8 +145,8 @@ module _ (b : Bench) (m l : List ℕ) (v : validOf (lent b m l) ≡ true) where
         by false f =
             let (a, g, n, D, h) = plan .goes there f plain in
             absurd
-            (miss (0 ∷ 1 ∷ 2 ∷ 3 ∷ 4 ∷ 5 ∷ 6 ∷ 7 ∷ []) 8 tt
-            (subst (λ (z : Made). OneOf (0 ∷ 1 ∷ 2 ∷ 3 ∷ 4 ∷ 5 ∷ 6 ∷ 7 ∷ []) (tagOf the-type z)) g o))
+            (miss (0 ∷ 1 ∷ 2 ∷ 3 ∷ 4 ∷ 5 ∷ 6 ∷ 7 ∷ 8 ∷ []) 9 tt
+            (subst (λ (z : Made). OneOf (0 ∷ 1 ∷ 2 ∷ 3 ∷ 4 ∷ 5 ∷ 6 ∷ 7 ∷ 8 ∷ []) (tagOf the-type z)) g o))
 
   prompt : {x : Line} {d : Action} → Planned b m l x d → Doable (b .words) (b .queue) (length m) (atOnce d)
   prompt {x} {d} P = bare-doable (b .words) p (b .queue) (length m) d same (P .safe)
@@ -224,10 +224,10 @@ module _ (b : Bench) (m l : List ℕ) (v : validOf (lent b m l) ≡ true) where
             ∙ does (is-nothing d o) joins refl
 
         pub claims : {a z : ℕ} {m0 : List ℕ} → atOnce d ≡ action.Claims a z → m0 ≡ m → m1 ≡ zeros m0 a z
-            → record { world = lent (moves (waits b s) 0 x (withArray (b .queue) a z) (b .restarts) (b .written)) m1 l; answer = GoesOn } ≡ stepIn (lent b m l) 0
+            → record { world = lent (moves (unasked (waits b s)) 0 x (withArray (b .queue) a z) (b .restarts) (b .written)) m1 l; answer = GoesOn } ≡ stepIn (lent b m l) 0
         unfolding actedBy logAfter benchAfter answerAfter claimsBy storesBy landedAll answerBy Doable _and_
         claims {a} {z} e back cleared =
-            ap (λ (t : List ℕ). record { world = lent (moves (waits b s) 0 x (withArray (b .queue) a z) (b .restarts) (b .written)) t l; answer = GoesOn })
+            ap (λ (t : List ℕ). record { world = lent (moves (unasked (waits b s)) 0 x (withArray (b .queue) a z) (b .restarts) (b .written)) t l; answer = GoesOn })
             (cleared ∙ ap (λ (t : List ℕ). zeros t a z) back ∙ sym (ap (λ (S : Shared). S .store) (claims-land (b .queue) m (length m) a z (safe e))))
             ∙ does e joins refl
 

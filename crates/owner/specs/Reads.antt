@@ -43,6 +43,7 @@ waits b s =
       crew = b .crew;
       queue = b .queue;
       waiting = s;
+      aside = b .aside;
       used = b .used;
       restarts = b .restarts;
       written = b .written;

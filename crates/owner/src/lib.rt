@@ -168,6 +168,7 @@ pub fn finish(
             grown.arrays[at] = Region { offset, length };
             grown.claimed = queue.claimed + 1;
             next.queue = grown;
+            next.aside = 0;
         }
         Action::Stops { answer: told } => {
             if !machine::log_answer(words, bench.written, told, log) {

@@ -20,6 +20,7 @@ fn went_on(answer: Answer) -> u64 {
         Answer::HandedOut { worker: _, task: _ } => 0,
         Answer::Empty { worker: _ } => 0,
         Answer::Full { worker: _, task: _ } => 0,
+        Answer::Grown { worker: _ } => 0,
         Answer::Refused { why: _ } => 0,
     }
 }

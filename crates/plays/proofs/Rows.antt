@@ -4,7 +4,7 @@ use mathlib.Core.Bool.{true}
 use mathlib.Core.List.{List, [], _∷_}
 use Prim.Native.Nat.{ℕ, zero, suc}
 use lib.ListN.{replicate}
-use Rattle.model.specs.declared.Operation.the-variants.{Put, Take, Steal}
+use Rattle.model.specs.declared.Operation.the-variants.{Put, Take, Steal, Commit}
 use Rattle.model.specs.Tests.{if_then_else_, _and_, _or_}
 use Rattle.model.specs.Memory.{zeros, wordAt, setWord, offsetAt, lengthAt, sizeAt}
 use Rattle.model.specs.Tasks.{payload, wordIn, withWord, gathered}
@@ -12,7 +12,7 @@ use Rattle.model.specs.Stores.{landedAll}
 use Rattle.model.specs.Lines.{lineStep}
 use Rattle.model.specs.World.{World}
 use Rattle.model.specs.Limits.{validOf}
-use Rattle.model.specs.Calls.{freshOf, setup, setupIn, beginOf, stepOf, drainOf, begin, step, dropLink, drain}
+use Rattle.model.specs.Calls.{freshOf, setup, setupIn, beginOf, stepOf, drainOf, askOf, dropAskOf, begin, step, dropLink, drain, ask, dropAsk}
 use Rattle.model.specs.Run.{played, after}
 use Rattle.plays.specs.Words.{callsFrom, allAsWords}
 
@@ -24,8 +24,8 @@ abbrev answer : ℕ → ℕ → ℕ → ℕ → List ℕ → List ℕ
 answer k i n p rest = k ∷ i ∷ n ∷ p ∷ 0 ∷ 0 ∷ 0 ∷ rest
 
 -- Calls: a word that is no operation is a step, a payload is looked at in a put alone, and words past the last whole call say nothing
-said : callsFrom (1 ∷ 0 ∷ 65 ∷ 66 ∷ 67 ∷ 68 ∷ call 2 4 9 (call 3 5 9 (call 0 6 9 (call 4 7 9 (call 5 8 9 (call 6 9 9 (1 ∷ 0 ∷ 1 ∷ 2 ∷ 3 ∷ []))))))) 7
-    ≡ begin 0 (Put (payload 65 66 67 68)) ∷ begin 4 Take ∷ begin 5 Steal ∷ step 6 ∷ dropLink 7 ∷ drain ∷ step 9 ∷ []
+said : callsFrom (1 ∷ 0 ∷ 65 ∷ 66 ∷ 67 ∷ 68 ∷ call 2 4 9 (call 3 5 9 (call 0 6 9 (call 4 7 9 (call 5 8 9 (call 6 9 9 (call 7 10 9 (call 8 11 9 (call 9 12 9 (1 ∷ 0 ∷ 1 ∷ 2 ∷ 3 ∷ [])))))))))) 10
+    ≡ begin 0 (Put (payload 65 66 67 68)) ∷ begin 4 Take ∷ begin 5 Steal ∷ step 6 ∷ dropLink 7 ∷ drain ∷ begin 9 Commit ∷ ask 10 ∷ dropAsk 11 ∷ step 12 ∷ []
 unfolding callsFrom if_then_else_
 said = refl
 
@@ -88,3 +88,15 @@ row-drained : allAsWords (played (freshOf (setupIn 1 1 1 1 1 true) (replicate 2 
     ≡ answer 0 2 1 0 (goesOn 4 (answer 1 0 1 7 (answer 0 1 0 0 (answer 0 1 0 0 (answer 0 1 0 0 (answer 0 3 19 0 []))))))
 unfolding callsFrom allAsWords played freshOf beginOf stepOf drainOf validOf lineStep landedAll zeros wordAt setWord offsetAt lengthAt sizeAt if_then_else_ _and_ _or_ wordIn withWord gathered
 row-drained = refl
+
+-- growth: an ask, and refused 21; a commit from X1 to X4 and its entry; the ask is gone, and a second one has no space
+row-grown : allAsWords (played (bench 1 6 4) (callsFrom (call 7 0 0 (call 7 0 0 (call 6 0 0 (steps 4 0 (call 8 0 0 (call 7 0 0 [])))))) 9))
+    ≡ answer 0 1 0 0 (answer 0 3 21 0 (answer 0 1 0 0 (goesOn 3 (answer 5 0 0 0 (answer 0 3 22 0 (answer 0 3 20 0 []))))))
+unfolding callsFrom allAsWords played freshOf beginOf stepOf askOf dropAskOf validOf lineStep landedAll zeros wordAt setWord offsetAt lengthAt sizeAt if_then_else_ _and_ _or_ wordIn withWord gathered
+row-grown = refl
+
+-- an ask dropped, and a commit then
+row-dropped : allAsWords (played (bench 1 6 4) (callsFrom (call 7 0 0 (call 8 0 0 (call 6 0 0 []))) 3))
+    ≡ answer 0 1 0 0 (answer 0 1 0 0 (answer 0 3 22 0 []))
+unfolding callsFrom allAsWords played freshOf beginOf stepOf askOf dropAskOf validOf lineStep landedAll zeros wordAt setWord offsetAt lengthAt sizeAt if_then_else_ _and_ _or_ wordIn withWord gathered
+row-dropped = refl

@@ -7,7 +7,7 @@ use native.Mathlib.Omega.{arith}
 use lib.ListN.{length, take, drop, length-append}
 use lib.Seq.{paste, take-at, drop-at, drop-drop, take-all}
 use Rattle.model.specs.declared.Answer.{Answer}
-use Rattle.model.specs.declared.Answer.the-variants.{Accepted, Numbered, GoesOn, Finished, HandedOut, Empty, Full, Refused}
+use Rattle.model.specs.declared.Answer.the-variants.{Accepted, Numbered, GoesOn, Finished, HandedOut, Empty, Full, Grown, Refused}
 use Rattle.model.specs.World.{World, Outcome}
 use Rattle.model.specs.Calls.{Call, callOf}
 use Rattle.model.specs.Run.{played, after}
@@ -35,6 +35,7 @@ words-each (Finished i t) = refl
 words-each (HandedOut i t) = refl
 words-each (Empty i) = refl
 words-each (Full i t) = refl
+words-each (Grown i) = refl
 words-each (Refused r) = refl
 
 words-many : (s : List ℕ) (W : World) (n : ℕ) → length (allAsWords (played W (callsFrom s n))) ≡ n * answerWords

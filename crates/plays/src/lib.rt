@@ -27,7 +27,8 @@ pub struct Ended {
     pub made: usize,
 }
 
-// Operation 1 is put, 2 take, 3 steal, 4 a link that fails, 5 a drain, and any other number a step.
+// Operation 1 is put, 2 take, 3 steal, 4 a link that fails, 5 a drain, 6 commit, 7 an ask, 8 an ask dropped, and any other number a
+// step.
 fn call(
     bench: Bench,
     operation: u32,
@@ -56,6 +57,15 @@ fn call(
     }
     if operation == 5 {
         return bench.drain(store, log);
+    }
+    if operation == 6 {
+        return bench.begin(worker, Operation::Commit, store, log);
+    }
+    if operation == 7 {
+        return bench.ask(worker, store, log);
+    }
+    if operation == 8 {
+        return bench.drop_ask(worker, store, log);
     }
     bench.step(worker, store, log)
 }
@@ -91,6 +101,7 @@ pub fn words_of(answer: Answer) -> [u32; 7]
         Answer::HandedOut { worker: _, task: _ } => entered(answer),
         Answer::Empty { worker: _ } => entered(answer),
         Answer::Full { worker: _, task: _ } => entered(answer),
+        Answer::Grown { worker: _ } => entered(answer),
     }
 }
 

@@ -22,7 +22,7 @@ use Rattle.model.specs.Tests.{if_then_else_, _and_, _or_}
 use Rattle.model.specs.Stores.{nonePending, landedAll}
 use Rattle.model.specs.Lines.{Effect, eff, goes, lineStep}
 use Rattle.model.specs.World.{World, Outcome, refuse, tagBits, resting, lineAt}
-use Rattle.model.specs.Calls.{logFull, begun, beginIn, beginOf, raised, stepped, noRoom, stepIn, stepOf, Call, begin, step, dropLink, drain, callOf}
+use Rattle.model.specs.Calls.{logFull, begun, beginIn, beginOf, raised, stepped, noRoom, stepIn, stepOf, Call, begin, step, dropLink, drain, ask, dropAsk, callOf}
 use Rattle.model.specs.Tasks.{payload, task, wordsIn, wordIn, withWord, gathered}
 use Rattle.model.specs.Answers.{Entry, entry, entryLength, entryWords}
 use Rattle.model.specs.Memory.{wordAt, setWord, setAll, nowhere, offsetAt, lengthAt, sizeAt}
@@ -37,6 +37,8 @@ abbrev pub rawOf : World → Call → Outcome
 rawOf U (begin i op) = beginIn U i op
 rawOf U (step i) = stepIn U i
 rawOf U (dropLink i) = callOf U (dropLink i)
+rawOf U (ask i) = callOf U (ask i)
+rawOf U (dropAsk i) = callOf U (dropAsk i)
 rawOf U drain = callOf U drain
 
 pub raw-is : (U : World) (c : Call) → Whole U → callOf U c ≡ rawOf U c
@@ -44,6 +46,8 @@ unfolding beginOf stepOf if_then_else_
 raw-is U (begin i op) H = ap (λ (x : Bool). if x then rawOf U (begin i op) else refuse U ForeignState) (valid U H)
 raw-is U (step i) H = ap (λ (x : Bool). if x then rawOf U (step i) else refuse U ForeignState) (valid U H)
 raw-is U (dropLink i) H = refl
+raw-is U (ask i) H = refl
+raw-is U (dropAsk i) H = refl
 raw-is U drain H = refl
 
 abbrev pub rawAfter : World → List Call → World
@@ -135,6 +139,7 @@ here κ v w a n wr o θ m lg =
                   links = replicate 8 false;
                 };
             waiting = record { stores = replicate 8 nonePending; count = 0 };
+            aside = 0;
             used = n;
             restarts = replicate 8 0;
             written = wr;
@@ -307,6 +312,7 @@ module _ (w n g wr : ℕ) (θ : Line) (x : ℕ) (rest lg : List ℕ) where
                     crew = D .world .bench .crew;
                     queue = D .world .bench .queue;
                     waiting = D .world .bench .waiting;
+                    aside = D .world .bench .aside;
                     used = D .world .bench .used;
                     restarts = if not b then raised (W .bench .restarts) 1 else W .bench .restarts;
                     written = D .world .bench .written;

@@ -8,10 +8,10 @@ use native.Mathlib.Omega.{arith}
 use borrow.Author.Tests.{not-true}
 use lib.ListN.{length, take, drop, replicate, length-append, length-replicate}
 use Rattle.model.specs.declared.Answer.{Answer}
-use Rattle.model.specs.declared.Answer.the-variants.{Accepted, Numbered, GoesOn, Finished, HandedOut, Empty, Full, Refused}
+use Rattle.model.specs.declared.Answer.the-variants.{Accepted, Numbered, GoesOn, Finished, HandedOut, Empty, Full, Refused, Grown}
 use Rattle.model.specs.declared.Task.{Task}
 use Rattle.model.specs.World.{World, Outcome, lineAt}
-use Rattle.model.specs.Calls.{Call, begin, step, dropLink, drain, callOf}
+use Rattle.model.specs.Calls.{Call, begin, step, dropLink, drain, callOf, ask, dropAsk}
 use Rattle.model.proofs.Tests.{and-left, and-right}
 use Rattle.model.specs.Run.{Played, played, after}
 use Rattle.theorems.specs.Demand3.{At, HandsOut, Line1, finishes}
@@ -50,6 +50,8 @@ abbrev pub OwnOnly : List Call → Type 0
 OwnOnly [] = Unit {0}
 OwnOnly (begin i op ∷ cs) = OwnOnly cs
 OwnOnly (dropLink i ∷ cs) = ⊥
+OwnOnly (ask i ∷ cs) = ⊥
+OwnOnly (dropAsk i ∷ cs) = ⊥
 OwnOnly (drain ∷ cs) = ⊥
 OwnOnly (step zero ∷ cs) = OwnOnly cs
 OwnOnly (step (suc i) ∷ cs) = ⊥
@@ -58,6 +60,8 @@ pub own-append : (xs ys : List Call) → OwnOnly xs → OwnOnly ys → OwnOnly (
 own-append [] ys a b = b
 own-append (begin i op ∷ xs) ys a b = own-append xs ys a b
 own-append (dropLink i ∷ xs) ys a b = absurd a
+own-append (ask i ∷ xs) ys a b = absurd a
+own-append (dropAsk i ∷ xs) ys a b = absurd a
 own-append (drain ∷ xs) ys a b = absurd a
 own-append (step zero ∷ xs) ys a b = own-append xs ys a b
 own-append (step (suc i) ∷ xs) ys a b = absurd a
@@ -69,6 +73,8 @@ no-thief (begin i op ∷ xs) ys U zero o l a = let z : _≡_ {A = ℕ} 0 1 = cc 
 no-thief (step zero ∷ xs) ys U zero o l a = let z : _≡_ {A = ℕ} 0 1 = cc in omega arith
 no-thief (step (suc i) ∷ xs) ys U k o l a = absurd o
 no-thief (dropLink i ∷ xs) ys U k o l a = absurd o
+no-thief (ask i ∷ xs) ys U k o l a = absurd o
+no-thief (dropAsk i ∷ xs) ys U k o l a = absurd o
 no-thief (drain ∷ xs) ys U k o l a = absurd o
 no-thief (begin i op ∷ xs) ys U (suc k) o l a = no-thief xs ys (callOf U (begin i op) .world) k o (omega arith) a
 no-thief (step zero ∷ xs) ys U (suc k) o l a = no-thief xs ys (callOf U (step 0) .world) k o (omega arith) a
@@ -114,6 +120,7 @@ Under N (Finished i t) = Unit {0}
 Under N (HandedOut i t) = t .number < N
 Under N (Empty i) = Unit {0}
 Under N (Full i t) = Unit {0}
+Under N (Grown i) = Unit {0}
 Under N (Refused r) = Unit {0}
 
 abbrev pub AllUnder : ℕ → List Answer → Type 0

@@ -73,17 +73,17 @@ module _ (W : World) (i k : ℕ) (valid : validOf W ≡ true) (at : i < 8 → k 
   -- its stores land at once
   pub lands : (x : Line) (c : Made) {m2 l2 : List ℕ}
       → (r ≡ false
-      → (d : Bool) (s : Waiting) (u j : ℕ) (n : List ℕ) (ws : List Worker) → AtOnce d s i → (i < 8 → j ≡ i) → lineAt ws j ≡ lineAt (W .bench .workers) k
-      → movedBy (benchOf (W .bench .kind) (W .bench .width) (W .bench .words) (W .bench .crew) q (W .bench .written) d s u n ws) j x c m2 l2
-      ≡ stepIn (lent (benchOf (W .bench .kind) (W .bench .width) (W .bench .words) (W .bench .crew) q (W .bench .written) d s u n ws) m (W .log)) i)
+      → (d : Bool) (s : Waiting) (o u j : ℕ) (n : List ℕ) (ws : List Worker) → AtOnce d s i → (i < 8 → j ≡ i) → lineAt ws j ≡ lineAt (W .bench .workers) k
+      → movedBy (benchOf (W .bench .kind) (W .bench .width) (W .bench .words) (W .bench .crew) q (W .bench .written) d s o u n ws) j x c m2 l2
+      ≡ stepIn (lent (benchOf (W .bench .kind) (W .bench .width) (W .bench .words) (W .bench .crew) q (W .bench .written) d s o u n ws) m (W .log)) i)
       → r ≡ false → movedBy (W .bench) k x c m2 l2 ≡ stepIn W i
   lands x c {m2} {l2} step e =
       let b = W .bench in
-      subst (λ (p : Queue). movedBy (benchOf (b .kind) (b .width) (b .words) (b .crew) p (b .written) (b .delayed) (b .waiting) (b .used) (b .restarts) (b .workers)) k x c m2 l2
-      ≡ stepIn (lent (benchOf (b .kind) (b .width) (b .words) (b .crew) p (b .written) (b .delayed) (b .waiting) (b .used) (b .restarts) (b .workers)) (W .store) (W .log)) i) (L .past e .0)
-      (subst (λ (t : List ℕ). movedBy (benchOf (b .kind) (b .width) (b .words) (b .crew) q (b .written) (b .delayed) (b .waiting) (b .used) (b .restarts) (b .workers)) k x c m2 l2
-      ≡ stepIn (lent (benchOf (b .kind) (b .width) (b .words) (b .crew) q (b .written) (b .delayed) (b .waiting) (b .used) (b .restarts) (b .workers)) t (W .log)) i) (L .past e .1)
-      (step e (b .delayed) (b .waiting) (b .used) k (b .restarts) (b .workers) (once e) at refl))
+      subst (λ (p : Queue). movedBy (benchOf (b .kind) (b .width) (b .words) (b .crew) p (b .written) (b .delayed) (b .waiting) (b .aside) (b .used) (b .restarts) (b .workers)) k x c m2 l2
+      ≡ stepIn (lent (benchOf (b .kind) (b .width) (b .words) (b .crew) p (b .written) (b .delayed) (b .waiting) (b .aside) (b .used) (b .restarts) (b .workers)) (W .store) (W .log)) i) (L .past e .0)
+      (subst (λ (t : List ℕ). movedBy (benchOf (b .kind) (b .width) (b .words) (b .crew) q (b .written) (b .delayed) (b .waiting) (b .aside) (b .used) (b .restarts) (b .workers)) k x c m2 l2
+      ≡ stepIn (lent (benchOf (b .kind) (b .width) (b .words) (b .crew) q (b .written) (b .delayed) (b .waiting) (b .aside) (b .used) (b .restarts) (b .workers)) t (W .log)) i) (L .past e .1)
+      (step e (b .delayed) (b .waiting) (b .aside) (b .used) k (b .restarts) (b .workers) (once e) at refl))
 
   pub fits-past : (c : Made) → Fits (W .bench .words) q (W .bench .written) c → r ≡ false → Fits (W .bench .words) (W .bench .queue) (W .bench .written) c
   fits-past c f e = subst (λ (p : Queue). Fits (W .bench .words) p (W .bench .written) c) (L .past e .0) f

@@ -11,7 +11,7 @@ ghost use lib.Dec.{eqb};
 ghost use Rattle.model.specs.declared.Answer.the-variants.{Refused};
 ghost use Rattle.model.specs.Answers.{numberOf, entryOf};
 ghost use Rattle.model.specs.Tests.{_and_};
-ghost use Rattle.model.specs.Calls.{lent, freshOf, beginOf, stepOf, dropLinkOf, drainOf, whoOf, frontOf};
+ghost use Rattle.model.specs.Calls.{lent, freshOf, beginOf, stepOf, dropLinkOf, drainOf, askOf, dropAskOf, whoOf, frontOf};
 ghost use Rattle.answers.specs.Entries.{asDefined};
 ghost use Rattle.queues.specs.Left.{left};
 use answers::Entry;
@@ -167,6 +167,20 @@ impl Bench {
         ensures { λ r. ⌜ left r (now (store .exit)) (now (log .entry)) ≡ drainOf (lent (self .state) (now (store .entry)) (now (log .entry))) ⌝ }
     {
         reply_of(events::drain(self.state, store, log))
+    }
+
+    // An idle owner asks for growth: as many words as an array of twice the size takes are set aside.
+    pub fn ask(self, worker: u32, store: &[u32], log: &[u32]) -> Reply
+        ensures { λ r. ⌜ left r (now (store .entry)) (now (log .entry)) ≡ askOf (lent (self .state) (now (store .entry)) (now (log .entry))) worker ⌝ }
+    {
+        reply_of(events::ask(self.state, worker, store, log))
+    }
+
+    // An idle owner gives them back.
+    pub fn drop_ask(self, worker: u32, store: &[u32], log: &[u32]) -> Reply
+        ensures { λ r. ⌜ left r (now (store .entry)) (now (log .entry)) ≡ dropAskOf (lent (self .state) (now (store .entry)) (now (log .entry))) worker ⌝ }
+    {
+        reply_of(events::drop_ask(self.state, worker, store, log))
     }
 
     // A worker's restarts: its compares that failed. Nothing changes.

@@ -22,12 +22,14 @@ ghost use Rattle.model.specs.Limits.{
   nextOk,
   numberOk,
   taskOk,
+  growthOk,
   lineOk,
   hasAnchor,
   storeOk,
 };
 ghost use Rattle.ranges.specs.Doubles.{Doubled, Doubles};
 use model::Anchor;
+use model::Growth;
 use model::Kind;
 use model::Line;
 use model::Queue;
@@ -52,6 +54,17 @@ fn task_ok(known: u32, task: Task) -> bool
     ensures { λ r. ⌜ r ≡ taskOk known task ⌝ }
 {
     both(number_ok(task.number), tasks::none_from(known, task))
+}
+
+// Why the array grows: a put's task is whole.
+fn growth_ok(words: u32, why: Growth) -> bool
+    requires { ⌜ words ≤ 4 ⌝ }
+    ensures { λ r. ⌜ r ≡ growthOk words why ⌝ }
+{
+    match why {
+        Growth::ForPut { task } => task_ok(words + 1, task),
+        Growth::ForCommit => true,
+    }
 }
 
 // An anchor as a worker read it, in an array of `tasks`.
@@ -225,11 +238,20 @@ fn writes_ok(
 }
 
 // What X3 holds.
-fn copy_ok(kind: Kind, all: u32, tasks: u32, task: Task, head: u32, noted: u32, copied: u32) -> bool
-    ensures { λ r. ⌜ r ≡ (taskOk all task and notedOk kind head noted and leb noted tasks and ltb copied noted) ⌝ }
+fn copy_ok(
+    kind: Kind,
+    words: u32,
+    tasks: u32,
+    why: Growth,
+    head: u32,
+    noted: u32,
+    copied: u32,
+) -> bool
+    requires { ⌜ words ≤ 4 ⌝ }
+    ensures { λ r. ⌜ r ≡ (growthOk words why and notedOk kind head noted and leb noted tasks and ltb copied noted) ⌝ }
 {
     both(
-        task_ok(all, task),
+        growth_ok(words, why),
         both(
             noted_ok(kind, head, noted),
             both(noted <= tasks, copied < noted),
@@ -275,15 +297,15 @@ pub fn line_ok(
             word <= words,
         ),
         Line::PutFinish { task, read } => past_test(kind, width, all, tasks, task, read),
-        Line::Claim { task } => task_ok(all, task),
-        Line::Note { task } => task_ok(all, task),
+        Line::Claim { why } => growth_ok(words, why),
+        Line::Note { why } => growth_ok(words, why),
         Line::Copy {
-            task,
+            why,
             head,
             noted,
             copied,
-        } => copy_ok(kind, all, tasks, task, head, noted, copied),
-        Line::Publish { task } => task_ok(all, task),
+        } => copy_ok(kind, words, tasks, why, head, noted, copied),
+        Line::Publish { why } => growth_ok(words, why),
         Line::TakeRead => true,
         Line::TakeTail { head } => head_ok(kind, head),
         Line::TakeTest { read } => read_ok(kind, width, tasks, read),

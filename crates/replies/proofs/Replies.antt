@@ -9,7 +9,7 @@ use borrow.Author.Tests.{eq-eqb, ne-eqb, le-ltb}
 use Rattle.model.specs.declared.Setup.{Setup}
 use Rattle.model.specs.declared.Bench.{Bench}
 use Rattle.model.specs.declared.Answer.{Answer}
-use Rattle.model.specs.declared.Answer.the-variants.{Accepted, Numbered, GoesOn, Finished, HandedOut, Empty, Full, Refused}
+use Rattle.model.specs.declared.Answer.the-variants.{Accepted, Numbered, GoesOn, Finished, HandedOut, Empty, Full, Grown, Refused}
 use Rattle.model.specs.declared.Refusal.the-variants.{NoSuchWorker}
 use Rattle.model.specs.declared.Payload.{Payload}
 use Rattle.model.specs.declared.Operation.{Operation}
@@ -114,6 +114,7 @@ progress-made (Finished i t) e = refl
 progress-made (HandedOut i t) e = refl
 progress-made (Empty i) e = refl
 progress-made (Full i t) e = refl
+progress-made (Grown i) e = refl
 progress-made (Refused r) e = cc
 
 pub progress-stopped : (a : Answer) → progressOf a ≡ Stopped → isRefused a ≡ true
@@ -124,6 +125,7 @@ progress-stopped (Finished i t) e = cc
 progress-stopped (HandedOut i t) e = cc
 progress-stopped (Empty i) e = cc
 progress-stopped (Full i t) e = cc
+progress-stopped (Grown i) e = cc
 progress-stopped (Refused r) e = refl
 
 -- a response under another name

@@ -5,7 +5,7 @@ use mathlib.Core.Path.{_≡_, refl, ap, sym, _∙_}
 use mathlib.Core.List.{List, [], _∷_, _++_, append-assoc, append-nil}
 use lib.ListN.{length, take, drop, length-take}
 use Rattle.model.specs.declared.Answer.{Answer}
-use Rattle.model.specs.declared.Answer.the-variants.{Accepted, Numbered, GoesOn, Finished, HandedOut, Empty, Full, Refused}
+use Rattle.model.specs.declared.Answer.the-variants.{Accepted, Numbered, GoesOn, Finished, HandedOut, Empty, Full, Grown, Refused}
 use Rattle.model.specs.declared.Tally.{Tally}
 use Rattle.model.specs.declared.Tally.the-variants as tally
 use Rattle.model.specs.declared.Counts.{Counts}
@@ -44,6 +44,7 @@ answer-most v (HandedOut i t) =
     most _ 128 (H i (t .number) words) (i ∷ t .number ∷ words) refl (omega (arith, length-take v (drop 1 (wordsIn t))))
 answer-most v (Empty i) = most _ 128 (E i) (i ∷ []) refl (omega arith)
 answer-most v (Full i t) = most _ 128 (F (t .number)) (t .number ∷ []) refl (omega arith)
+answer-most v (Grown i) = rw show-none (omega arith)
 answer-most v (Refused r) = most _ 128 (R (numberOf r)) (numberOf r ∷ []) refl (omega arith)
 
 pub tally-most : (i : ℕ) (t : Tally) → length (shownAll (printedTally i t)) ≤ 128

@@ -4,7 +4,7 @@ use mathlib.Core.Bool.{Bool, true}
 use Rattle.model.specs.declared.Command.{Command}
 use Rattle.model.specs.declared.Command.the-variants.{Open, BeginPut, BeginTake, BeginSteal, Steps, Who, End, Bad}
 use Rattle.model.specs.declared.Answer.{Answer}
-use Rattle.model.specs.declared.Answer.the-variants.{Accepted, Numbered, GoesOn, Finished, HandedOut, Empty, Full, Refused}
+use Rattle.model.specs.declared.Answer.the-variants.{Accepted, Numbered, GoesOn, Finished, HandedOut, Empty, Full, Grown, Refused}
 use Rattle.model.specs.Tests.{if_then_else_}
 use Rattle.model.specs.World.{World}
 use Rattle.model.specs.Listing.{playing, response, printed, respond}
@@ -24,6 +24,7 @@ progressOf (Finished i t) = Made
 progressOf (HandedOut i t) = Made
 progressOf (Empty i) = Made
 progressOf (Full i t) = Made
+progressOf (Grown i) = Made
 progressOf (Refused r) = Stopped
 
 -- a line asks a bench that is played for steps, or for something else

@@ -123,6 +123,7 @@ pub fn show(words: u32, answer: Answer, out: &mut [u8], at: usize) -> usize
             let v = [task.number as u64];
             text::print(out, at, b'F', &v)
         }
+        Answer::Grown { worker: _ } => at,
         Answer::Refused { why } => {
             let v = [answers::number_of(why) as u64];
             text::print(out, at, b'R', &v)
@@ -158,6 +159,7 @@ fn progress_of(answer: Answer) -> Progress
         Answer::HandedOut { worker: _, task: _ } => Progress::Made,
         Answer::Empty { worker: _ } => Progress::Made,
         Answer::Full { worker: _, task: _ } => Progress::Made,
+        Answer::Grown { worker: _ } => Progress::Made,
         Answer::Refused { why: _ } => Progress::Stopped,
     }
 }

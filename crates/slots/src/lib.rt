@@ -1,6 +1,6 @@
 // Where an index lies in the store: which index a put, a take and a steal name, which slot of an array it has, which words of
 // the store that slot is, and whether they leave room for a larger array. `read` is the anchor as a worker read it at line 1.
-// Uses `model` and `tasks`. It is used by `lines`, `waiting`, `machine` and `owner`, and by proofs of `limits`.
+// Uses `model` and `tasks`. It is used by `lines`, `waiting`, `events`, `machine` and `owner`, and by proofs of `limits`.
 ghost use mathlib.Core.Path.{_≡_};
 ghost use mathlib.Core.Bool.{true};
 ghost use Prim.Native.Nat.{ℕ, _+_, _-_, _*_, _^_, _≤_, _<_};

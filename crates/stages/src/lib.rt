@@ -1,12 +1,22 @@
 // Where a worker stands in its operation, what a thief has read, the tag's bits, and one restart more.
-// Uses `model`. It is used by `limits`, `opening`, `machine`, `owner`, `queues` and `listing`.
+// Uses `model`. It is used by `limits`, `opening`, `events`, `machine`, `owner`, `queues` and `listing`.
 ghost use mathlib.Core.Path.{_≡_};
 ghost use Rattle.model.specs.Tests.{if_then_else_};
-ghost use Rattle.model.specs.World.{stage, isIdle};
+ghost use Rattle.model.specs.World.{claimStage, stage, isIdle};
 ghost use Rattle.model.specs.Limits.{readBy};
 ghost use Rattle.model.specs.Calls.{oneMore};
 use model::Anchor;
+use model::Growth;
 use model::Line;
+
+fn claim_stage(why: Growth) -> u32
+    ensures { λ r. ⌜ r ≡ claimStage why ⌝ }
+{
+    match why {
+        Growth::ForPut { task: _ } => 3,
+        Growth::ForCommit => 1,
+    }
+}
 
 // Where a worker stands in its operation: the numbers are those of the definition.
 pub fn stage(line: Line) -> u32
@@ -14,7 +24,7 @@ pub fn stage(line: Line) -> u32
 {
     match line {
         Line::Idle => 0,
-        Line::PutRead { task: _ } => 1,
+        Line::PutRead { task: _ } => 3,
         Line::PutTail { task: _, head: _ } => 3,
         Line::PutTest { task: _, read: _ } => 3,
         Line::PutWord {
@@ -23,16 +33,16 @@ pub fn stage(line: Line) -> u32
             word: _,
         } => 3,
         Line::PutFinish { task: _, read: _ } => 3,
-        Line::Claim { task: _ } => 3,
-        Line::Note { task: _ } => 2,
+        Line::Claim { why } => claim_stage(why),
+        Line::Note { why: _ } => 2,
         Line::Copy {
-            task: _,
+            why: _,
             head: _,
             noted: _,
             copied: _,
         } => 2,
-        Line::Publish { task: _ } => 2,
-        Line::TakeRead => 1,
+        Line::Publish { why: _ } => 2,
+        Line::TakeRead => 3,
         Line::TakeTail { head: _ } => 3,
         Line::TakeTest { read: _ } => 3,
         Line::TakeWord {

@@ -15,6 +15,7 @@ opened b i u l =
       crew = b .crew;
       queue = b .queue;
       waiting = b .waiting;
+      aside = b .aside;
       used = u;
       restarts = b .restarts;
       written = b .written;

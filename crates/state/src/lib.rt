@@ -105,6 +105,7 @@ pub fn made(
             stores: [none; 8],
             count: 0,
         },
+        aside: 0,
         used: 0,
         restarts: [0; 8],
         written: 0,

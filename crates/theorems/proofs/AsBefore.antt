@@ -10,7 +10,7 @@ use Rattle.model.specs.declared.Task.{Task}
 use Rattle.model.specs.Tests.{if_then_else_}
 use Rattle.model.specs.Stores.{landedAll}
 use Rattle.model.specs.World.{World, Outcome, memory, ownersView}
-use Rattle.model.specs.Calls.{Call, begin, step, dropLink, drain, callOf}
+use Rattle.model.specs.Calls.{Call, begin, step, dropLink, drain, ask, dropAsk, callOf}
 use Rattle.model.specs.Run.{Played, played, after}
 use Rattle.theorems.specs.Demand3.{At, Finishes, Concerned, waits, drainsAs, drains, between, finishes, arrivesAs, puts}
 use Rattle.theorems.specs.AsBefore.{finished, AsBefore, NothingDelayed}
@@ -35,6 +35,8 @@ unfolding if_then_else_
 call-at-once W (begin i op) H e = record { waiting = rw e; drained = refl; arrived = rw e }
 call-at-once W (step i) H e = record { waiting = rw e; drained = refl; arrived = rw e }
 call-at-once W (dropLink i) H e = record { waiting = rw e; drained = refl; arrived = rw e }
+call-at-once W (ask i) H e = record { waiting = rw e; drained = refl; arrived = rw e }
+call-at-once W (dropAsk i) H e = record { waiting = rw e; drained = refl; arrived = rw e }
 call-at-once W drain H e =
     drain-cases (λ (D : Outcome). AtOnce (record { before = W; call = drain; answer = D .answer })) W
     (λ r l. record { waiting = rw e; drained = refl; arrived = refl }) (λ some. absurd (omega (arith, H .mode e)))

@@ -5,21 +5,21 @@ use mathlib.Core.Logic.{_≢_}
 use mathlib.Core.List.{List, [], _∷_}
 use Prim.Native.Nat.{ℕ, zero, suc, _+_, _<_}
 use native.Mathlib.Omega.{arith}
-use lib.Dec.{ltb}
+use lib.Dec.{eqb, ltb}
 use lib.ListN.{set}
-use borrow.Author.Tests.{ltb-true}
+use borrow.Author.Tests.{ltb-true, eqb-true}
 use Rattle.model.specs.declared.Queue.{Queue}
 use Rattle.model.specs.declared.Operation.{Operation}
 use Rattle.model.specs.declared.Refusal.{Refusal}
-use Rattle.model.specs.declared.Refusal.the-variants.{NoSuchWorker, BusyWorker, IdleWorker, WrongHand, NumbersSpent, LogFull, ForeignState, NoLink, WaitingFull, NoneWaiting}
+use Rattle.model.specs.declared.Refusal.the-variants.{NoSuchWorker, BusyWorker, IdleWorker, WrongHand, NumbersSpent, LogFull, ForeignState, NoLink, WaitingFull, NoneWaiting, NoSpace, AskStands, NoAsk}
 use Rattle.model.specs.declared.Answer.the-variants.{Accepted}
 use Rattle.model.specs.Tests.{if_then_else_}
 use Rattle.model.specs.Answers.{numberOf, ends, logged, entryLength}
-use Rattle.model.specs.Stores.{Shared, shared, landedAll, inLine, oldest, oneLess}
-use Rattle.model.specs.Lines.{Effect, lineStep, holdsLink}
-use Rattle.model.specs.World.{World, Outcome, refuse, remembered, tagBits, lineAt, isIdle}
+use Rattle.model.specs.Stores.{Shared, shared, landedAll, inLine, oldest, oneLess, nextLength}
+use Rattle.model.specs.Lines.{Effect, lineStep, holdsLink, fits}
+use Rattle.model.specs.World.{World, Outcome, refuse, remembered, tagBits, lineAt, isIdle, ownersView}
 use Rattle.model.specs.Limits.{validOf}
-use Rattle.model.specs.Calls.{rightHand, numbersLeft, begun, beginOf, restarted, relinked, landing, stored, lineAfter, stepped, crowded, noRoom, nextEffect, stepOf, linkSet, dropLinkOf, drained, drainOf, Call, begin, step, dropLink, drain, callOf}
+use Rattle.model.specs.Calls.{rightHand, numbersLeft, begun, beginOf, restarted, relinked, landing, stored, lineAfter, stepped, crowded, noRoom, nextEffect, stepOf, linkSet, dropLinkOf, drained, drainOf, Call, begin, step, dropLink, drain, callOf, asked, ofIdleOwner, setAside, askOf, dropAskOf, ask, dropAsk}
 use Rattle.theorems.proofs.Folds.{laid, words, wordsOf, landed-one, landed-is, arraysAfter, queueAfter, storeAfter, claimed-is}
 
 -- a property of both branches
@@ -34,7 +34,7 @@ Lawful W r = r ≡ ForeignState → validOf W ≡ false
 
 -- what the event leaves
 abbrev pub dropped : World → ℕ → World
-dropped W i = remembered W (shared (linkSet (W .bench .queue) i false) (W .store)) (W .bench .waiting)
+dropped W i = remembered W (shared (linkSet (W .bench .queue) i false) (W .store)) (W .bench .waiting) (W .bench .aside)
 
 -- what worker i's line does, on what it reads
 abbrev pub effectOf : World → ℕ → Effect
@@ -76,6 +76,7 @@ worldWith W i E S =
             crew = W .bench .crew;
             queue = relinked (S .queue) i (lineAt (W .bench .workers) i) (E .line);
             waiting = lineAfter W i E;
+            aside = if E .claims then 0 else W .bench .aside;
             used = W .bench .used;
             restarts = restarted (W .bench .kind) (W .bench .queue) i (lineAt (W .bench .workers) i) (W .bench .restarts);
             written = if ends (E .answer) then W .bench .written + entryLength (W .bench .words) else W .bench .written;
@@ -98,10 +99,10 @@ abbrev pub drainTo : World → World
 drainTo W =
     remembered W
     (shared (laid (oldest (W .bench .waiting) ∷ []) (W .bench .queue)) (wordsOf (W .bench .words) (W .bench .queue .arrays) (oldest (W .bench .waiting)) (W .store)))
-    (oneLess (W .bench .waiting))
+    (oneLess (W .bench .waiting)) (W .bench .aside)
 
 drained-is : (W : World) → drained W ≡ drainTo W
-drained-is W = ap (λ (S : Shared). remembered W S (oneLess (W .bench .waiting))) (landed-one (W .bench .words) (W .bench .queue) (W .store) (oldest (W .bench .waiting)))
+drained-is W = ap (λ (S : Shared). remembered W S (oneLess (W .bench .waiting)) (W .bench .aside)) (landed-one (W .bench .words) (W .bench .queue) (W .store) (oldest (W .bench .waiting)))
 
 -- a begin passed its tests; a step did
 pub record MayBegin (W : World) (i : ℕ) (op : Operation) : Type 0 where
@@ -109,12 +110,18 @@ pub record MayBegin (W : World) (i : ℕ) (op : Operation) : Type 0 where
   pub hand : rightHand i op ≡ true
   pub idle : isIdle (lineAt (W .bench .workers) i) ≡ true
   pub number : numbersLeft op (W .bench .used) ≡ true
+  pub ask : asked op (W .bench .aside) ≡ true
 
 pub record MayStep (W : World) (i : ℕ) : Type 0 where
   pub member : i < W .bench .crew
   pub busy : isIdle (lineAt (W .bench .workers) i) ≡ false
   pub line : crowded W i (effectOf W i) ≡ false
   pub room : noRoom W (effectOf W i) ≡ false
+
+-- n words are set aside: an ask's, which fit, or none, by a drop
+pub record MayAside (W : World) (n : ℕ) : Type 0 where
+  pub idle : isIdle (lineAt (W .bench .workers) 0) ≡ true
+  pub words : 0 < n → (n ≡ nextLength (W .bench .queue)) × (fits (W .bench .words) (laid (inLine (W .bench .waiting)) (W .bench .queue)) (W .store) ≡ true)
 
 module _ (P : Outcome → Type 0) (W : World) (refused : (r : Refusal) → Lawful W r → P (refuse W r)) where
   other : (r : Refusal) → numberOf r ≢ 12 → P (refuse W r)
@@ -131,7 +138,9 @@ module _ (P : Outcome → Type 0) (W : World) (refused : (r : Refusal) → Lawfu
       (λ u. pick P (rightHand i op) _ _
       (λ h. pick P (isIdle (lineAt (W .bench .workers) i)) _ _
       (λ e. pick P (numbersLeft op (W .bench .used)) _ _
-      (λ n. f (record { member = ltb-true i (W .bench .crew) u; hand = h; idle = e; number = n })) (λ n. other NumbersSpent (omega arith)))
+      (λ n. pick P (asked op (W .bench .aside)) _ _
+      (λ a. f (record { member = ltb-true i (W .bench .crew) u; hand = h; idle = e; number = n; ask = a })) (λ a. other NoAsk (omega arith)))
+      (λ n. other NumbersSpent (omega arith)))
       (λ e. other BusyWorker (omega arith)))
       (λ h. other WrongHand (omega arith)))
       (λ u. other NoSuchWorker (omega arith)))
@@ -170,10 +179,49 @@ module _ (P : Outcome → Type 0) (W : World) (refused : (r : Refusal) → Lawfu
       (λ v. pick P (ltb 0 (W .bench .waiting .count)) _ _ (λ u. subst (λ (U : World). P (record { world = U; answer = Accepted })) (sym (drained-is W)) (f (ltb-true 0 (W .bench .waiting .count) u))) (λ u. other NoneWaiting (omega arith)))
       foreign
 
+  abbrev pub Asides : Type 0
+  Asides = (n : ℕ) → MayAside W n → P (setAside W n)
+
+  -- an idle owner's call that has no line of its own
+  idle-owner : (i : ℕ) (D : Outcome) → (isIdle (lineAt (W .bench .workers) 0) ≡ true → P D) → P (ofIdleOwner W i D)
+  idle-owner i D f =
+      pick P (validOf W) _ _
+      (λ v. pick P (ltb i (W .bench .crew)) _ _
+      (λ u. pick P (eqb i 0) _ _
+      (λ o. pick P (isIdle (lineAt (W .bench .workers) i)) _ _
+      (λ e. f (subst (λ (k : ℕ). isIdle (lineAt (W .bench .workers) k) ≡ true) (eqb-true i 0 o) e))
+      (λ e. other BusyWorker (omega arith)))
+      (λ o. other WrongHand (omega arith)))
+      (λ u. other NoSuchWorker (omega arith)))
+      foreign
+
+  pub ask-cases : (i : ℕ) → Asides → P (askOf W i)
+  unfolding askOf
+  ask-cases i f =
+      idle-owner i _
+      (λ e. pick P (eqb (W .bench .aside) 0) _ _
+      (λ a. pick P (fits (W .bench .words) (ownersView W .queue) (W .store)) _ _
+      (λ t. f (nextLength (ownersView W .queue)) (record {
+        idle = e;
+        words = λ l. (ap (λ (S : Shared). nextLength (S .queue)) view-is, subst (λ (S : Shared). fits (W .bench .words) (S .queue) (W .store) ≡ true) view-is t);
+      }))
+      (λ t. other NoSpace (omega arith)))
+      (λ a. other AskStands (omega arith)))
+    where
+      view-is : ownersView W ≡ shared (laid (inLine (W .bench .waiting)) (W .bench .queue)) (words (W .bench .words) (W .bench .queue .arrays) (inLine (W .bench .waiting)) (W .store))
+      view-is = landed-is (W .bench .words) (W .bench .queue) (W .store) (inLine (W .bench .waiting))
+
+  pub drop-ask-cases : (i : ℕ) → Asides → P (dropAskOf W i)
+  unfolding dropAskOf
+  drop-ask-cases i f =
+      idle-owner i _ (λ e. pick P (ltb 0 (W .bench .aside)) _ _ (λ a. f 0 (record { idle = e; words = λ l. absurd (omega arith) })) (λ a. other NoAsk (omega arith)))
+
   pub call-cases : ((i : ℕ) (op : Operation) → MayBegin W i op → P (begun W i op)) → ((i : ℕ) → MayStep W i → P (stepTo W i))
       → ((i : ℕ) → P (record { world = dropped W i; answer = Accepted })) → (0 < W .bench .waiting .count → P (record { world = drainTo W; answer = Accepted }))
-      → (c : Call) → P (callOf W c)
-  call-cases b s d x (begin i op) = begin-cases i op (b i op)
-  call-cases b s d x (step i) = step-cases i (s i)
-  call-cases b s d x (dropLink i) = drop-cases i (d i)
-  call-cases b s d x drain = drain-cases x
+      → Asides → (c : Call) → P (callOf W c)
+  call-cases b s d x a (begin i op) = begin-cases i op (b i op)
+  call-cases b s d x a (step i) = step-cases i (s i)
+  call-cases b s d x a (dropLink i) = drop-cases i (d i)
+  call-cases b s d x a drain = drain-cases x
+  call-cases b s d x a (ask i) = ask-cases i a
+  call-cases b s d x a (dropAsk i) = drop-ask-cases i a

@@ -9,6 +9,7 @@ use lib.Dec.{leb}
 use lib.ListN.{length, getD, set, length-set}
 use lib.Seq.{getD-set-other, getD-set-same, set-out}
 use borrow.Author.Tests.{leb-true}
+use Rattle.model.specs.declared.Growth.{Growth}
 use Rattle.model.specs.declared.Kind.{Kind}
 use Rattle.model.specs.declared.Kind.the-variants.{Lifo, Fifo, Deque}
 use Rattle.model.specs.declared.Line.{Line}
@@ -36,7 +37,8 @@ use Rattle.theorems.proofs.Owed.{view, sight, layView, tagOf, Claimed, 
 use Rattle.theorems.proofs.Invariant.{Base, move-none, thief-holds, grow-same}
 use Rattle.theorems.proofs.Laying.{base-line, base-store}
 use Rattle.theorems.proofs.ShapeClaim.{words-length, path-places}
-use Rattle.theorems.proofs.Shape.{tail, Path, Shape}
+use Rattle.theorems.proofs.Asides.{at-rest}
+use Rattle.theorems.proofs.Shape.{claim-expands, tail, Path, Shape}
 use Rattle.theorems.proofs.ShapeLay.{shape-settle}
 use Rattle.model.specs.Tests.{if_then_else_}
 
@@ -44,7 +46,7 @@ use Rattle.model.specs.Tests.{if_then_else_}
 abbrev renew : View → List ℕ → List Region → View
 renew u m d = record { words = u .words; store = m; directory = d; published = u .published; base = u .base; slots = u .slots; own-lo = u .own-lo; own-hi = u .own-hi }
 
-set-agree : (m m′ : List ℕ) (a x b : ℕ) → length m′ ≡ length m → getD m′ b 0 ≡ getD m b 0 → getD (set m′ a x) b 0 ≡ getD (set m a x) b 0
+pub set-agree : (m m′ : List ℕ) (a x b : ℕ) → length m′ ≡ length m → getD m′ b 0 ≡ getD m b 0 → getD (set m′ a x) b 0 ≡ getD (set m a x) b 0
 set-agree m m′ a x b len e = go (le-or-lt a b) (le-or-lt b a) (le-or-lt (length m) a)
   where
     other : b ≢ a → getD (set m′ a x) b 0 ≡ getD (set m a x) b 0
@@ -235,7 +237,7 @@ pub record ClaimedWhile (κ : Kind) (w ω : ℕ) (δ : Bool) (Q : Queue) (μ : L
   pub order : Order κ (view ω Q μ ol oh) (Q .anchor .head) ss h → Order κ (view ω (claiming Q) (zeros μ (taken Q) (nextLength Q)) ol oh) (Q .anchor .head) ss h
   pub claimed : Claimed (sight κ ω ss (claiming Q) (zeros μ (taken Q) (nextLength Q)) ol oh)
 
-pub base-claim : (κ : Kind) (w ω : ℕ) (δ : Bool) (used low : ℕ) (Q : Queue) (μ : List ℕ) (ol oh : ℕ) (ss : List Store) (t : Task) (φ : ℕ → Line) (h : History)
+pub base-claim : (κ : Kind) (w ω : ℕ) (δ : Bool) (used low : ℕ) (Q : Queue) (μ : List ℕ) (ol oh : ℕ) (ss : List Store) (t : Growth) (φ : ℕ → Line) (h : History)
     → Shape κ w ω used low Q μ ss (Claim t) φ → fits ω (laid ss Q) (words ω (Q .arrays) ss μ) ≡ true → Base κ w ω δ Q μ ol oh ss φ h → ClaimedWhile κ w ω δ Q μ ol oh ss φ h
 unfolding if_then_else_
 base-claim κ w ω δ used low Q μ ol oh ss t φ h S e B =
@@ -263,7 +265,7 @@ base-claim κ w ω δ used low Q μ ol oh ss t φ h S e B =
     μ′ = zeros μ (taken Q) (nextLength Q)
 
     is : Q .claimed ≡ v .published
-    is = S .own .claims
+    is = sym (at-rest _ _ _ (S .own .claims) (claim-expands t))
 
     places-in : (Q .published ≤ v .published) × (v .published ≤ Q .claimed)
     places-in = path-places κ w ω _ _ low (Q .published) _ ss (S .arrays .below) (S .path)

@@ -10,7 +10,7 @@ use Rattle.model.specs.declared.Kind.the-variants.{Lifo, Fifo, Deque}
 use Rattle.model.specs.declared.Line.{Line}
 use Rattle.model.specs.declared.Queue.{Queue}
 use Rattle.model.specs.declared.Answer.{Answer}
-use Rattle.model.specs.declared.Answer.the-variants.{Accepted, Numbered, GoesOn, Finished, HandedOut, Empty, Full, Refused}
+use Rattle.model.specs.declared.Answer.the-variants.{Accepted, Numbered, GoesOn, Finished, HandedOut, Empty, Full, Refused, Grown}
 use Rattle.model.specs.declared.Task.{Task}
 use Rattle.model.specs.declared.Anchor.{Anchor}
 use Rattle.model.specs.declared.Store.{Store}
@@ -186,6 +186,7 @@ apart ω δ y k θ (HandedOut i t) f = go (is-compare θ)
     go false = record { still = refl; away = tt; mute = tt; none = λ t n x. let z : _≡_ {A = ℕ} 0 1 = cc in omega arith }
 apart ω δ y k θ (Empty i) f = record { still = refl; away = tt; mute = tt; none = λ t n x. let z : _≡_ {A = ℕ} 0 1 = cc in omega arith }
 apart ω δ y k θ (Full i t) f = record { still = refl; away = tt; mute = tt; none = λ t n x. let z : _≡_ {A = ℕ} 0 1 = cc in omega arith }
+apart ω δ y k θ (Grown i) f = record { still = refl; away = tt; mute = tt; none = λ t n x. let z : _≡_ {A = ℕ} 0 1 = cc in omega arith }
 apart ω δ y k θ (Refused r) f = record { still = refl; away = tt; mute = tt; none = λ t n x. let z : _≡_ {A = ℕ} 0 1 = cc in omega arith }
 
 pub due-same : (δ : Bool) (κ : Kind) (v : View) (ss : List Store) (h : History) (e : Event) → drain-of e ≡ 0 → ((t : Task) (n : ℕ) → e ≡ waiting-put t n → ⊥) → DueIf δ κ v ss h → DueIf δ κ v ss (e ∷ h)

@@ -12,11 +12,11 @@ use Rattle.model.specs.declared.Store.{Store}
 use Rattle.model.specs.declared.Store.the-variants.{StoreWord, StoreNote, StorePut, StoreOut, StoreHead, StoreTail}
 use Rattle.model.specs.declared.Line.{Line}
 use Rattle.model.specs.declared.Line.the-variants.{Idle, PutRead, PutTail, PutTest, PutWord, PutFinish, Claim, Note, Copy, Publish, TakeRead, TakeTail, TakeTest, TakeWord, TakeFinish, StealRead, StealTail, StealTest, StealNote, StealWord, StealNext, StealCompare}
-use Rattle.model.specs.declared.Operation.the-variants.{Put, Take, Steal}
+use Rattle.model.specs.declared.Operation.the-variants.{Put, Take, Steal, Commit}
 use Rattle.model.specs.declared.Answer.{Answer}
-use Rattle.model.specs.declared.Answer.the-variants.{Accepted, Numbered, GoesOn, Finished, HandedOut, Empty, Full, Refused}
+use Rattle.model.specs.declared.Answer.the-variants.{Accepted, Numbered, GoesOn, Finished, HandedOut, Empty, Full, Refused, Grown}
 use Rattle.model.specs.declared.Task.{Task}
-use Rattle.model.specs.Calls.{Call, begin, step, dropLink, drain}
+use Rattle.model.specs.Calls.{Call, begin, step, dropLink, ask, dropAsk, drain}
 use Rattle.model.specs.Tasks.{task, firstWords, gathered}
 use Rattle.model.specs.Lines.{size}
 use Rattle.theorems.proofs.Words.{off, cell}
@@ -90,13 +90,18 @@ event-of-begin ω (begin zero (Put p)) n = began-put (firstWords (ω + 1) (task 
 event-of-begin ω (begin (suc k) (Put p)) n = quiet
 event-of-begin ω (begin i Take) n = quiet
 event-of-begin ω (begin i Steal) n = quiet
+event-of-begin ω (begin i Commit) n = quiet
 event-of-begin ω (step i) n = quiet
 event-of-begin ω (dropLink i) n = quiet
+event-of-begin ω (ask i) n = quiet
+event-of-begin ω (dropAsk i) n = quiet
 event-of-begin ω drain n = quiet
 
 abbrev pub event-of-going-on : Call → Line → Event
 event-of-going-on (begin i o) l = quiet
 event-of-going-on (dropLink i) l = quiet
+event-of-going-on (ask i) l = quiet
+event-of-going-on (dropAsk i) l = quiet
 event-of-going-on drain l = quiet
 event-of-going-on (step i) l = cond (is-line-1 l) (line-1 i) (cond (is-compare l) (failed-compare i) quiet)
 
@@ -104,6 +109,8 @@ event-of-going-on (step i) l = cond (is-line-1 l) (line-1 i) (cond (is-compare l
 abbrev pub event-of-hand-out : Call → Line → Task → Event
 event-of-hand-out (begin i o) l t = handed-out 0 t
 event-of-hand-out (dropLink i) l t = handed-out 0 t
+event-of-hand-out (ask i) l t = handed-out 0 t
+event-of-hand-out (dropAsk i) l t = handed-out 0 t
 event-of-hand-out drain l t = handed-out 0 t
 event-of-hand-out (step i) l t = cond (is-compare l) (handed-out i t) (handed-out 0 t)
 
@@ -120,6 +127,7 @@ event-of ω δ y c l (Finished i t) = event-of-finish δ y t
 event-of ω δ y c l (HandedOut i t) = event-of-hand-out c l t
 event-of ω δ y c l (Empty i) = found-empty i
 event-of ω δ y c l (Full i t) = found-full t
+event-of ω δ y c l (Grown i) = quiet
 event-of ω δ y c l (Refused r) = quiet
 
 -- a drain puts down the store s: a put's task is then the one that stands at the anchor's top

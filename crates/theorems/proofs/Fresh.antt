@@ -31,6 +31,7 @@ use Rattle.theorems.proofs.Invariant.{tops-refl, DueIf}
 use Rattle.theorems.proofs.Owed.{view}
 use Rattle.theorems.proofs.Order.{order-fresh}
 use Rattle.theorems.proofs.Directory.{both, numbers-zeros, Arrays}
+use Rattle.theorems.proofs.Asides.{none-aside}
 use Rattle.theorems.proofs.Shape.{tail, Bounded, Spent}
 use Rattle.theorems.proofs.Valid.{Whole}
 use Rattle.theorems.proofs.SoundRun.{InvOf, LinkedSince, Runs}
@@ -159,6 +160,7 @@ module _ (κ : Kind) (x : Bool) (w c n ω : ℕ) (δ : Bool) (m l : List ℕ) (A
         stores = refl;
         line = omega arith;
         mode = λ e. refl;
+        aside = none-aside ω (blank κ x w c n ω δ .queue) (zeros m 0 ((ω + 1) * c)) Idle refl;
         low = 0;
         shape =
             record {

@@ -7,6 +7,8 @@ use Prim.Native.Nat.{ℕ, suc, _+_, _-_, _*_, _%_, _^_, _≤_, _<_}
 use native.Mathlib.Omega.{arith}
 use lib.ListN.{length}
 use borrow.Author.Tests.{ne-eqb, eq-eqb}
+use Rattle.model.specs.declared.Growth.{Growth}
+use Rattle.model.specs.declared.Growth.the-variants.{ForPut, ForCommit}
 use Rattle.model.specs.declared.Kind.{Kind}
 use Rattle.model.specs.declared.Kind.the-variants.{Lifo, Fifo, Deque}
 use Rattle.model.specs.declared.Line.{Line}
@@ -24,7 +26,7 @@ use Rattle.model.specs.Figures.{anchor}
 use Rattle.model.proofs.Directory.{Size}
 use Rattle.theorems.proofs.Events.{Event, quiet, line-1, finished-put, handed-out, failed-compare, found-empty, began-put, found-full, waiting-put, drained, History, Out, Told, Concerns, Emptied, puts-since, history-at}
 use Rattle.theorems.proofs.Remainders.{tag-next}
-use Rattle.theorems.proofs.Window.{View, word, taskAt, Core, later, Begun, begun-told}
+use Rattle.theorems.proofs.Window.{NotTold, begun-later, View, word, taskAt, Core, later, Begun, begun-told}
 use Rattle.theorems.proofs.Owed.{view, sight, tags, IsFifo, Claimed, Copied, Owed, Label}
 use Rattle.theorems.proofs.Order.{Order}
 use Rattle.theorems.proofs.Seen.{Dir, Got, Noted, Frame, Still, dir-keep, got-keep, noted-keep}
@@ -49,6 +51,11 @@ pub record Copying (κ : Kind) (v : View) (a q k : ℕ) : Type 0 where
 abbrev pub Written : View → ℕ → Task → Type 0
 Written v j t = (k : ℕ) → k < j → word v (v .own-hi) k ≡ wordIn t k
 
+-- what the array grows for
+abbrev pub BegunFor : ℕ → Growth → History → Type 0
+BegunFor ω (ForPut t) h = Begun ω t h
+BegunFor ω ForCommit h = Unit {0}
+
 abbrev pub OwnerOk : Kind → View → ℕ → History → Line → Type 0
 OwnerOk κ v g h Idle = Unit {0}
 OwnerOk κ v g h (PutRead t) = Begun (v .words) t h
@@ -58,10 +65,10 @@ OwnerOk κ v g h (PutWord t r j) =
     Begun (v .words) t h × (StandsFor κ r (v .own-lo) (v .own-hi) × (r .tag ≡ g) × (v .own-hi < v .own-lo + v .slots) × (j ≤ v .words) × Written v j t)
 OwnerOk κ v g h (PutFinish t r) =
     Begun (v .words) t h × (StandsFor κ r (v .own-lo) (v .own-hi) × (r .tag ≡ g) × (v .own-hi < v .own-lo + v .slots) × (taskAt v (v .own-hi) ≡ t))
-OwnerOk κ v g h (Claim t) = Begun (v .words) t h
-OwnerOk κ v g h (Note t) = Begun (v .words) t h × (Claimed v)
-OwnerOk κ v g h (Copy t a q k) = Begun (v .words) t h × Claimed v × Copying κ v a q k
-OwnerOk κ v g h (Publish t) = Begun (v .words) t h × Claimed v × Copied v (v .own-lo) (v .own-hi)
+OwnerOk κ v g h (Claim g′) = BegunFor (v .words) g′ h
+OwnerOk κ v g h (Note g′) = BegunFor (v .words) g′ h × (Claimed v)
+OwnerOk κ v g h (Copy g′ a q k) = BegunFor (v .words) g′ h × Claimed v × Copying κ v a q k
+OwnerOk κ v g h (Publish g′) = BegunFor (v .words) g′ h × Claimed v × Copied v (v .own-lo) (v .own-hi)
 OwnerOk κ v g h TakeRead = Unit {0}
 OwnerOk κ v g h (TakeTail a) = IsFifo κ × (v .own-lo ≡ a) × (v .own-lo ≡ v .own-hi → Emptied 0 h) × List·Memᴰ (line-1 0) h
 OwnerOk κ v g h (TakeTest r) = StandsFor κ r (v .own-lo) (v .own-hi) × (r .tag ≡ g) × (v .own-lo ≡ v .own-hi → Emptied 0 h) × List·Memᴰ (line-1 0) h
@@ -409,6 +416,14 @@ move-put {κ} {w} {v} {v′} {g} {h} {k} t F G =
       grown = List·Memᴰ·tail;
     }
 
+growth-told : (ω : ℕ) (h : History) (e : Event) → ((u : Task) → Told u (e ∷ h) → Told u h) → (g : Growth) → BegunFor ω g h → BegunFor ω g (e ∷ h)
+growth-told ω h e nt (ForPut t) b = begun-told e nt b
+growth-told ω h e nt ForCommit b = tt
+
+pub growth-later : (ω : ℕ) (h : History) (e : Event) → NotTold e → (g : Growth) → BegunFor ω g h → BegunFor ω g (e ∷ h)
+growth-later ω h e n (ForPut t) b = begun-later e n b
+growth-later ω h e n ForCommit b = tt
+
 -- a step of another, seen by the owner
 pub own-later : (κ : Kind) (v : View) (g : ℕ) (h : History) (e : Event) → NotRead 0 e → ((u : Task) → Told u (e ∷ h) → Told u h) → (o : Line) → OwnerOk κ v g h o → OwnerOk κ v g (e ∷ h) o
 own-later κ v gc h e c nt Idle k = k
@@ -417,10 +432,10 @@ own-later κ v gc h e c nt (PutTail t a) (b, k) = (begun-told e nt b, k)
 own-later κ v gc h e c nt (PutTest t r) (b, k) = (begun-told e nt b, k)
 own-later κ v gc h e c nt (PutWord t r j) (b, k) = (begun-told e nt b, k)
 own-later κ v gc h e c nt (PutFinish t r) (b, k) = (begun-told e nt b, k)
-own-later κ v gc h e c nt (Claim t) k = begun-told e nt k
-own-later κ v gc h e c nt (Note t) (b, k) = (begun-told e nt b, k)
-own-later κ v gc h e c nt (Copy t a q i) (b, d, k) = (begun-told e nt b, d, k)
-own-later κ v gc h e c nt (Publish t) (b, d, k) = (begun-told e nt b, d, k)
+own-later κ v gc h e c nt (Claim t) k = growth-told (v .words) h e nt t k
+own-later κ v gc h e c nt (Note t) (b, k) = (growth-told (v .words) h e nt t b, k)
+own-later κ v gc h e c nt (Copy t a q i) (b, d, k) = (growth-told (v .words) h e nt t b, d, k)
+own-later κ v gc h e c nt (Publish t) (b, d, k) = (growth-told (v .words) h e nt t b, d, k)
 own-later κ v gc h e c nt TakeRead k = k
 own-later κ v gc h e c nt (TakeTail a) (f, l, E, r) = (f, l, (λ x. emp-keep 0 h e c (E x)), List·Memᴰ·tail r)
 own-later κ v gc h e c nt (TakeTest r) (p, q, E, y) = (p, q, (λ x. emp-keep 0 h e c (E x)), List·Memᴰ·tail y)

@@ -5,6 +5,7 @@ pub mod Words
 pub mod Indices
 pub mod Directory
 pub mod Cases
+pub mod Asides
 pub mod Events
 pub mod Window
 pub mod Seen
@@ -39,5 +40,8 @@ pub mod NothingLost
 pub mod Reached
 pub mod Restarts
 pub mod WhoCounts
+pub mod CommitsGrow
+pub mod Growing
+pub mod SameWindows
 pub mod SamePuts
 pub mod AsBefore

@@ -8,6 +8,8 @@ use native.Mathlib.Omega.{arith}
 use lib.Dec.{eqb}
 use lib.ListN.{getD, set, replicate}
 use borrow.Author.Tests.{eqb-true, eq-eqb}
+use Rattle.model.specs.declared.Growth.{Growth}
+use Rattle.model.specs.declared.Growth.the-variants.{ForPut, ForCommit}
 use Rattle.model.specs.declared.Kind.{Kind}
 use Rattle.model.specs.declared.Kind.the-variants.{Lifo, Fifo, Deque}
 use Rattle.model.specs.declared.Line.{Line}
@@ -86,10 +88,10 @@ module _ (q : Queue) (l : Line) where
   take-read Fifo = never
   take-read Deque = never
 
-  note-all : (t : Task) (h k : ℕ) → Leads q l (noteAll t h k)
+  note-all : (t : Growth) (h k : ℕ) → Leads q l (noteAll t h k)
   note-all t h k = either-line (eqb k 0) (Publish t) (Copy t h k 0) never never
 
-  noted : (κ : Kind) (z : ℕ) (t : Task) → Leads q l (note κ z (q .anchor) t)
+  noted : (κ : Kind) (z : ℕ) (t : Growth) → Leads q l (note κ z (q .anchor) t)
   noted Lifo z t = note-all t 0 z
   noted Fifo z t = note-all t (q .anchor .head) (q .anchor .count - q .anchor .head)
   noted Deque z t = note-all t (q .anchor .head) (q .anchor .count)
@@ -120,7 +122,8 @@ line-leads κ w ω q m i low τ (PutFinish t r) s n = never
 line-leads κ w ω q m i low τ (Claim t) s n = either-end q (Claim t) (fits ω q m) _ _ never never
 line-leads κ w ω q m i low τ (Note t) s n = noted q (Note t) κ (size ω q) t
 line-leads κ w ω q m i low τ (Copy t h j k) s n = either-line q (Copy t h j k) (eqb (k + 1) j) _ _ never never
-line-leads κ w ω q m i low τ (Publish t) s n = never
+line-leads κ w ω q m i low τ (Publish (ForPut t)) s n = never
+line-leads κ w ω q m i low τ (Publish ForCommit) s n = never
 line-leads κ w ω q m i low τ TakeRead s n = take-read q TakeRead κ
 line-leads κ w ω q m i low τ (TakeTail h) s n = never
 line-leads κ w ω q m i low τ (TakeTest r) s n = either-end q (TakeTest r) (isEmpty κ r) _ _ never never
@@ -161,7 +164,8 @@ own-past κ w ω z low τ (PutTail t h) s e = true≢false (sym e)
 own-past κ w ω z low τ (PutTest t r) s e = true≢false (sym e)
 own-past κ w ω z low τ (PutWord t r j) s e = true≢false (sym e)
 own-past κ w ω z low τ (PutFinish t r) s e = true≢false (sym e)
-own-past κ w ω z low τ (Claim t) s e = true≢false (sym e)
+own-past κ w ω z low τ (Claim (ForPut t)) s e = true≢false (sym e)
+own-past κ w ω z low τ (Claim ForCommit) s e = true≢false (sym e)
 own-past κ w ω z low τ (Note t) s e = true≢false (sym e)
 own-past κ w ω z low τ (Copy t h n k) s e = true≢false (sym e)
 own-past κ w ω z low τ (Publish t) s e = true≢false (sym e)

@@ -4,12 +4,13 @@ use mathlib.Core.Bool.{Bool, true, false}
 use mathlib.Core.List.{List, [], _∷_}
 use Prim.Native.Nat.{ℕ, zero, suc}
 use native.Mathlib.Omega.{arith}
+use Rattle.model.specs.declared.Growth.the-variants.{ForPut, ForCommit}
 use Rattle.model.specs.declared.Kind.{Kind}
 use Rattle.model.specs.declared.Line.{Line}
 use Rattle.model.specs.declared.Line.the-variants.{Idle, PutRead, PutTail, PutTest, PutWord, PutFinish, Claim, Note, Copy, Publish, TakeRead, TakeTail, TakeTest, TakeWord, TakeFinish, StealRead, StealTail, StealTest, StealNote, StealWord, StealNext, StealCompare}
 use Rattle.model.specs.declared.Queue.{Queue}
 use Rattle.model.specs.declared.Operation.{Operation}
-use Rattle.model.specs.declared.Operation.the-variants.{Put, Take, Steal}
+use Rattle.model.specs.declared.Operation.the-variants.{Put, Take, Steal, Commit}
 use Rattle.model.specs.declared.Refusal.{Refusal}
 use Rattle.model.specs.declared.Refusal.the-variants.{ForeignState}
 use Rattle.model.specs.declared.Answer.{Answer}
@@ -46,7 +47,8 @@ line-answers κ w ω q m i (PutFinish t r) = refl
 line-answers κ w ω q m i (Claim t) = either (fits ω q m) _ _ refl refl
 line-answers κ w ω q m i (Note t) = refl
 line-answers κ w ω q m i (Copy t h j k) = refl
-line-answers κ w ω q m i (Publish t) = refl
+line-answers κ w ω q m i (Publish (ForPut t)) = refl
+line-answers κ w ω q m i (Publish ForCommit) = refl
 line-answers κ w ω q m i TakeRead = refl
 line-answers κ w ω q m i (TakeTail h) = refl
 line-answers κ w ω q m i (TakeTest r) = either (isEmpty κ r) _ _ refl refl
@@ -64,6 +66,7 @@ begin-answers : (op : Operation) (u : ℕ) → isRefused (beginAnswer op u) ≡ 
 begin-answers (Put p) u = refl
 begin-answers Take u = refl
 begin-answers Steal u = refl
+begin-answers Commit u = refl
 
 abbrev NotForeign : Outcome → Type 0
 NotForeign D = D .answer ≡ Refused ForeignState → ⊥
@@ -77,7 +80,7 @@ effect-answers U (suc k) = line-answers _ _ _ _ _ (suc k) (lineAt (U .bench .wor
 
 not-foreign : (U : World) (c : Call) → validOf U ≡ true → NotForeign (callOf U c)
 not-foreign U c ok =
-    call-cases NotForeign U lawful (λ i op B. no-refusal _ (begin-answers op (U .bench .used))) (λ i M. no-refusal _ (effect-answers U i)) (λ i. no-refusal _ refl) (λ some. no-refusal _ refl) c
+    call-cases NotForeign U lawful (λ i op B. no-refusal _ (begin-answers op (U .bench .used))) (λ i M. no-refusal _ (effect-answers U i)) (λ i. no-refusal _ refl) (λ some. no-refusal _ refl) (λ n A. no-refusal _ refl) c
   where
     lawful : (r : Refusal) → Lawful U r → NotForeign (refuse U r)
     lawful r l q = let s : r ≡ ForeignState = cc in let f = l s in let y : _≡_ {A = ℕ} 0 1 = cc in omega arith

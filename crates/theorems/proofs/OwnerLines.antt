@@ -8,6 +8,8 @@ use native.Mathlib.Omega.{arith}
 use lib.Dec.{eqb}
 use lib.ListN.{length, getD, set}
 use borrow.Author.Tests.{eqb-true, eqb-false}
+use Rattle.model.specs.declared.Growth.{Growth}
+use Rattle.model.specs.declared.Growth.the-variants.{ForPut, ForCommit}
 use Rattle.model.specs.declared.Kind.{Kind}
 use Rattle.model.specs.declared.Kind.the-variants.{Lifo, Fifo, Deque}
 use Rattle.model.specs.declared.Line.{Line}
@@ -22,7 +24,7 @@ use Rattle.model.specs.Tests.{if_then_else_}
 use Rattle.model.specs.Memory.{offsetAt, sizeAt}
 use Rattle.model.specs.Calls.{step}
 use Rattle.theorems.proofs.Words.{off}
-use Rattle.model.specs.Lines.{Effect, eff, goes, size, wordOf, writeWord, putOn, copyWords, fits, lineStep}
+use Rattle.model.specs.Lines.{Effect, eff, goes, size, wordOf, writeWord, putOn, copyWords, fits, lineStep, taskFor}
 use Rattle.model.specs.Figures.{slot, isFull, isEmpty, putStore, anchor}
 use Rattle.model.specs.Tasks.{noTask, wordIn, withWord, gathered}
 use Rattle.model.proofs.Tasks.{same-words, no-words, next-is}
@@ -30,12 +32,13 @@ use Rattle.model.proofs.Directory.{Size, size-pos, size-twice}
 use Rattle.theorems.proofs.Events.{quiet, line-1, handed-out, waiting-put, event-of, History, Out, Told, Answered, Emptied, GoodEvent}
 use Rattle.theorems.proofs.Words.{slots-apart, addr, addr-in, cell, put-word, put-same, put-twin, put-other, put-above, put-low, put-length, word-W}
 use Rattle.theorems.proofs.Remainders.{slot-ne, le-or-lt}
-use Rattle.theorems.proofs.Window.{View, word, taskAt, later, Begun, begun-later}
+use Rattle.theorems.proofs.Window.{View, word, taskAt, later, begun-later}
 use Rattle.theorems.proofs.Indices.{StandsFor, Start, taken-ix, put-ix, take-ix, start-ix, full-no, empty-yes, empty-no}
 use Rattle.theorems.proofs.Owed.{view, sight, tags, los, his, IsFifo, Claimed, Copied, Clear, Fits, Owed, owed-join, words-join}
 use Rattle.theorems.proofs.Folds.{words, AllWords, words-keep, copy-words}
 use Rattle.theorems.proofs.ShapeLay.{same-places}
-use Rattle.theorems.proofs.Invariant.{Written, OwnerOk, cut-now, emp-keep}
+use Rattle.theorems.proofs.ShapeClaim.{words-length}
+use Rattle.theorems.proofs.Invariant.{Written, Copying, OwnerOk, cut-now, emp-keep, growth-later, BegunFor}
 
 -- what the owner knows of what it reads; g: the tag
 pub record Facts (κ : Kind) (ω : ℕ) (Q : Queue) (μ : List ℕ) (lo hi g : ℕ) (h : History) : Type 0 where
@@ -133,7 +136,7 @@ put-on κ ω Q μ lo hi g h t r j x e F I = go x e
     )
 
 -- X2: the indices from lo up are noted, q of them
-noted-x2 : (κ : Kind) (v : View) (g : ℕ) (h : History) (t : Task) (a q lo : ℕ) (x : Bool) → eqb q 0 ≡ x → Begun (v .words) t h
+noted-x2 : (κ : Kind) (v : View) (g : ℕ) (h : History) (t : Growth) (a q lo : ℕ) (x : Bool) → eqb q 0 ≡ x → BegunFor (v .words) t h
     → Claimed v → Start κ a lo → lo ≤ v .own-lo → v .own-hi ≤ lo + q → q ≤ v .slots → OwnerOk κ v g h (if x then Publish t else Copy t a q 0)
 unfolding if_then_else_
 noted-x2 κ v g h t a q lo true e B C S l u f = (B, C, λ i j b c d. absurd (omega (arith, eqb-true q 0 e)))
@@ -202,6 +205,25 @@ copy-more ω Q μ own-lo own-hi lo hi hz R hk C i j p q hj = go (le-or-lt hi i) 
         same : i ≡ hi
         same = omega arith
 
+-- one task more is copied, from index f + k, and the current array keeps its words
+pub record CopiedOne (κ : Kind) (ω : ℕ) (Q : Queue) (μ : List ℕ) (lo hi a k f : ℕ) : Type 0 where
+  pub copied : Copied (view ω Q (words ω (Q .arrays) (copyWords κ ω Q μ (a + k) (ω + 1)) μ) lo hi) f (suc (f + k))
+  pub same :
+      (i j : ℕ) → j < ω + 1
+      → cell ω (words ω (Q .arrays) (copyWords κ ω Q μ (a + k) (ω + 1)) μ) (off Q) (size ω Q) i j ≡ cell ω μ (off Q) (size ω Q) i j
+
+pub copy-step : (κ : Kind) (ω : ℕ) (Q : Queue) (μ : List ℕ) (lo hi a q k : ℕ) → Size (size ω Q) → (R : Claimed (view ω Q μ lo hi)) → (C : Copying κ (view ω Q μ lo hi) a q k) → CopiedOne κ ω Q μ lo hi a k (C .from)
+copy-step κ ω Q μ lo hi a q k Z R C =
+    record {
+      copied = subst (λ (m : List ℕ). Copied (view ω Q m lo hi) (C .from) (suc (C .from + k))) (sym at-k) (copy-more ω Q μ lo hi (C .from) (C .from + k) (size-pos Z) R (omega (arith, C .few, C .more)) (C .copied));
+      same = λ i j h. ap (λ (m : List ℕ). cell ω m (off Q) (size ω Q) i j) at-k ∙ copy-same ω Q μ (C .from + k) (ω + 1) i j (size-pos Z) h;
+    }
+  where
+    at-k : words ω (Q .arrays) (copyWords κ ω Q μ (a + k) (ω + 1)) μ ≡ copyTo ω Q μ (C .from + k) (ω + 1)
+    at-k =
+        copy-is κ ω Q μ (a + k) (C .from + k) (ω + 1) (R .2) (R .3) (start-ix Z κ a (C .from) k (omega (arith, C .few, C .more)) (C .start))
+        (start-ix (size-twice Z (R .1)) κ a (C .from) k (omega (arith, C .few, C .more)) (C .start))
+
 -- words change nothing of what the owner reads but the store
 sight-words : (κ : Kind) (ω : ℕ) (ss : List Store) (Q : Queue) (μ : List ℕ) (lo hi : ℕ) → AllWords ss → sight κ ω ss Q μ lo hi ≡ view ω Q (words ω (Q .arrays) ss μ) lo hi
 sight-words κ ω ss Q μ lo hi a =
@@ -227,7 +249,7 @@ module _ (w ω : ℕ) (δ : Bool) (y : ℕ) (Q : Queue) (μ : List ℕ) (lo hi g
   put-tail Deque t a F k = absurd (k .1 .0)
 
   put-test : (κ : Kind) (t : Task) (r : Anchor) (x : Bool) → isFull κ (size ω Q) r ≡ x → Facts κ ω Q μ lo hi g h → OwnerOk κ (view ω Q μ lo hi) g h (PutTest t r)
-      → Next κ w ω δ y Q μ lo hi g h (PutTest t r) (goes (if x then Claim t else PutWord t r 0))
+      → Next κ w ω δ y Q μ lo hi g h (PutTest t r) (goes (if x then Claim (ForPut t) else PutWord t r 0))
   unfolding if_then_else_
   put-test κ t r true e F k = ((tt, begun-later quiet tt (k .0)), tt)
   put-test κ t r false e F k = ((tt, (begun-later quiet tt (k .0), (k .1 .0, k .1 .1, full-no κ (size ω Q) r lo hi (k .1 .0) (F .fit) e, omega arith, λ j l. absurd (omega arith)))), tt)
@@ -240,14 +262,14 @@ module _ (w ω : ℕ) (δ : Bool) (y : ℕ) (Q : Queue) (μ : List ℕ) (lo hi g
   put-fits Deque t r hr k A = (tt, (k .1 .0 .0, omega (arith, k .1 .0 .1)), ap (λ (x : ℕ). (x + 1) % 2 ^ w) (k .1 .1), (k .1 .2, A))
 
   -- X2
-  note-x2 : (κ : Kind) (t : Task) → Facts κ ω Q μ lo hi g h → Seen κ Q lo hi h → OwnerOk κ (view ω Q μ lo hi) g h (Note t) → Next κ w ω δ y Q μ lo hi g h (Note t) (lineStep κ w ω Q μ 0 (Note t))
+  note-x2 : (κ : Kind) (t : Growth) → Facts κ ω Q μ lo hi g h → Seen κ Q lo hi h → OwnerOk κ (view ω Q μ lo hi) g h (Note t) → Next κ w ω δ y Q μ lo hi g h (Note t) (lineStep κ w ω Q μ 0 (Note t))
   unfolding lineStep
   note-x2 Lifo t F X k =
-      ((tt, noted-x2 Lifo (view ω Q μ lo hi) g (quiet ∷ h) t 0 (size ω Q) 0 (eqb (size ω Q) 0) refl (begun-later quiet tt (k .0)) (k .1) (refl, refl) (omega arith) (omega (arith, F .fit, X .exact .1)) (omega arith)), tt)
+      ((tt, noted-x2 Lifo (view ω Q μ lo hi) g (quiet ∷ h) t 0 (size ω Q) 0 (eqb (size ω Q) 0) refl (growth-later ω h quiet tt t (k .0)) (k .1) (refl, refl) (omega arith) (omega (arith, F .fit, X .exact .1)) (omega arith)), tt)
   note-x2 Fifo t F X k = (
     (
       tt,
-      noted-x2 Fifo (view ω Q μ lo hi) g (quiet ∷ h) t (Q .anchor .head) (Q .anchor .count - Q .anchor .head) lo (eqb (Q .anchor .count - Q .anchor .head) 0) refl (begun-later quiet tt (k .0)) (k .1) (sym (X .exact .0)) (omega arith)
+      noted-x2 Fifo (view ω Q μ lo hi) g (quiet ∷ h) t (Q .anchor .head) (Q .anchor .count - Q .anchor .head) lo (eqb (Q .anchor .count - Q .anchor .head) 0) refl (growth-later ω h quiet tt t (k .0)) (k .1) (sym (X .exact .0)) (omega arith)
           (omega (arith, X .exact .0, X .exact .1, F .mid)) (omega (arith, X .exact .0, X .exact .1, F .fit, F .mid)),
     ),
     tt,
@@ -255,14 +277,14 @@ module _ (w ω : ℕ) (δ : Bool) (y : ℕ) (Q : Queue) (μ : List ℕ) (lo hi g
   note-x2 Deque t F X k = (
     (
       tt,
-      noted-x2 Deque (view ω Q μ lo hi) g (quiet ∷ h) t (Q .anchor .head) (Q .anchor .count) lo (eqb (Q .anchor .count) 0) refl (begun-later quiet tt (k .0)) (k .1) (X .exact .0) (omega arith)
+      noted-x2 Deque (view ω Q μ lo hi) g (quiet ∷ h) t (Q .anchor .head) (Q .anchor .count) lo (eqb (Q .anchor .count) 0) refl (growth-later ω h quiet tt t (k .0)) (k .1) (X .exact .0) (omega arith)
           (omega (arith, X .exact .1)) (omega (arith, X .exact .1, F .fit)),
     ),
     tt,
   )
 
   -- X3
-  copy-x3 : (κ : Kind) (t : Task) (a q k : ℕ) (x : Bool) → eqb (k + 1) q ≡ x → Facts κ ω Q μ lo hi g h → OwnerOk κ (view ω Q μ lo hi) g h (Copy t a q k)
+  copy-x3 : (κ : Kind) (t : Growth) (a q k : ℕ) (x : Bool) → eqb (k + 1) q ≡ x → Facts κ ω Q μ lo hi g h → OwnerOk κ (view ω Q μ lo hi) g h (Copy t a q k)
       → Next κ w ω δ y Q μ lo hi g h (Copy t a q k) (eff (copyWords κ ω Q μ (a + k) (ω + 1)) (if x then Publish t else Copy t a q (k + 1)) GoesOn)
   unfolding if_then_else_
   copy-x3 κ t a q k x e F (Bg, R, C) =
@@ -277,16 +299,14 @@ module _ (w ω : ℕ) (δ : Bool) (y : ℕ) (Q : Queue) (μ : List ℕ) (lo hi g
       some : (n : ℕ) → AllWords (copyWords κ ω Q μ (a + k) n)
       some = copy-words κ ω Q μ (a + k)
 
-      at-k : words ω (Q .arrays) (copyWords κ ω Q μ (a + k) (ω + 1)) μ ≡ copyTo ω Q μ (f + k) (ω + 1)
-      at-k =
-          copy-is κ ω Q μ (a + k) (f + k) (ω + 1) (R .2) (R .3) (start-ix (F .sized) κ a f k (omega (arith, C .few, C .more)) (C .start))
-          (start-ix (size-twice (F .sized) (R .1)) κ a f k (omega (arith, C .few, C .more)) (C .start))
+      X : CopiedOne κ ω Q μ lo hi a k f
+      X = copy-step κ ω Q μ lo hi a q k (F .sized) R C
 
       v′ : View
-      v′ = view ω Q (copyTo ω Q μ (f + k) (ω + 1)) lo hi
+      v′ = view ω Q (words ω (Q .arrays) (copyWords κ ω Q μ (a + k) (ω + 1)) μ) lo hi
 
       seen : sight κ ω (copyWords κ ω Q μ (a + k) (ω + 1)) Q μ lo hi ≡ v′
-      seen = sight-words κ ω (copyWords κ ω Q μ (a + k) (ω + 1)) Q μ lo hi (some (ω + 1)) ∙ ap (λ (m : List ℕ). view ω Q m lo hi) at-k
+      seen = sight-words κ ω (copyWords κ ω Q μ (a + k) (ω + 1)) Q μ lo hi (some (ω + 1))
 
       above : (s n : ℕ) → n < ω + 1 → Clear (view ω Q μ lo hi) (offsetAt (Q .arrays) (Q .published) + (ω + 1) * s + n)
       above s n l = (omega (arith, R .2), λ i j p q r. omega (arith, R .2, addr-in ω (off Q) (size ω Q) i j hz r))
@@ -299,15 +319,15 @@ module _ (w ω : ℕ) (δ : Bool) (y : ℕ) (Q : Queue) (μ : List ℕ) (lo hi g
           (sym (sight-words κ ω (copyWords κ ω Q μ (a + k) n) Q μ lo hi (some n))) (above _ n (omega arith), tt))
 
       D : Copied v′ f (suc (f + k))
-      D = copy-more ω Q μ lo hi f (f + k) hz R (omega (arith, C .few, C .more)) (C .copied)
+      D = X .copied
 
       room : Claimed v′
-      room = (omega (arith, copy-length ω Q μ (f + k) (ω + 1), R .0), R .1, R .2, R .3, R .4)
+      room = (omega (arith, words-length ω (Q .arrays) (copyWords κ ω Q μ (a + k) (ω + 1)) μ, R .0), R .1, R .2, R .3, R .4)
 
       go : (x : Bool) → eqb (k + 1) q ≡ x → OwnerOk κ v′ g (quiet ∷ h) (if x then Publish t else Copy t a q (k + 1))
-      go true e = (begun-later quiet tt Bg, room, λ i j b c hj. D i j (omega (arith, C .low)) (omega (arith, C .high, eqb-true (k + 1) q e)) hj)
+      go true e = (growth-later ω h quiet tt t Bg, room, λ i j b c hj. D i j (omega (arith, C .low)) (omega (arith, C .high, eqb-true (k + 1) q e)) hj)
       go false e = (
-        begun-later quiet tt Bg,
+        growth-later ω h quiet tt t Bg,
         room,
         record {
           from = f;
@@ -359,9 +379,9 @@ take-on κ ω v g h r t x j true e wide q (R, G, l, u, T) is =
 take-on κ ω v g h r t x j false e wide q (R, G, l, u, T) is = (R, G, l, omega (arith, eqb-false j ω e), next-is j t x _ T is (omega arith))
 
 -- X1 that answers FULL
-claim-full : (κ : Kind) (w ω : ℕ) (δ : Bool) (y : ℕ) (Q : Queue) (μ : List ℕ) (lo hi g : ℕ) (h : History) (t : Task) (x : Bool)
-    → (if x then record { claims = true; stores = []; line = Note t; answer = GoesOn } else eff [] Idle (Full 0 t)) .claims ≡ false
-    → Next κ w ω δ y Q μ lo hi g h (Claim t) (if x then record { claims = true; stores = []; line = Note t; answer = GoesOn } else eff [] Idle (Full 0 t))
+claim-full : (κ : Kind) (w ω : ℕ) (δ : Bool) (y : ℕ) (Q : Queue) (μ : List ℕ) (lo hi g : ℕ) (h : History) (t : Growth) (x : Bool)
+    → (if x then record { claims = true; stores = []; line = Note t; answer = GoesOn } else eff [] Idle (Full 0 (taskFor t))) .claims ≡ false
+    → Next κ w ω δ y Q μ lo hi g h (Claim t) (if x then record { claims = true; stores = []; line = Note t; answer = GoesOn } else eff [] Idle (Full 0 (taskFor t)))
 unfolding if_then_else_
 claim-full κ w ω δ y Q μ lo hi g h t true f = absurd (let z : _≡_ {A = ℕ} 0 1 = cc in omega arith)
 claim-full κ w ω δ y Q μ lo hi g h t false f = ((tt, tt), tt)
@@ -386,7 +406,8 @@ own-next κ w ω δ y Q μ lo hi g h (PutFinish t r) wide F X k f d = finish-lat
 own-next κ w ω δ y Q μ lo hi g h (Claim t) wide F X k f d = claim-full κ w ω δ y Q μ lo hi g h t (fits ω Q μ) f
 own-next κ w ω δ y Q μ lo hi g h (Note t) wide F X k f d = note-x2 w ω δ y Q μ lo hi g h κ t F (X tt) k
 own-next κ w ω δ y Q μ lo hi g h (Copy t a q i) wide F X k f d = copy-x3 w ω δ y Q μ lo hi g h κ t a q i (eqb (i + 1) q) refl F k
-own-next κ w ω δ y Q μ lo hi g h (Publish t) wide F X k f d = ((((refl, k .1, k .2), tt), begun-later quiet tt (k .0)), tt)
+own-next κ w ω δ y Q μ lo hi g h (Publish (ForPut t)) wide F X k f d = ((((refl, k .1, k .2), tt), begun-later quiet tt (k .0)), tt)
+own-next κ w ω δ y Q μ lo hi g h (Publish ForCommit) wide F X k f d = ((((refl, k .1, k .2), tt), tt), tt)
 own-next κ w ω δ y Q μ lo hi g h TakeRead wide F X k f d = take-read w ω δ y Q μ lo hi g h κ F (X tt)
 own-next κ w ω δ y Q μ lo hi g h (TakeTail a) wide F X k f d = take-tail w ω δ y Q μ lo hi g h κ a F k
 own-next κ w ω δ y Q μ lo hi g h (TakeTest r) wide F X k f d = take-test w ω δ y Q μ lo hi g h κ r (isEmpty κ r) refl F k

@@ -6,13 +6,15 @@ use mathlib.Core.List.{List, [], _∷_, _++_, map, List·Memᴰ, List·Memᴰ·t
 use Prim.Native.Nat.{ℕ, suc, _+_, _-_, _≤_, _<_}
 use native.Mathlib.Omega.{arith}
 use lib.ListN.{length, take}
+use Rattle.model.specs.declared.Growth.{Growth}
+use Rattle.model.specs.declared.Growth.the-variants.{ForPut, ForCommit}
 use Rattle.model.specs.declared.Kind.{Kind}
 use Rattle.model.specs.declared.Kind.the-variants.{Lifo, Fifo, Deque}
 use Rattle.model.specs.declared.Line.{Line}
 use Rattle.model.specs.declared.Line.the-variants.{Idle, PutRead, PutTail, PutTest, PutWord, PutFinish, Claim, Note, Copy, Publish, TakeRead, TakeTail, TakeTest, TakeWord, TakeFinish, StealRead, StealTail, StealTest, StealNote, StealWord, StealNext, StealCompare}
 use Rattle.model.specs.declared.Queue.{Queue}
 use Rattle.model.specs.declared.Answer.{Answer}
-use Rattle.model.specs.declared.Answer.the-variants.{Accepted, Numbered, GoesOn, Finished, HandedOut, Empty, Full, Refused}
+use Rattle.model.specs.declared.Answer.the-variants.{Accepted, Numbered, GoesOn, Finished, HandedOut, Empty, Full, Refused, Grown}
 use Rattle.model.specs.declared.Task.{Task}
 use Rattle.model.specs.declared.Anchor.{Anchor}
 use Rattle.model.specs.declared.Store.{Store}
@@ -24,16 +26,16 @@ use Rattle.theorems.proofs.Held.{line-join, line-length}
 use Rattle.model.specs.Tests.{if_then_else_}
 use Rattle.model.specs.Memory.{zeros}
 use Rattle.model.specs.Calls.{step, joining, landing}
-use Rattle.model.specs.Lines.{Effect, eff, succeeds, copyWords, fits, lineStep}
+use Rattle.model.specs.Lines.{Effect, eff, succeeds, copyWords, fits, lineStep, taskFor}
 use Rattle.model.specs.Stores.{inLine, joined, taken, nextLength, claiming}
 use Rattle.model.specs.Figures.{isEmpty, putStore, takeStore, stealStore}
 use Rattle.theorems.proofs.Events.{Event, quiet, line-1, finished-put, handed-out, failed-compare, found-empty, began-put, found-full, waiting-put, is-line-1, is-compare, event-of-finish, event-of, History, Out, Told, Answered, GoodEvent}
-use Rattle.theorems.proofs.Window.{View, taskAt, NotDone, begun-later}
+use Rattle.theorems.proofs.Window.{View, taskAt, NotDone}
 use Rattle.theorems.proofs.Indices.{StandsFor}
 use Rattle.model.proofs.Tasks.{number-gathered}
 use Rattle.theorems.proofs.Order.{Order, Rising, NotOut, Dull, order-ev, order-drop, rising-put, rising-take, rising-dull}
 use Rattle.theorems.proofs.Owed.{view, sight, los, his, tags, loOf, hiOf, IsFifo, IsPut, Fits, Label, owed-join, label-join, label-last, los-join, his-join, tags-join, words-join}
-use Rattle.theorems.proofs.Invariant.{OwnerOk, Base, drain-of, Since, Due, DueIf, Inv, Calm}
+use Rattle.theorems.proofs.Invariant.{OwnerOk, Base, drain-of, Since, Due, DueIf, Inv, Calm, growth-later}
 use Rattle.theorems.proofs.Laying.{base-ev, base-line, Laid, base-lay, base-lay-put}
 use Rattle.theorems.proofs.Settle.{Settled, settle}
 use Rattle.theorems.proofs.Refresh.{Refreshed, refresh, tag-keep, tail-keep}
@@ -72,6 +74,7 @@ step-mild ω δ y o (HandedOut i t) f = go (is-compare o)
     go false = plain-mild δ y (HandedOut i t) (handed-out 0 t) tt refl (λ k. tt) (λ t n x. let z : _≡_ {A = ℕ} 0 1 = cc in omega arith)
 step-mild ω δ y o (Empty i) f = plain-mild δ y (Empty i) (found-empty i) tt refl (λ k. tt) (λ t n x. let z : _≡_ {A = ℕ} 0 1 = cc in omega arith)
 step-mild ω δ y o (Full i t) f = plain-mild δ y (Full i t) (found-full t) tt refl (λ k. tt) (λ t n x. let z : _≡_ {A = ℕ} 0 1 = cc in omega arith)
+step-mild ω δ y o (Grown i) f = plain-mild δ y (Grown i) quiet tt refl (λ k. tt) (λ t n x. let z : _≡_ {A = ℕ} 0 1 = cc in omega arith)
 step-mild ω δ y o (Refused r) f = plain-mild δ y (Refused r) quiet tt refl (λ k. tt) (λ t n x. let z : _≡_ {A = ℕ} 0 1 = cc in omega arith)
 
 -- only a put's last line finishes
@@ -83,6 +86,7 @@ isFinished (Finished i t) = true
 isFinished (HandedOut i t) = false
 isFinished (Empty i) = false
 isFinished (Full i t) = false
+isFinished (Grown i) = false
 isFinished (Refused r) = false
 
 neither : (x : Bool) (E E′ : Effect) → isFinished (E .answer) ≡ false → isFinished (E′ .answer) ≡ false → isFinished ((if x then E else E′) .answer) ≡ false
@@ -104,7 +108,8 @@ finish-only κ w ω Q μ n (PutFinish t r) i u q = let e : t ≡ u = cc in (r, a
 finish-only κ w ω Q μ n (Claim t) i u q = unfinished _ i u (neither (fits ω Q μ) _ _ refl refl) q
 finish-only κ w ω Q μ n (Note t) i u q = unfinished _ i u refl q
 finish-only κ w ω Q μ n (Copy t h j k) i u q = unfinished _ i u refl q
-finish-only κ w ω Q μ n (Publish t) i u q = unfinished _ i u refl q
+finish-only κ w ω Q μ n (Publish (ForPut t)) i u q = unfinished _ i u refl q
+finish-only κ w ω Q μ n (Publish ForCommit) i u q = unfinished _ i u refl q
 finish-only κ w ω Q μ n TakeRead i u q = unfinished _ i u refl q
 finish-only κ w ω Q μ n (TakeTail h) i u q = unfinished _ i u refl q
 finish-only κ w ω Q μ n (TakeTest r) i u q = unfinished _ i u (neither (isEmpty κ r) _ _ refl refl) q
@@ -154,7 +159,8 @@ none-put κ w ω Q μ (PutFinish t r) d = absurd (d t r refl)
 none-put κ w ω Q μ (Claim t) d = two-none (fits ω Q μ) _ _ tt tt
 none-put κ w ω Q μ (Note t) d = tt
 none-put κ w ω Q μ (Copy t h j k) d = words-none (copyWords κ ω Q μ (h + k) (ω + 1)) (copy-words κ ω Q μ (h + k) (ω + 1))
-none-put κ w ω Q μ (Publish t) d = (tt, tt)
+none-put κ w ω Q μ (Publish (ForPut t)) d = (tt, tt)
+none-put κ w ω Q μ (Publish ForCommit) d = (tt, tt)
 none-put κ w ω Q μ TakeRead d = tt
 none-put κ w ω Q μ (TakeTail h) d = tt
 none-put κ w ω Q μ (TakeTest r) d = two-none (isEmpty κ r) _ _ tt tt
@@ -324,7 +330,8 @@ order-next κ w ω δ y Q μ ss (PutFinish t r) φ h I none f d = finish-order �
 order-next κ w ω δ y Q μ ss (Claim t) φ h I none f d = either-order κ _ _ ss h ω δ y (Claim t) (fits ω (laid ss Q) (words ω (Q .arrays) ss μ)) _ _ tt tt tt tt (I .order)
 order-next κ w ω δ y Q μ ss (Note t) φ h I none f d = dull-order κ _ _ ss _ h _ tt tt (I .order)
 order-next κ w ω δ y Q μ ss (Copy t a j k) φ h I none f d = dull-order κ _ _ ss (copyWords κ ω (laid ss Q) (words ω (Q .arrays) ss μ) (a + k) (ω + 1)) h quiet tt (words-dull (copyWords κ ω (laid ss Q) (words ω (Q .arrays) ss μ) (a + k) (ω + 1)) (copy-words κ ω (laid ss Q) (words ω (Q .arrays) ss μ) (a + k) (ω + 1))) (I .order)
-order-next κ w ω δ y Q μ ss (Publish t) φ h I none f d = dull-order κ _ _ ss _ h _ tt tt (I .order)
+order-next κ w ω δ y Q μ ss (Publish (ForPut t)) φ h I none f d = dull-order κ _ _ ss _ h _ tt tt (I .order)
+order-next κ w ω δ y Q μ ss (Publish ForCommit) φ h I none f d = dull-order κ _ _ ss _ h _ tt tt (I .order)
 order-next κ w ω δ y Q μ ss TakeRead φ h I none f d = dull-order κ _ _ ss _ h _ tt tt (I .order)
 order-next κ w ω δ y Q μ ss (TakeTail a) φ h I none f d = dull-order κ _ _ ss _ h _ tt tt (I .order)
 order-next κ w ω δ y Q μ ss (TakeTest r) φ h I none f d = either-order κ _ _ ss h ω δ y (TakeTest r) (isEmpty κ r) _ _ tt tt tt tt (I .order)
@@ -451,14 +458,14 @@ module _ (κ : Kind) (w ω : ℕ) (δ : Bool) (y : ℕ) (Q : Queue) (μ : List �
       due false x D = none-waits e h (λ t n q. let P = finish-only κ w ω (laid ss Q) (words ω (Q .arrays) ss μ) 0 o (M .waits t n q .0 .0) t (M .waits t n q .0 .1) in not-both δ (sym x) (d t (P .0) (P .1))) D
 
 -- X1
-pub own-claim : (κ : Kind) (w ω : ℕ) (δ : Bool) (used low : ℕ) (Q : Queue) (μ : List ℕ) (ss : List Store) (t : Task) (φ : ℕ → Line) (h : History) → Shape κ w ω used low Q μ ss (Claim t) φ
+pub own-claim : (κ : Kind) (w ω : ℕ) (δ : Bool) (used low : ℕ) (Q : Queue) (μ : List ℕ) (ss : List Store) (t : Growth) (φ : ℕ → Line) (h : History) → Shape κ w ω used low Q μ ss (Claim t) φ
     → fits ω (laid ss Q) (words ω (Q .arrays) ss μ) ≡ true → Inv κ w ω δ Q μ ss (Claim t) φ h → Inv κ w ω δ (claiming Q) (zeros μ (taken Q) (nextLength Q)) ss (Note t) φ (quiet ∷ h)
 own-claim κ w ω δ used low Q μ ss t φ h S f I =
     record {
       own-lo = I .own-lo;
       own-hi = I .own-hi;
       base = base-ev (C .base) quiet tt (λ k. tt);
-      own = (begun-later quiet tt (I .own), C .claimed);
+      own = (growth-later ω h quiet tt t (I .own), C .claimed);
       due = due δ (due-if-move δ κ _ _ ss h (C .labels) (I .due));
       order = order-ev κ _ _ ss h quiet tt (C .order (I .order));
     }
@@ -525,9 +532,9 @@ Stepped κ w ω δ l Q μ o φ h E =
     × GoodEvent δ (event-of ω δ (l .count) (step 0) o (E .answer)) h
 
 -- X1
-claim-result : (κ : Kind) (w ω : ℕ) (δ : Bool) (l : Waiting) (Q : Queue) (μ : List ℕ) (t : Task) (φ : ℕ → Line) (h : History) (x : Bool) → x ≡ true → l .count ≤ length (l .stores)
+claim-result : (κ : Kind) (w ω : ℕ) (δ : Bool) (l : Waiting) (Q : Queue) (μ : List ℕ) (t : Growth) (φ : ℕ → Line) (h : History) (x : Bool) → x ≡ true → l .count ≤ length (l .stores)
     → Inv κ w ω δ (claiming Q) (zeros μ (taken Q) (nextLength Q)) (inLine l) (Note t) φ (quiet ∷ h)
-    → Stepped κ w ω δ l Q μ (Claim t) φ h (if x then record { claims = true; stores = []; line = Note t; answer = GoesOn } else eff [] Idle (Full 0 t))
+    → Stepped κ w ω δ l Q μ (Claim t) φ h (if x then record { claims = true; stores = []; line = Note t; answer = GoesOn } else eff [] Idle (Full 0 (taskFor t)))
 unfolding if_then_else_
 claim-result κ w ω δ l Q μ t φ h false e len I = not-both false refl e
 claim-result κ w ω true l Q μ t φ h true e len I = (subst (λ (ss : List Store). Inv κ w ω true (claiming Q) (zeros μ (taken Q) (nextLength Q)) ss (Note t) φ (quiet ∷ h)) (sym (line-join l [] len ∙ no-more (inLine l))) I, tt)
@@ -537,7 +544,7 @@ claim-result κ w ω false l Q μ t φ h true e len I = (subst (λ (ss : List St
 abbrev pub own-effect : Kind → ℕ → ℕ → List Store → Queue → List ℕ → Line → Effect
 own-effect κ w ω ss Q μ o = lineStep κ w ω (laid ss Q) (words ω (Q .arrays) ss μ) 0 o
 
-claim-stepped : (κ : Kind) (w ω : ℕ) (δ : Bool) (l : Waiting) (Q : Queue) (μ : List ℕ) (used low : ℕ) (o : Line) (t : Task) (φ : ℕ → Line) (h : History) → l .count ≤ length (l .stores) → o ≡ Claim t
+claim-stepped : (κ : Kind) (w ω : ℕ) (δ : Bool) (l : Waiting) (Q : Queue) (μ : List ℕ) (used low : ℕ) (o : Line) (t : Growth) (φ : ℕ → Line) (h : History) → l .count ≤ length (l .stores) → o ≡ Claim t
     → fits ω (laid (inLine l) Q) (words ω (Q .arrays) (inLine l) μ) ≡ true → Shape κ w ω used low Q μ (inLine l) o φ → Inv κ w ω δ Q μ (inLine l) o φ h → Stepped κ w ω δ l Q μ o φ h (own-effect κ w ω (inLine l) Q μ o)
 unfolding lineStep
 claim-stepped κ w ω δ l Q μ used low o t φ h len is f S I =

@@ -8,7 +8,7 @@ use Rattle.model.specs.declared.Task.{Task}
 use Rattle.model.specs.Tasks.{task, firstWords}
 use Rattle.model.proofs.Tasks.{first-number}
 use Rattle.model.specs.declared.Operation.{Operation}
-use Rattle.model.specs.declared.Operation.the-variants.{Put, Take, Steal}
+use Rattle.model.specs.declared.Operation.the-variants.{Put, Take, Steal, Commit}
 use Rattle.model.specs.declared.Answer.the-variants.{Numbered, Refused}
 use Rattle.model.specs.declared.Refusal.{Refusal}
 use Rattle.model.specs.World.{World, Outcome}
@@ -21,10 +21,11 @@ used-by : (op : Operation) (u : ℕ) → u ≤ usedBy op u
 used-by (Put p) u = omega arith
 used-by Take u = omega arith
 used-by Steal u = omega arith
+used-by Commit u = omega arith
 
 pub used-kept : (U : World) (c : Call) → U .bench .used ≤ callOf U c .world .bench .used
 used-kept U c =
-    call-cases (λ (D : Outcome). U .bench .used ≤ D .world .bench .used) U (λ r l. omega arith) (λ i op B. used-by op (U .bench .used)) (λ i M. omega arith) (λ i. omega arith) (λ some. omega arith) c
+    call-cases (λ (D : Outcome). U .bench .used ≤ D .world .bench .used) U (λ r l. omega arith) (λ i op B. used-by op (U .bench .used)) (λ i M. omega arith) (λ i. omega arith) (λ some. omega arith) (λ n A. omega arith) c
 
 -- a put that is answered a number has used it
 abbrev NextNumber : World → Outcome → Type 0

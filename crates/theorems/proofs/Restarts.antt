@@ -8,6 +8,8 @@ use lib.Dec.{eqb}
 use lib.ListN.{length}
 use lib.Seq.{getD-set-same, getD-set-other}
 use borrow.Author.Tests.{eqb-true, eqb-false}
+use Rattle.model.specs.declared.Growth.{Growth}
+use Rattle.model.specs.declared.Growth.the-variants.{ForPut, ForCommit}
 use Rattle.model.specs.declared.Kind.{Kind}
 use Rattle.model.specs.declared.Kind.the-variants.{Lifo, Fifo, Deque}
 use Rattle.model.specs.declared.Line.{Line}
@@ -73,7 +75,7 @@ steal-1 Lifo a = refl
 steal-1 Fifo a = refl
 steal-1 Deque a = refl
 
-noted : (κ : Kind) (z : ℕ) (a : Anchor) (t : Task) → isSteal1 (note κ z a t) ≡ false
+noted : (κ : Kind) (z : ℕ) (a : Anchor) (t : Growth) → isSteal1 (note κ z a t) ≡ false
 noted Lifo z a t = either (eqb z 0) (Publish t) (Copy t 0 z 0) refl refl
 noted Fifo z a t = either (eqb (a .count - a .head) 0) (Publish t) (Copy t (a .head) (a .count - a .head) 0) refl refl
 noted Deque z a t = either (eqb (a .count) 0) (Publish t) (Copy t (a .head) (a .count) 0) refl refl
@@ -94,13 +96,14 @@ unfolding lineStep
 back-to-line-1 κ w ω q m i Idle = refl
 back-to-line-1 κ w ω q m i (PutRead t) = put-1 κ (q .anchor) t
 back-to-line-1 κ w ω q m i (PutTail t h) = refl
-back-to-line-1 κ w ω q m i (PutTest t r) = either (isFull κ (size ω q) r) (Claim t) (PutWord t r 0) refl refl
+back-to-line-1 κ w ω q m i (PutTest t r) = either (isFull κ (size ω q) r) (Claim (ForPut t)) (PutWord t r 0) refl refl
 back-to-line-1 κ w ω q m i (PutWord t r j) = either (eqb j ω) (PutFinish t r) (PutWord t r (j + 1)) refl refl
 back-to-line-1 κ w ω q m i (PutFinish t r) = refl
 back-to-line-1 κ w ω q m i (Claim t) = either-left (fits ω q m) _ _ refl refl
 back-to-line-1 κ w ω q m i (Note t) = noted κ (size ω q) (q .anchor) t
 back-to-line-1 κ w ω q m i (Copy t h n k) = either (eqb (k + 1) n) (Publish t) (Copy t h n (k + 1)) refl refl
-back-to-line-1 κ w ω q m i (Publish t) = refl
+back-to-line-1 κ w ω q m i (Publish (ForPut t)) = refl
+back-to-line-1 κ w ω q m i (Publish ForCommit) = refl
 back-to-line-1 κ w ω q m i TakeRead = take-1 κ (q .anchor)
 back-to-line-1 κ w ω q m i (TakeTail h) = refl
 back-to-line-1 κ w ω q m i (TakeTest r) = either-left (isEmpty κ r) _ _ refl refl

@@ -19,20 +19,20 @@ use Rattle.model.specs.declared.Store.{Store}
 use Rattle.model.specs.declared.Waiting.{Waiting}
 use Rattle.model.specs.declared.Store.the-variants.{StoreWord, StoreNote, StorePut, StoreOut, StoreHead, StoreTail}
 use Rattle.model.specs.declared.Operation.{Operation}
-use Rattle.model.specs.declared.Operation.the-variants.{Put, Take, Steal}
+use Rattle.model.specs.declared.Operation.the-variants.{Put, Take, Steal, Commit}
 use Rattle.model.specs.declared.Refusal.{Refusal}
 use Rattle.model.specs.declared.Answer.{Answer}
-use Rattle.model.specs.declared.Answer.the-variants.{Accepted, Numbered, GoesOn, Finished, HandedOut, Empty, Full, Refused}
+use Rattle.model.specs.declared.Answer.the-variants.{Accepted, Numbered, GoesOn, Finished, HandedOut, Empty, Full, Refused, Grown}
 use Rattle.model.specs.Tests.{if_then_else_}
 use Rattle.model.specs.Stores.{inLine, joined, oldest, oneLess}
 use Rattle.model.specs.Figures.{putStore}
 use Rattle.model.specs.Lines.{lineStep}
 use Rattle.model.specs.World.{World, Outcome, refuse, tagBits, lineAt}
-use Rattle.model.specs.Calls.{freshOf, begun, joining, Call, begin, step, dropLink, drain, callOf}
+use Rattle.model.specs.Calls.{freshOf, begun, joining, Call, begin, step, dropLink, drain, callOf, setAside, ask, dropAsk}
 use Rattle.model.specs.Run.{played}
 use Rattle.theorems.specs.Demand3.{finishes, ofPut, arrivesAs, puts, drainsAs, drains, waits}
 use Rattle.theorems.specs.Corollaries.{landed, SamePuts}
-use Rattle.theorems.proofs.Cases.{dropped, effectOf, stepTo, drainTo, begin-cases, step-cases, drop-cases, drain-cases}
+use Rattle.theorems.proofs.Cases.{dropped, effectOf, stepTo, drainTo, begin-cases, step-cases, drop-cases, drain-cases, ask-cases, drop-ask-cases}
 use Rattle.theorems.proofs.Held.{line-join, line-drain, line-length}
 use Rattle.theorems.proofs.Shape.{tail, ThiefShape}
 use Rattle.theorems.proofs.Valid.{Whole}
@@ -98,6 +98,7 @@ unfinished (Finished i t) f = absurd (f i t refl)
 unfinished (HandedOut i t) f = refl
 unfinished (Empty i) f = refl
 unfinished (Full i t) f = refl
+unfinished (Grown i) f = refl
 unfinished (Refused r) f = refl
 
 if-none : (t : Bool) (x : ℕ) → x ≡ 0 → (if t then x else 0) ≡ 0
@@ -154,15 +155,24 @@ unfolding if_then_else_
 refused-pays W (begin i op) r x = nothing-comes W (Refused r) x refl
 refused-pays W (step i) r x = nothing-comes W (Refused r) x refl
 refused-pays W (dropLink i) r x = nothing-comes W (Refused r) x refl
+refused-pays W (ask i) r x = nothing-comes W (Refused r) x refl
+refused-pays W (dropAsk i) r x = nothing-comes W (Refused r) x refl
 refused-pays W drain r x = refused-drain W r x
 
 begun-pays : (W : World) (i : ℕ) (op : Operation) → Pays W (begin i op) (begun W i op)
 begun-pays W i (Put p) x = nothing-comes W (Numbered (W .bench .used + 1)) x refl
 begun-pays W i Take x = nothing-comes W Accepted x refl
 begun-pays W i Steal x = nothing-comes W Accepted x refl
+begun-pays W i Commit x = nothing-comes W Accepted x refl
 
 dropped-pays : (W : World) (i : ℕ) → Pays W (dropLink i) (record { world = dropped W i; answer = Accepted })
 dropped-pays W i x = nothing-comes W Accepted x refl
+
+ask-pays : (W : World) (i n : ℕ) → Pays W (ask i) (setAside W n)
+ask-pays W i n x = nothing-comes W Accepted x refl
+
+drop-ask-pays : (W : World) (i n : ℕ) → Pays W (dropAsk i) (setAside W n)
+drop-ask-pays W i n x = nothing-comes W Accepted x refl
 
 plus-zero : (ss : List Store) (x : ℕ) → first ss x ≡ first ss (x + 0)
 plus-zero ss x = ap (first ss) {x = x} {y = x + 0} (omega arith)
@@ -233,6 +243,8 @@ call-pays : (W : World) → Whole W → (c : Call) → Pays W c (callOf W c)
 call-pays W H (begin i op) = begin-cases (Pays W (begin i op)) W (λ r l. refused-pays W (begin i op) r) i op (λ B. begun-pays W i op)
 call-pays W H (step i) = step-cases (Pays W (step i)) W (λ r l. refused-pays W (step i) r) i (λ M. stepped-pays W H i)
 call-pays W H (dropLink i) = drop-cases (Pays W (dropLink i)) W (λ r l. refused-pays W (dropLink i) r) i (dropped-pays W i)
+call-pays W H (ask i) = ask-cases (Pays W (ask i)) W (λ r l. refused-pays W (ask i) r) i (λ n A. ask-pays W i n)
+call-pays W H (dropAsk i) = drop-ask-cases (Pays W (dropAsk i)) W (λ r l. refused-pays W (dropAsk i) r) i (λ n A. drop-ask-pays W i n)
 call-pays W H drain = drain-cases (Pays W drain) W (λ r l. refused-pays W drain r) (drained-pays W H)
 
 -- A LIST

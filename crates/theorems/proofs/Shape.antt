@@ -1,8 +1,11 @@
 -- The shape of a state: what its limits need, with or without the premise.
-use mathlib.Core.Path.{_≡_}
+use mathlib.Core.Path.{_≡_, refl}
+use mathlib.Core.Bool.{false}
 use mathlib.Core.List.{List, [], _∷_}
-use Prim.Native.Nat.{ℕ, _+_, _-_, _^_, _≤_, _<_}
+use Prim.Native.Nat.{ℕ, _+_, _-_, _%_, _^_, _≤_, _<_}
 use native.Mathlib.Omega.{arith}
+use Rattle.model.specs.declared.Growth.{Growth}
+use Rattle.model.specs.declared.Growth.the-variants.{ForPut, ForCommit}
 use Rattle.model.specs.declared.Kind.{Kind}
 use Rattle.model.specs.declared.Kind.the-variants.{Lifo, Fifo, Deque}
 use Rattle.model.specs.declared.Line.{Line}
@@ -89,10 +92,11 @@ Double Lifo = ⊥
 Double Fifo = ⊥
 Double Deque = Unit {0}
 
-abbrev pub After : Kind → ℕ → Type 0
-After Lifo e = e ≡ 0
-After Fifo e = e ≡ 0
-After Deque e = e < 2048
+-- the head that a thief who read a would store
+abbrev pub After : Kind → ℕ → ℕ → Type 0
+After Lifo a e = e ≡ 0
+After Fifo a e = e ≡ 0
+After Deque a e = e ≡ (a + 1) % 2048
 
 -- a task of which n words are known
 abbrev pub Known : ℕ → Task → Type 0
@@ -104,6 +108,20 @@ none-known = (omega arith, no-words (wordIn noTask))
 pub known-more : (j : ℕ) (t : Task) (x : ℕ) → j < 5 → Known j t → (j ≡ 0 → x ≤ 65535) → Known (j + 1) (withWord t j x)
 known-more j t x h (a, e) f = (number-next j t x a f, known-next j t x h e)
 
+-- the array grows for a put, which is known and open, or for a commit
+abbrev pub KnownFor : ℕ → Growth → Type 0
+KnownFor ω (ForPut t) = Known (ω + 1) t
+KnownFor ω ForCommit = Unit {0}
+
+abbrev pub openFor : Growth → ℕ
+openFor (ForPut t) = 1
+openFor ForCommit = 0
+
+-- X1 has claimed nothing
+pub claim-expands : (g : Growth) → isExpanding (Claim g) ≡ false
+claim-expands (ForPut t) = refl
+claim-expands ForCommit = refl
+
 -- a put is open
 abbrev pub pending : Line → ℕ
 pending Idle = 0
@@ -112,10 +130,10 @@ pending (PutTail t h) = 1
 pending (PutTest t r) = 1
 pending (PutWord t r j) = 1
 pending (PutFinish t r) = 1
-pending (Claim t) = 1
-pending (Note t) = 1
-pending (Copy t h q k) = 1
-pending (Publish t) = 1
+pending (Claim g) = openFor g
+pending (Note g) = openFor g
+pending (Copy g h q k) = openFor g
+pending (Publish g) = openFor g
 pending TakeRead = 0
 pending (TakeTail h) = 0
 pending (TakeTest r) = 0
@@ -142,10 +160,10 @@ OwnShape κ w ω z low τ (PutTail t h) = Known (ω + 1) t × Head κ h low
 OwnShape κ w ω z low τ (PutTest t r) = Known (ω + 1) t × OwnRead κ w z low τ r
 OwnShape κ w ω z low τ (PutWord t r j) = Known (ω + 1) t × OwnRead κ w z low τ r × Room κ z low (r .count) × (j ≤ ω)
 OwnShape κ w ω z low τ (PutFinish t r) = Known (ω + 1) t × OwnRead κ w z low τ r × Room κ z low (r .count)
-OwnShape κ w ω z low τ (Claim t) = Known (ω + 1) t
-OwnShape κ w ω z low τ (Note t) = Known (ω + 1) t
-OwnShape κ w ω z low τ (Copy t h q k) = Known (ω + 1) t × Span κ τ h q × (q ≤ z) × (k < q)
-OwnShape κ w ω z low τ (Publish t) = Known (ω + 1) t
+OwnShape κ w ω z low τ (Claim g) = KnownFor ω g
+OwnShape κ w ω z low τ (Note g) = KnownFor ω g
+OwnShape κ w ω z low τ (Copy g h q k) = KnownFor ω g × Span κ τ h q × (q ≤ z) × (k < q)
+OwnShape κ w ω z low τ (Publish g) = KnownFor ω g
 OwnShape κ w ω z low τ TakeRead = Unit {0}
 OwnShape κ w ω z low τ (TakeTail h) = Head κ h low
 OwnShape κ w ω z low τ (TakeTest r) = OwnRead κ w z low τ r
@@ -182,7 +200,7 @@ ThiefShape κ w ω q τ (StealNote r) = ThiefRead κ w (size ω q) τ r × Some 
 ThiefShape κ w ω q τ (StealWord r k t j) =
     ThiefRead κ w (size ω q) τ r × Some κ r × (k < q .published) × Slot κ (sizeAt ω (q .arrays) k) (r .count) × Known j t × (j ≤ ω)
 ThiefShape κ w ω q τ (StealNext r t) = ThiefRead κ w (size ω q) τ r × Some κ r × Double κ × Known (ω + 1) t
-ThiefShape κ w ω q τ (StealCompare r e t) = ThiefRead κ w (size ω q) τ r × Some κ r × After κ e × Known (ω + 1) t
+ThiefShape κ w ω q τ (StealCompare r e t) = ThiefRead κ w (size ω q) τ r × Some κ r × After κ (r .head) e × Known (ω + 1) t
 
 -- THE STORES THAT WAIT. FIFO's tail after them, and the last head that a FIFO's owner read or wrote
 abbrev pub tailOf : Store → ℕ → ℕ

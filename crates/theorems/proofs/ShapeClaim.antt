@@ -8,13 +8,13 @@ use native.Mathlib.Omega.{arith}
 use lib.Dec.{leb}
 use lib.ListN.{length, length-set}
 use borrow.Author.Tests.{leb-true}
+use Rattle.model.specs.declared.Growth.{Growth}
 use Rattle.model.specs.declared.Kind.{Kind}
 use Rattle.model.specs.declared.Kind.the-variants.{Lifo, Fifo, Deque}
 use Rattle.model.specs.declared.Line.{Line}
 use Rattle.model.specs.declared.Line.the-variants.{Idle, PutRead, PutTail, PutTest, PutWord, PutFinish, Claim, Note, Copy, Publish, TakeRead, TakeTail, TakeTest, TakeWord, TakeFinish, StealRead, StealTail, StealTest, StealNote, StealWord, StealNext, StealCompare}
 use Rattle.model.specs.declared.Queue.{Queue}
 use Rattle.model.specs.declared.Region.{Region}
-use Rattle.model.specs.declared.Task.{Task}
 use Rattle.model.specs.declared.Anchor.{Anchor}
 use Rattle.model.specs.declared.Store.{Store}
 use Rattle.model.specs.declared.Store.the-variants.{StoreWord, StoreNote, StorePut, StoreOut, StoreHead, StoreTail}
@@ -26,7 +26,8 @@ use Rattle.model.specs.Stores.{taken, nextLength, claiming}
 use Rattle.model.specs.Figures.{anchor}
 use Rattle.theorems.proofs.Words.{set-place}
 use Rattle.theorems.proofs.Directory.{both, Arrays, roomy, arrays-claim}
-use Rattle.theorems.proofs.Shape.{OwnShape, lows, FitAnchor, FitTail, Path, Shape, thief-keep}
+use Rattle.theorems.proofs.Shape.{OwnShape, lows, FitAnchor, FitTail, Path, Shape, thief-keep, claim-expands}
+use Rattle.theorems.proofs.Asides.{at-rest}
 use Rattle.theorems.proofs.ShapeLay.{shape-settle}
 use Rattle.theorems.proofs.ShapeOwner.{Exact, Reading, spent-put}
 
@@ -144,7 +145,7 @@ path-claim κ w ω l l′ c c′ low p τ (StoreHead i ∷ ss) same hc pos h (f,
 path-claim κ w ω l l′ c c′ low p τ (StoreTail i ∷ ss) same hc pos h (f, P) =
     (subst (λ (z : ℕ). FitTail κ z low τ i) (sym (same (p - 1) (omega arith))) f, path-claim κ w ω l l′ c c′ low p i ss same hc pos h P)
 
-pub shape-claim : (κ : Kind) (w ω used low : ℕ) (q : Queue) (m : List ℕ) (ss : List Store) (t : Task) (φ : ℕ → Line) → fits ω (laid ss q) (words ω (q .arrays) ss m) ≡ true
+pub shape-claim : (κ : Kind) (w ω used low : ℕ) (q : Queue) (m : List ℕ) (ss : List Store) (t : Growth) (φ : ℕ → Line) → fits ω (laid ss q) (words ω (q .arrays) ss m) ≡ true
     → Shape κ w ω used low q m ss (Claim t) φ → Shape κ w ω used low (claiming q) (zeros m (taken q) (nextLength q)) ss (Note t) φ
 unfolding if_then_else_
 shape-claim κ w ω used low q m ss t φ e S =
@@ -163,7 +164,7 @@ shape-claim κ w ω used low q m ss t φ e S =
     A = S .arrays
 
     is : q .claimed ≡ v .published
-    is = S .own .claims
+    is = sym (at-rest _ _ _ (S .own .claims) (claim-expands t))
 
     two : (leb (2 * size ω v) 1024 ≡ true) × (leb (taken q + nextLength q) (length (words ω (q .arrays) ss m)) ≡ true)
     two = both (leb (2 * size ω v) 1024) _ e

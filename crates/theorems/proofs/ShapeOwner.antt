@@ -8,6 +8,8 @@ use native.Mathlib.Nat.{mod-lt}
 use lib.Dec.{eqb}
 use lib.Pow.{pow-pos}
 use borrow.Author.Tests.{eqb-true, eqb-false}
+use Rattle.model.specs.declared.Growth.{Growth}
+use Rattle.model.specs.declared.Growth.the-variants.{ForPut, ForCommit}
 use Rattle.model.specs.declared.Kind.{Kind}
 use Rattle.model.specs.declared.Kind.the-variants.{Lifo, Fifo, Deque}
 use Rattle.model.specs.declared.Line.{Line}
@@ -21,14 +23,14 @@ use Rattle.theorems.proofs.Folds.{places, AllWords, copy-words}
 use Rattle.model.specs.Tests.{if_then_else_}
 use Rattle.model.specs.Memory.{wordAt, sizeAt}
 use Rattle.theorems.proofs.Words.{off}
-use Rattle.model.specs.Lines.{Effect, eff, goes, size, wordOf, writeWord, fits, copyWords, lineStep}
+use Rattle.model.specs.Lines.{Effect, eff, goes, size, wordOf, writeWord, fits, copyWords, lineStep, publishes, taskFor}
 use Rattle.model.specs.Figures.{slot, putIndex, takeIndex, isFull, isEmpty, noteAll, anchor}
 use Rattle.model.specs.World.{isExpanding}
 use Rattle.model.specs.Tasks.{noTask, wordIn, withWord}
 use Rattle.model.proofs.Tasks.{number-word}
 use Rattle.model.proofs.Directory.{size-pos, tidy-front, tidy-twice}
 use Rattle.theorems.proofs.Directory.{Arrays, now, number-now}
-use Rattle.theorems.proofs.Shape.{tail, Bounded, OwnRead, Room, Some, Span, Known, known-more, none-known, pending, Spent, OwnShape, InArray, tails, lows, Fit, Path, OwnEnd, Shape}
+use Rattle.theorems.proofs.Shape.{tail, Bounded, OwnRead, Room, Some, Span, Known, known-more, none-known, pending, Spent, OwnShape, InArray, tails, lows, Fit, Path, OwnEnd, Shape, claim-expands, openFor, KnownFor}
 use Rattle.theorems.proofs.ShapeLay.{path-join, same-lows, same-places, same-tails}
 
 -- what the owner's line leaves
@@ -130,9 +132,9 @@ module _ (w ω used low : ℕ) (q : Queue) (m : List ℕ) (φ : ℕ → Line) wh
   tail-put Deque t h S = absurd (S .own .shape .1)
 
   test-put : (κ : Kind) (t : Task) (r : Anchor) (x : Bool) → isFull κ (size ω q) r ≡ x → Shape κ w ω used low q m [] (PutTest t r) φ
-      → Ends κ w ω used low q (goes (if x then Claim t else PutWord t r 0))
+      → Ends κ w ω used low q (goes (if x then Claim (ForPut t) else PutWord t r 0))
   unfolding if_then_else_
-  test-put κ t r true e S = stay S (Claim t) refl refl (S .own .shape .0)
+  test-put κ t r true e S = stay S (Claim (ForPut t)) refl refl (S .own .shape .0)
   test-put κ t r false e S =
       stay S (PutWord t r 0) refl refl
       (S .own .shape .0, S .own .shape .1, room-now κ w (size ω q) low (tail κ (q .anchor)) r (S .own .shape .1) (top-now κ w (size ω q) low r (q .anchor) (S .anchor) (S .own .shape .1)) e, omega arith)
@@ -165,37 +167,37 @@ module _ (w ω used low : ℕ) (q : Queue) (m : List ℕ) (φ : ℕ → Line) wh
   finish-put Deque t r i S = (((S .own .shape .1 .0, omega (arith, S .own .shape .2), mod-lt (r .tag + 1) (pow-pos w)), tt), record { claims = S .own .claims; spent = tt; shape = tt })
 
   -- X1 that answers FULL
-  claim-full : (κ : Kind) (t : Task) → Shape κ w ω used low q m [] (Claim t) φ → (x : Bool) → fits ω q m ≡ x
-      → (if x then record { claims = true; stores = []; line = Note t; answer = GoesOn } else eff [] Idle (Full 0 t)) .claims ≡ false
-      → Ends κ w ω used low q (if x then record { claims = true; stores = []; line = Note t; answer = GoesOn } else eff [] Idle (Full 0 t))
+  claim-full : (κ : Kind) (t : Growth) → Shape κ w ω used low q m [] (Claim t) φ → (x : Bool) → fits ω q m ≡ x
+      → (if x then record { claims = true; stores = []; line = Note t; answer = GoesOn } else eff [] Idle (Full 0 (taskFor t))) .claims ≡ false
+      → Ends κ w ω used low q (if x then record { claims = true; stores = []; line = Note t; answer = GoesOn } else eff [] Idle (Full 0 (taskFor t)))
   unfolding if_then_else_
   claim-full κ t S true e f = absurd (let z : _≡_ {A = ℕ} 0 1 = cc in omega arith)
-  claim-full κ t S false e f = (tt, end-to S Idle refl (spent-done κ _ _ (Claim t) (S .own .spent)) tt)
+  claim-full κ t S false e f = (tt, end-to S Idle (sym (claim-expands t)) (spent-done κ _ _ (Claim t) (S .own .spent)) tt)
 
   -- X2
-  note-all : (κ : Kind) (z τ : ℕ) (t : Task) (h k : ℕ) (x : Bool) → eqb k 0 ≡ x → Known (ω + 1) t → Span κ τ h k → k ≤ z → OwnShape κ w ω z low τ (if x then Publish t else Copy t h k 0)
+  note-all : (κ : Kind) (z τ : ℕ) (t : Growth) (h k : ℕ) (x : Bool) → eqb k 0 ≡ x → KnownFor ω t → Span κ τ h k → k ≤ z → OwnShape κ w ω z low τ (if x then Publish t else Copy t h k 0)
   unfolding if_then_else_
   note-all κ z τ t h k true e l s u = l
   note-all κ z τ t h k false e l s u = (l, s, u, omega (arith, eqb-false k 0 e))
 
-  note-expands : (t : Task) (h k : ℕ) (x : Bool) → (isExpanding (if x then Publish t else Copy t h k 0) ≡ true) × (pending (if x then Publish t else Copy t h k 0) ≡ 1)
+  note-expands : (t : Growth) (h k : ℕ) (x : Bool) → (isExpanding (if x then Publish t else Copy t h k 0) ≡ true) × (pending (if x then Publish t else Copy t h k 0) ≡ openFor t)
   unfolding if_then_else_
   note-expands t h k true = (refl, refl)
   note-expands t h k false = (refl, refl)
 
-  note-to : (κ : Kind) (t : Task) (h k : ℕ) → Shape κ w ω used low q m [] (Note t) φ → Span κ (tail κ (q .anchor)) h k → k ≤ size ω q → Ends κ w ω used low q (goes (noteAll t h k))
+  note-to : (κ : Kind) (t : Growth) (h k : ℕ) → Shape κ w ω used low q m [] (Note t) φ → Span κ (tail κ (q .anchor)) h k → k ≤ size ω q → Ends κ w ω used low q (goes (noteAll t h k))
   note-to κ t h k S s u =
       let E = note-expands t h k (eqb k 0) in
       stay S (noteAll t h k) (E .0) (E .1) (note-all κ (size ω q) (tail κ (q .anchor)) t h k (eqb k 0) refl (S .own .shape) s u)
 
-  note-x2 : (κ : Kind) (t : Task) → Shape κ w ω used low q m [] (Note t) φ → Ends κ w ω used low q (lineStep κ w ω q m 0 (Note t))
+  note-x2 : (κ : Kind) (t : Growth) → Shape κ w ω used low q m [] (Note t) φ → Ends κ w ω used low q (lineStep κ w ω q m 0 (Note t))
   unfolding lineStep
   note-x2 Lifo t S = note-to Lifo t 0 (size ω q) S refl (omega arith)
   note-x2 Fifo t S = note-to Fifo t (q .anchor .head) (q .anchor .count - q .anchor .head) S (omega (arith, S .anchor .1)) (omega (arith, S .anchor .0, S .anchor .2))
   note-x2 Deque t S = note-to Deque t (q .anchor .head) (q .anchor .count) S (S .anchor .0) (S .anchor .1)
 
   -- X3
-  copy-x3 : (κ : Kind) (t : Task) (h j k : ℕ) (x : Bool) → eqb (k + 1) j ≡ x → Shape κ w ω used low q m [] (Copy t h j k) φ
+  copy-x3 : (κ : Kind) (t : Growth) (h j k : ℕ) (x : Bool) → eqb (k + 1) j ≡ x → Shape κ w ω used low q m [] (Copy t h j k) φ
       → Ends κ w ω used low q (eff (copyWords κ ω q m (h + k) (ω + 1)) (if x then Publish t else Copy t h j (k + 1)) GoesOn)
   unfolding if_then_else_
   copy-x3 κ t h j k x e S = (path (ω + 1) (omega arith), rw (same-lows _ low (some (ω + 1)), same-places _ (q .published) (some (ω + 1)), same-tails _ (tail κ (q .anchor)) (some (ω + 1))) (next x e))
@@ -241,10 +243,12 @@ module _ (w ω used low : ℕ) (q : Queue) (m : List ℕ) (φ : ℕ → Line) wh
           (S .own .shape .0, S .own .shape .1, S .own .shape .2, omega (arith, S .own .shape .3, eqb-false (k + 1) j e))
 
   -- X4
-  publish : (κ : Kind) (t : Task) → Shape κ w ω used low q m [] (Publish t) φ → Ends κ w ω used low q (eff (StoreNote (q .published) ∷ []) (PutRead t) GoesOn)
+  publish : (κ : Kind) (t : Growth) → Shape κ w ω used low q m [] (Publish t) φ → Ends κ w ω used low q (publishes (StoreNote (q .published) ∷ []) 0 t)
   unfolding if_then_else_
-  publish κ t S =
-      (((refl, omega (arith, S .own .claims)), tt), record { claims = S .own .claims; spent = spent-put κ _ _ (Publish t) (PutRead t) refl (S .own .spent); shape = S .own .shape })
+  publish κ (ForPut t) S =
+      (((refl, omega (arith, S .own .claims)), tt), record { claims = S .own .claims; spent = spent-put κ _ _ (Publish (ForPut t)) (PutRead t) refl (S .own .spent); shape = S .own .shape })
+  publish κ ForCommit S =
+      (((refl, omega (arith, S .own .claims)), tt), record { claims = S .own .claims; spent = spent-put κ _ _ (Publish ForCommit) Idle refl (S .own .spent); shape = tt })
 
   -- take
   read-take : (κ : Kind) → Shape κ w ω used low q m [] TakeRead φ → Exact κ low (q .anchor) → Ends κ w ω used low q (lineStep κ w ω q m 0 TakeRead)

@@ -4,18 +4,19 @@ use mathlib.Core.Bool.{Bool, true, false}
 use mathlib.Core.List.{List, [], _∷_, _++_}
 use Prim.Native.Nat.{ℕ, _≤_}
 use native.Mathlib.Omega.{arith}
+use Rattle.model.specs.declared.Growth.{Growth}
+use Rattle.model.specs.declared.Growth.the-variants.{ForPut, ForCommit}
 use Rattle.model.specs.declared.Kind.{Kind}
 use Rattle.model.specs.declared.Line.{Line}
 use Rattle.model.specs.declared.Line.the-variants.{Idle, PutRead, PutTail, PutTest, PutWord, PutFinish, Claim, Note, Copy, Publish, TakeRead, TakeTail, TakeTest, TakeWord, TakeFinish, StealRead, StealTail, StealTest, StealNote, StealWord, StealNext, StealCompare}
 use Rattle.model.specs.declared.Queue.{Queue}
-use Rattle.model.specs.declared.Task.{Task}
 use Rattle.model.specs.declared.Answer.the-variants.{GoesOn, Full}
 use Rattle.model.specs.declared.Store.{Store}
 use Rattle.theorems.proofs.Folds.{places, anchorAfter, laid, words, queueAfter, storeAfter}
 use Rattle.model.specs.Tests.{if_then_else_}
 use Rattle.model.specs.Memory.{zeros}
 use Rattle.model.specs.Figures.{isEmpty}
-use Rattle.model.specs.Lines.{Effect, eff, succeeds, fits, lineStep}
+use Rattle.model.specs.Lines.{taskFor, Effect, eff, succeeds, fits, lineStep}
 use Rattle.model.specs.Stores.{taken, nextLength, claiming}
 use Rattle.theorems.proofs.Shape.{tail, tails, lows, Path, OwnEnd, Shape}
 use Rattle.theorems.proofs.ShapeLay.{shape-join, shape-settle, tails-is}
@@ -31,12 +32,12 @@ neither false E E′ p q = q
 pub not-both : {A : Type 0} (x : Bool) → x ≡ false → x ≡ true → A
 not-both x p q = absurd (let z : _≡_ {A = ℕ} 0 1 = cc in omega arith)
 
-claim-fits : (ω : ℕ) (q : Queue) (m : List ℕ) (i : ℕ) (t : Task) (x : Bool) → fits ω q m ≡ x → (if x then record { claims = true; stores = []; line = Note t; answer = GoesOn } else eff [] Idle (Full i t)) .claims ≡ true → fits ω q m ≡ true
+claim-fits : (ω : ℕ) (q : Queue) (m : List ℕ) (i : ℕ) (t : Growth) (x : Bool) → fits ω q m ≡ x → (if x then record { claims = true; stores = []; line = Note t; answer = GoesOn } else eff [] Idle (Full i (taskFor t))) .claims ≡ true → fits ω q m ≡ true
 unfolding if_then_else_
 claim-fits ω q m i t true e f = e
 claim-fits ω q m i t false e f = not-both false refl f
 
-pub claim-only : (κ : Kind) (w ω : ℕ) (q : Queue) (m : List ℕ) (i : ℕ) (o : Line) → lineStep κ w ω q m i o .claims ≡ true → (t : Task) × (o ≡ Claim t) × (fits ω q m ≡ true)
+pub claim-only : (κ : Kind) (w ω : ℕ) (q : Queue) (m : List ℕ) (i : ℕ) (o : Line) → lineStep κ w ω q m i o .claims ≡ true → (t : Growth) × (o ≡ Claim t) × (fits ω q m ≡ true)
 unfolding lineStep
 claim-only κ w ω q m i Idle f = not-both false refl f
 claim-only κ w ω q m i (PutRead t) f = not-both false refl f
@@ -47,7 +48,8 @@ claim-only κ w ω q m i (PutFinish t r) f = not-both false refl f
 claim-only κ w ω q m i (Claim t) f = (t, refl, claim-fits ω q m i t (fits ω q m) refl f)
 claim-only κ w ω q m i (Note t) f = not-both false refl f
 claim-only κ w ω q m i (Copy t h j k) f = not-both false refl f
-claim-only κ w ω q m i (Publish t) f = not-both false refl f
+claim-only κ w ω q m i (Publish (ForPut t)) f = not-both false refl f
+claim-only κ w ω q m i (Publish ForCommit) f = not-both false refl f
 claim-only κ w ω q m i TakeRead f = not-both false refl f
 claim-only κ w ω q m i (TakeTail h) f = not-both false refl f
 claim-only κ w ω q m i (TakeTest r) f = not-both _ (neither (isEmpty κ r) _ _ refl refl) f
@@ -92,15 +94,15 @@ pub no-more : (ss : List Store) → ss ++ [] ≡ ss
 no-more [] = refl
 no-more (s ∷ ss) = ap (λ (l : List Store). s ∷ l) (no-more ss)
 
-claim-step : (κ : Kind) (w ω used low : ℕ) (q : Queue) (m : List ℕ) (ss : List Store) (φ : ℕ → Line) (t : Task) (x : Bool) → x ≡ true → fits ω (laid ss q) (words ω (q .arrays) ss m) ≡ true → Shape κ w ω used low q m ss (Claim t) φ
-    → let E : Effect = (if x then record { claims = true; stores = []; line = Note t; answer = GoesOn } else eff [] Idle (Full 0 t)) in
+claim-step : (κ : Kind) (w ω used low : ℕ) (q : Queue) (m : List ℕ) (ss : List Store) (φ : ℕ → Line) (t : Growth) (x : Bool) → x ≡ true → fits ω (laid ss q) (words ω (q .arrays) ss m) ≡ true → Shape κ w ω used low q m ss (Claim t) φ
+    → let E : Effect = (if x then record { claims = true; stores = []; line = Note t; answer = GoesOn } else eff [] Idle (Full 0 (taskFor t))) in
     (low′ : ℕ) × Shape κ w ω used low′ (queueAfter (E .claims) q) (storeAfter (E .claims) q m) (ss ++ E .stores) (E .line) φ
 unfolding if_then_else_
 claim-step κ w ω used low q m ss φ t false e f S = not-both false refl e
 claim-step κ w ω used low q m ss φ t true e f S =
     (low, subst (λ (l : List Store). Shape κ w ω used low (claiming q) (zeros m (taken q) (nextLength q)) l (Note t) φ) (sym (no-more ss)) (shape-claim κ w ω used low q m ss t φ f S))
 
-claim-shaped : (κ : Kind) (w ω used low : ℕ) (q : Queue) (m : List ℕ) (ss : List Store) (o : Line) (φ : ℕ → Line) (t : Task) → o ≡ Claim t → fits ω (laid ss q) (words ω (q .arrays) ss m) ≡ true → Shape κ w ω used low q m ss o φ
+claim-shaped : (κ : Kind) (w ω used low : ℕ) (q : Queue) (m : List ℕ) (ss : List Store) (o : Line) (φ : ℕ → Line) (t : Growth) → o ≡ Claim t → fits ω (laid ss q) (words ω (q .arrays) ss m) ≡ true → Shape κ w ω used low q m ss o φ
     → let E = lineStep κ w ω (laid ss q) (words ω (q .arrays) ss m) 0 o in
     (low′ : ℕ) × Shape κ w ω used low′ (queueAfter (E .claims) q) (storeAfter (E .claims) q m) (ss ++ E .stores) (E .line) φ
 unfolding lineStep
@@ -117,7 +119,7 @@ claim-shaped κ w ω used low q m ss o φ t is f S = subst P (sym is) (here (fit
     S′ = subst (λ (o : Line). Shape κ w ω used low q m ss o φ) is S
 
     here : (x : Bool) → x ≡ true
-        → let E : Effect = (if x then record { claims = true; stores = []; line = Note t; answer = GoesOn } else eff [] Idle (Full 0 t)) in
+        → let E : Effect = (if x then record { claims = true; stores = []; line = Note t; answer = GoesOn } else eff [] Idle (Full 0 (taskFor t))) in
         (low′ : ℕ) × Shape κ w ω used low′ (queueAfter (E .claims) q) (storeAfter (E .claims) q m) (ss ++ E .stores) (E .line) φ
     here x e = claim-step κ w ω used low q m ss φ t x e f S′
 
@@ -155,5 +157,5 @@ own-shaped κ w ω used low q m ss o φ wide S = go (E .claims) refl
         EndAt τ = OwnEnd κ w ω used (q .arrays) (q .claimed) (lows (E .stores) (lows ss (R .0))) (places (E .stores) (places ss (q .published))) (tails (E .stores) τ) (E .line)
     go true e = claimed (claim-only κ w ω v (words ω (q .arrays) ss m) 0 o e)
       where
-        claimed : (t : Task) × (o ≡ Claim t) × (fits ω v (words ω (q .arrays) ss m) ≡ true) → Goal (E .claims)
+        claimed : (t : Growth) × (o ≡ Claim t) × (fits ω v (words ω (q .arrays) ss m) ≡ true) → Goal (E .claims)
         claimed (t, is, f) = claim-shaped κ w ω used low q m ss o φ t is f S

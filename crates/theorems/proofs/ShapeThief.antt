@@ -92,7 +92,7 @@ win Fifo w ω used low q m ss o φ k r e t z n S (R, s, a, u) =
     is : q .anchor .head ≡ r .head
     is = fifo-same q (suc k) r (q .linked) n z
 win Deque w ω used low q m ss o φ k r e t z n S (R, s, a, u) =
-    steal-to S k _ (a, omega (arith, R .1), R .2) refl
+    steal-to S k _ (rw a (mod-lt (r .head + 1) (omega arith)), omega (arith, R .1), R .2) refl
 
 compare : (κ : Kind) (w ω used low : ℕ) (q : Queue) (m : List ℕ) (ss : List Store) (o : Line) (φ : ℕ → Line) (k : ℕ) (r : Anchor) (e : ℕ) (t : Task) (z : Bool) → succeeds κ q (suc k) r ≡ z → kindOk κ (q .linked) ≡ true → (S : Shape κ w ω used low q m ss o φ)
     → ThiefShape κ w ω q (tail κ (q .anchor)) (StealCompare r e t)
@@ -161,10 +161,10 @@ word-steal κ w ω used low q m ss o φ r b t j x e wide S (R, s, p, l, κn, h) 
     go true e = last-steal κ w ω q r u R s (subst (λ (n : ℕ). Known (n + 1) u) (eqb-true j ω e) more)
     go false e = (R, s, p, l, more, omega (arith, eqb-false j ω e))
 
-next-steal : (κ : Kind) (h : ℕ) → Double κ → After κ ((h + 1) % 2048)
+next-steal : (κ : Kind) (h : ℕ) → Double κ → After κ h ((h + 1) % 2048)
 next-steal Lifo h d = absurd d
 next-steal Fifo h d = absurd d
-next-steal Deque h d = mod-lt (h + 1) (omega arith)
+next-steal Deque h d = refl
 
 pub thief-shaped : (κ : Kind) (w ω used low : ℕ) (q : Queue) (m : List ℕ) (ss : List Store) (o : Line) (φ : ℕ → Line) (k : ℕ) (θ : Line) → ω ≤ 4 → kindOk κ (q .linked) ≡ true → (S : Shape κ w ω used low q m ss o φ) → ThiefShape κ w ω q (tail κ (q .anchor)) θ
     → ShapeKeptT κ w ω used low q m ss o φ k (lineStep κ w ω q m (suc k) θ)

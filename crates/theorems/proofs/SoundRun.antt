@@ -9,24 +9,25 @@ use lib.Dec.{eqb}
 use lib.ListN.{getD, set}
 use Rattle.model.specs.declared.Kind.{Kind}
 use Rattle.model.specs.declared.Kind.the-variants.{Lifo, Fifo, Deque}
+use Rattle.model.specs.declared.Growth.the-variants.{ForCommit}
 use Rattle.model.specs.declared.Line.{Line}
-use Rattle.model.specs.declared.Line.the-variants.{Idle, PutRead, PutFinish, TakeRead, StealRead}
+use Rattle.model.specs.declared.Line.the-variants.{Claim, Idle, PutRead, PutFinish, TakeRead, StealRead}
 use Rattle.model.specs.declared.Queue.{Queue}
 use Rattle.model.specs.declared.Anchor.{Anchor}
 use Rattle.model.specs.declared.Store.{Store}
 use Rattle.model.specs.declared.Store.the-variants.{StoreWord, StoreNote, StorePut, StoreOut, StoreHead, StoreTail}
 use Rattle.model.specs.declared.Operation.{Operation}
-use Rattle.model.specs.declared.Operation.the-variants.{Put, Take, Steal}
+use Rattle.model.specs.declared.Operation.the-variants.{Put, Take, Steal, Commit}
 use Rattle.model.specs.declared.Refusal.{Refusal}
 use Rattle.model.specs.declared.Task.{Task}
 use Rattle.model.specs.declared.Answer.{Answer}
-use Rattle.model.specs.declared.Answer.the-variants.{Accepted, Numbered, GoesOn, Finished, HandedOut, Empty, Full, Refused}
+use Rattle.model.specs.declared.Answer.the-variants.{Accepted, Numbered, GoesOn, Finished, HandedOut, Empty, Full, Refused, Grown}
 use Rattle.model.specs.Tests.{_and_, _or_}
 use Rattle.model.specs.Figures.{putStore}
 use Rattle.model.specs.Stores.{inLine, oldest}
 use Rattle.model.specs.Lines.{Effect, lineStep, holdsLink}
 use Rattle.model.specs.World.{World, Outcome, refuse, tagBits, lineAt, isSteal1, isPast1}
-use Rattle.model.specs.Calls.{firstLine, begun, beginAnswer, landing, Call, begin, step, dropLink, drain, callOf}
+use Rattle.model.specs.Calls.{firstLine, begun, beginAnswer, landing, Call, begin, step, dropLink, drain, callOf, ask, dropAsk}
 use Rattle.model.specs.Listing.{isRefused}
 use Rattle.model.specs.Run.{Played, played, after}
 use Rattle.model.proofs.Tasks.{gathered-again, first-number}
@@ -44,7 +45,7 @@ use Rattle.theorems.proofs.ThiefLines.{LinkSound, thief-same}
 use Rattle.theorems.proofs.Held.{line-drain}
 use Rattle.theorems.proofs.Links.{held-set, links-held, link-parts}
 use Rattle.theorems.proofs.Valid.{thieves, Whole, tagged}
-use Rattle.theorems.proofs.Cases.{MayBegin, MayStep, effectOf, queueThen, storeThen, stepTo, dropped, drainTo, begin-cases, step-cases, drop-cases, drain-cases, call-cases}
+use Rattle.theorems.proofs.Cases.{MayBegin, MayStep, effectOf, queueThen, storeThen, stepTo, dropped, drainTo, begin-cases, step-cases, drop-cases, drain-cases, call-cases, ask-cases, drop-ask-cases}
 use Rattle.theorems.proofs.WholeRun.{idle-is, own-back, thief-back, not-thief, not-owner, in-crew, in-line, thief-calm, thief-lands, linked-step, call-whole}
 use Rattle.theorems.proofs.Places.{rev}
 use Rattle.theorems.proofs.PutNumbers.{used-kept}
@@ -54,6 +55,8 @@ abbrev pub event-in : World → Call → Answer → Event
 event-in W (begin i op) a = event-of (W .bench .words) (W .bench .delayed) (W .bench .waiting .count) (begin i op) (lineAt (W .bench .workers) i) a
 event-in W (step i) a = event-of (W .bench .words) (W .bench .delayed) (W .bench .waiting .count) (step i) (lineAt (W .bench .workers) i) a
 event-in W (dropLink i) a = event-of (W .bench .words) (W .bench .delayed) (W .bench .waiting .count) (dropLink i) (lineAt (W .bench .workers) i) a
+event-in W (ask i) a = event-of (W .bench .words) (W .bench .delayed) (W .bench .waiting .count) (ask i) (lineAt (W .bench .workers) i) a
+event-in W (dropAsk i) a = event-of (W .bench .words) (W .bench .delayed) (W .bench .waiting .count) (dropAsk i) (lineAt (W .bench .workers) i) a
 event-in W drain a = cond (isRefused a) quiet (event-of-drain (W .bench .kind) (W .bench .words) (W .bench .queue) (W .store) (oldest (W .bench .waiting)))
 
 abbrev pub event-at : Played → Event
@@ -97,6 +100,8 @@ module _ (W : World) (H : Whole W) (h : History) (I : InvOf W h) (L : LinkedSinc
   refused-kept (begin i op) r f = (inv-quiet I, tt)
   refused-kept (step i) r f = (inv-quiet I, tt)
   refused-kept (dropLink i) r f = (inv-quiet I, tt)
+  refused-kept (ask i) r f = (inv-quiet I, tt)
+  refused-kept (dropAsk i) r f = (inv-quiet I, tt)
   refused-kept drain r f = (inv-quiet I, tt)
 
   -- the owner begins: its line 1 follows the event e
@@ -121,6 +126,8 @@ module _ (W : World) (H : Whole W) (h : History) (I : InvOf W h) (L : LinkedSinc
   begun-kept (suc k) (Put p) B f = not-thief k (B .hand)
   begun-kept zero Take B f = (own-begun Take _ B (λ J. own-first J quiet TakeRead tt tt (λ k. tt) refl not-waiting tt), tt)
   begun-kept (suc k) Take B f = not-thief k (B .hand)
+  begun-kept zero Commit B f = (own-begun Commit _ B (λ J. own-first J quiet (Claim ForCommit) tt tt (λ k. tt) refl not-waiting tt), tt)
+  begun-kept (suc k) Commit B f = not-thief k (B .hand)
   begun-kept zero Steal B f = not-owner (B .hand)
   begun-kept (suc k) Steal B f = (
     thief-back (InvLines (quiet ∷ h)) (W .bench .workers) k StealRead (in-crew H (suc k) (B .member))
@@ -191,6 +198,8 @@ module _ (W : World) (H : Whole W) (h : History) (I : InvOf W h) (L : LinkedSinc
   call-kept (step i) = step-cases (Fine W h (step i)) W (λ r l. refused-kept (step i) r) i (stepped-kept i)
   call-kept (dropLink i) = drop-cases (Fine W h (dropLink i)) W (λ r l. refused-kept (dropLink i) r) i (dropped-kept i)
   call-kept drain = drain-cases (Fine W h drain) W (λ r l. refused-kept drain r) drained-kept
+  call-kept (ask i) = ask-cases (Fine W h (ask i)) W (λ r l. refused-kept (ask i) r) i (λ n A f. (inv-quiet I, tt))
+  call-kept (dropAsk i) = drop-ask-cases (Fine W h (dropAsk i)) W (λ r l. refused-kept (dropAsk i) r) i (λ n A f. (inv-quiet I, tt))
 
 -- WHAT A HELD LINK SAYS. An event that brings no put to memory
 since-zero : (k : ℕ) (h : History) (e : Event) → NotDone e → puts-since k h ≡ 0 → puts-since k (e ∷ h) ≡ 0
@@ -245,6 +254,7 @@ step-done κ w ω δ y Q μ i o (HandedOut j t) e n = go (is-compare o)
     go false = tt
 step-done κ w ω δ y Q μ i o (Empty j) e n = tt
 step-done κ w ω δ y Q μ i o (Full j t) e n = tt
+step-done κ w ω δ y Q μ i o (Grown j) e n = tt
 step-done κ w ω δ y Q μ i o (Refused r) e n = tt
 
 begin-done : (ω : ℕ) (δ : Bool) (y i : ℕ) (op : Operation) (u : ℕ) (o : Line) → NotDone (event-of ω δ y (begin i op) o (beginAnswer op u))
@@ -252,6 +262,7 @@ begin-done ω δ y zero (Put p) u o = tt
 begin-done ω δ y (suc k) (Put p) u o = tt
 begin-done ω δ y i Take u o = tt
 begin-done ω δ y i Steal u o = tt
+begin-done ω δ y i Commit u o = tt
 
 drain-done : (κ : Kind) (ω : ℕ) (Q : Queue) (μ : List ℕ) (s : Store) → NotPut s → NotDone (event-of-drain κ ω Q μ s)
 drain-done κ ω Q μ (StoreWord b s j x) n = tt
@@ -276,6 +287,8 @@ module _ (W : World) (H : Whole W) (h : History) (L : LinkedSince W h) where
   refused-since (begin i op) r k x = L k x
   refused-since (step i) r k x = L k x
   refused-since (dropLink i) r k x = L k x
+  refused-since (ask i) r k x = L k x
+  refused-since (dropAsk i) r k x = L k x
   refused-since drain r k x = L k x
 
   step-not-done : (i : ℕ) → NonePut (landing (W .bench .delayed) i (effectOf W i .stores)) → NotDone (event-in W (step i) (effectOf W i .answer))
@@ -317,6 +330,8 @@ module _ (W : World) (H : Whole W) (h : History) (L : LinkedSince W h) where
   call-since (dropLink i) =
       drop-cases (SinceAfter (dropLink i)) W (λ r f. refused-since (dropLink i) r) i (λ k x. L k (fewer (W .bench .queue .links) i (suc k) x))
   call-since drain = drain-cases (SinceAfter drain) W (λ r f. refused-since drain r) (λ some. drained-since)
+  call-since (ask i) = ask-cases (SinceAfter (ask i)) W (λ r f. refused-since (ask i) r) i (λ n A. L)
+  call-since (dropAsk i) = drop-ask-cases (SinceAfter (dropAsk i)) W (λ r f. refused-since (dropAsk i) r) i (λ n A. L)
 
 -- a call keeps the kind, the tag's bits, the payload words, and the way of storing
 pub record Like (W : World) (D : Outcome) : Type 0 where
@@ -332,7 +347,7 @@ same-like W D a b c d = record { kind = a; bits = b; words = c; delayed = d }
 pub call-like : (W : World) (c : Call) → Like W (callOf W c)
 call-like W c =
     call-cases (Like W) W (λ r l. same-like W _ refl refl refl refl) (λ i op B. same-like W _ refl refl refl refl) (λ i M. same-like W _ refl refl refl refl)
-    (λ i. same-like W _ refl refl refl refl) (λ some. same-like W _ refl refl refl refl) c
+    (λ i. same-like W _ refl refl refl refl) (λ some. same-like W _ refl refl refl refl) (λ n A. same-like W _ refl refl refl refl) c
 
 -- put numbers: those begun are used
 abbrev pub Used : World → History → Type 0
@@ -392,6 +407,7 @@ step-within n ω δ y i l (HandedOut j t) = go (is-compare l)
     go false = tt
 step-within n ω δ y i l (Empty j) = tt
 step-within n ω δ y i l (Full j t) = tt
+step-within n ω δ y i l (Grown j) = tt
 step-within n ω δ y i l (Refused r) = tt
 
 drain-within : (n : ℕ) (κ : Kind) (ω : ℕ) (q : Queue) (m : List ℕ) (s : Store) (x : Bool) → Within n (cond x quiet (event-of-drain κ ω q m s))
@@ -408,6 +424,7 @@ begin-within W zero (Put p) = omega (arith, first-number (W .bench .words) (task
 begin-within W (suc k) (Put p) = tt
 begin-within W i Take = tt
 begin-within W i Steal = tt
+begin-within W i Commit = tt
 
 call-within : (W : World) (c : Call) → Within (callOf W c .world .bench .used) (event-in W c (callOf W c .answer))
 call-within W (begin i op) =
@@ -416,6 +433,8 @@ call-within W (step i) =
     step-cases (λ (D : Outcome). Within (D .world .bench .used) (event-in W (step i) (D .answer))) W (λ r q. tt) i
     (λ M. step-within (W .bench .used) (W .bench .words) (W .bench .delayed) (W .bench .waiting .count) i _ (effectOf W i .answer))
 call-within W (dropLink i) = drop-cases (λ (D : Outcome). Within (D .world .bench .used) (event-in W (dropLink i) (D .answer))) W (λ r q. tt) i tt
+call-within W (ask i) = ask-cases (λ (D : Outcome). Within (D .world .bench .used) (event-in W (ask i) (D .answer))) W (λ r q. tt) i (λ n A. tt)
+call-within W (dropAsk i) = drop-ask-cases (λ (D : Outcome). Within (D .world .bench .used) (event-in W (dropAsk i) (D .answer))) W (λ r q. tt) i (λ n A. tt)
 call-within W drain =
     drain-cases (λ (D : Outcome). Within (D .world .bench .used) (event-in W drain (D .answer))) W (λ r q. tt) (λ some. drain-within (W .bench .used) _ _ _ _ (oldest (W .bench .waiting)) false)
 

@@ -10,9 +10,9 @@ use Rattle.model.specs.declared.Kind.{Kind}
 use Rattle.model.specs.declared.Line.{Line}
 use Rattle.model.specs.declared.Line.the-variants.{Idle, PutRead, PutTail, PutTest, PutWord, PutFinish, Claim, Note, Copy, Publish, TakeRead, TakeTail, TakeTest, TakeWord, TakeFinish, StealRead, StealTail, StealTest, StealNote, StealWord, StealNext, StealCompare}
 use Rattle.model.specs.declared.Queue.{Queue}
-use Rattle.model.specs.declared.Operation.the-variants.{Put, Take, Steal}
+use Rattle.model.specs.declared.Operation.the-variants.{Put, Take, Steal, Commit}
 use Rattle.model.specs.declared.Answer.{Answer}
-use Rattle.model.specs.declared.Answer.the-variants.{Accepted, Numbered, GoesOn, Finished, HandedOut, Empty, Full, Refused}
+use Rattle.model.specs.declared.Answer.the-variants.{Accepted, Numbered, GoesOn, Finished, HandedOut, Empty, Full, Refused, Grown}
 use Rattle.model.specs.declared.Payload.{Payload}
 use Rattle.model.specs.declared.Task.{Task}
 use Rattle.model.specs.Tasks.{task, firstWords}
@@ -21,7 +21,7 @@ use Rattle.model.specs.declared.Refusal.{Refusal}
 use Rattle.model.specs.Lines.{lineStep}
 use Rattle.model.specs.World.{World, Outcome, tagBits, lineAt}
 use Rattle.model.specs.Stores.{oldest}
-use Rattle.model.specs.Calls.{Call, begin, step, dropLink, drain, callOf}
+use Rattle.model.specs.Calls.{Call, begin, step, dropLink, ask, dropAsk, drain, callOf}
 use Rattle.model.specs.declared.Store.{Store}
 use Rattle.model.specs.declared.Store.the-variants.{StoreWord, StoreNote, StorePut, StoreOut, StoreHead, StoreTail}
 use Rattle.model.specs.Run.{Played, played}
@@ -74,6 +74,7 @@ isPlain (Finished i t) = false
 isPlain (HandedOut i t) = false
 isPlain (Empty i) = false
 isPlain (Full i t) = false
+isPlain (Grown i) = false
 isPlain (Refused r) = true
 
 -- what an event says of the call
@@ -107,21 +108,29 @@ says ω δ y (begin zero (Put p)) l (Numbered n) = (n, p, refl, refl, refl)
 says ω δ y (begin (suc k) (Put p)) l (Numbered n) = tt
 says ω δ y (begin i Take) l (Numbered n) = tt
 says ω δ y (begin i Steal) l (Numbered n) = tt
+says ω δ y (begin i Commit) l (Numbered n) = tt
 says ω δ y (step i) l (Numbered n) = tt
 says ω δ y (dropLink i) l (Numbered n) = tt
+says ω δ y (ask i) l (Numbered n) = tt
+says ω δ y (dropAsk i) l (Numbered n) = tt
 says ω δ y drain l (Numbered n) = tt
 says ω δ y (begin i op) l GoesOn = tt
 says ω δ y (step i) l GoesOn = says-go ω δ y i l (is-line-1 l) (is-compare l) refl refl
 says ω δ y (dropLink i) l GoesOn = tt
+says ω δ y (ask i) l GoesOn = tt
+says ω δ y (dropAsk i) l GoesOn = tt
 says ω δ y drain l GoesOn = tt
 says ω true y c l (Finished i t) = ((i, refl), refl, refl)
 says ω false y c l (Finished i t) = inl (i, refl, refl)
 says ω δ y (begin i op) l (HandedOut j t) = (j, refl)
 says ω δ y (step i) l (HandedOut j t) = says-out ω δ y i l j t (is-compare l) refl
 says ω δ y (dropLink i) l (HandedOut j t) = (j, refl)
+says ω δ y (ask i) l (HandedOut j t) = (j, refl)
+says ω δ y (dropAsk i) l (HandedOut j t) = (j, refl)
 says ω δ y drain l (HandedOut j t) = (j, refl)
 says ω δ y c l (Empty i) = refl
 says ω δ y c l (Full i t) = tt
+says ω δ y c l (Grown i) = tt
 says ω δ y c l (Refused r) = tt
 
 says-drain : (ω : ℕ) (δ : Bool) (y : ℕ) (l : Line) (a : Answer) (κ : Kind) (q : Queue) (m : List ℕ) (s : Store) (x : Bool) → Says ω δ y drain l a (cond x quiet (event-of-drain κ ω q m s))
@@ -138,6 +147,8 @@ abbrev workerOf : Call → ℕ
 workerOf (begin i op) = i
 workerOf (step i) = i
 workerOf (dropLink i) = i
+workerOf (ask i) = i
+workerOf (dropAsk i) = i
 workerOf drain = 0
 
 abbrev lineOf : Played → Line
@@ -150,6 +161,8 @@ says-in : (W : World) (c : Call) (a : Answer) → Says (W .bench .words) (W .ben
 says-in W (begin i op) a = says (W .bench .words) (W .bench .delayed) (W .bench .waiting .count) (begin i op) _ a
 says-in W (step i) a = says (W .bench .words) (W .bench .delayed) (W .bench .waiting .count) (step i) _ a
 says-in W (dropLink i) a = says (W .bench .words) (W .bench .delayed) (W .bench .waiting .count) (dropLink i) _ a
+says-in W (ask i) a = says (W .bench .words) (W .bench .delayed) (W .bench .waiting .count) (ask i) _ a
+says-in W (dropAsk i) a = says (W .bench .words) (W .bench .delayed) (W .bench .waiting .count) (dropAsk i) _ a
 says-in W drain a = says-drain (W .bench .words) (W .bench .delayed) (W .bench .waiting .count) _ a _ _ _ (oldest (W .bench .waiting)) (isRefused a)
 
 pub told : (s : Played) (e : Event) → event-at s ≡ e → SaysAt s e
@@ -170,6 +183,8 @@ ordinary s t n = go (s .call) refl
     go (begin i op) e = refl
     go (step i) e = refl
     go (dropLink i) e = refl
+    go (ask i) e = refl
+    go (dropAsk i) e = refl
     go drain e = absurd (n (subst Plainly (sym (t ∙ ap (λ (c : Call). callOf (s .before) c .answer) e)) (drain-answer (s .before))))
 
 not-plain : (a : Answer) → isPlain a ≡ false → Plainly a → ⊥
@@ -192,6 +207,8 @@ empty-ev i s tr e = ordinary s tr (not-plain (s .answer) (ap isPlain e)) ∙ ap 
 out-is : (c : Call) (l : Line) (t : Task) → (i : ℕ) × (event-of-hand-out c l t ≡ handed-out i t)
 out-is (begin i op) l t = (0, refl)
 out-is (dropLink i) l t = (0, refl)
+out-is (ask i) l t = (0, refl)
+out-is (dropAsk i) l t = (0, refl)
 out-is drain l t = (0, refl)
 out-is (step i) l t = go (is-compare l)
   where
@@ -337,6 +354,8 @@ stolen-compares k t s e =
 done-go : (c : Call) (l : Line) → finishes-put (event-of-going-on c l) ≡ 0
 done-go (begin i op) l = refl
 done-go (dropLink i) l = refl
+done-go (ask i) l = refl
+done-go (dropAsk i) l = refl
 done-go drain l = refl
 done-go (step i) l = go (is-line-1 l) (is-compare l)
   where
@@ -350,8 +369,11 @@ done-begin ω (begin zero (Put p)) n = refl
 done-begin ω (begin (suc k) (Put p)) n = refl
 done-begin ω (begin i Take) n = refl
 done-begin ω (begin i Steal) n = refl
+done-begin ω (begin i Commit) n = refl
 done-begin ω (step i) n = refl
 done-begin ω (dropLink i) n = refl
+done-begin ω (ask i) n = refl
+done-begin ω (dropAsk i) n = refl
 done-begin ω drain n = refl
 
 nothing : (δ : Bool) → _≡_ {A = ℕ} 0 (if δ then 0 else 0)
@@ -369,6 +391,7 @@ done-is ω false y c l (Finished i t) = refl
 done-is ω δ y c l (HandedOut i t) = let r = out-is c l t in ap finishes-put (r .1) ∙ nothing δ
 done-is ω δ y c l (Empty i) = nothing δ
 done-is ω δ y c l (Full i t) = nothing δ
+done-is ω δ y c l (Grown i) = nothing δ
 done-is ω δ y c l (Refused r) = nothing δ
 
 done-drain : (κ : Kind) (ω : ℕ) (q : Queue) (m : List ℕ) (s : Store) (x : Bool) → finishes-put (cond x quiet (event-of-drain κ ω q m s)) ≡ (if x then 0 else ofPut s)
@@ -385,6 +408,8 @@ done-in : (W : World) (c : Call) (a : Answer) → finishes-put (event-in W c a) 
 done-in W (begin i op) a = done-is (W .bench .words) (W .bench .delayed) (W .bench .waiting .count) (begin i op) _ a
 done-in W (step i) a = done-is (W .bench .words) (W .bench .delayed) (W .bench .waiting .count) (step i) _ a
 done-in W (dropLink i) a = done-is (W .bench .words) (W .bench .delayed) (W .bench .waiting .count) (dropLink i) _ a
+done-in W (ask i) a = done-is (W .bench .words) (W .bench .delayed) (W .bench .waiting .count) (ask i) _ a
+done-in W (dropAsk i) a = done-is (W .bench .words) (W .bench .delayed) (W .bench .waiting .count) (dropAsk i) _ a
 done-in W drain a = done-drain _ _ _ _ (oldest (W .bench .waiting)) (isRefused a)
 
 puts-is : (T : List Played) → finished-puts (events T) ≡ puts T
@@ -417,11 +442,16 @@ still-is ω y (begin zero (Put p)) l (Numbered n) = refl
 still-is ω y (begin (suc k) (Put p)) l (Numbered n) = refl
 still-is ω y (begin i Take) l (Numbered n) = refl
 still-is ω y (begin i Steal) l (Numbered n) = refl
+still-is ω y (begin i Commit) l (Numbered n) = refl
 still-is ω y (step i) l (Numbered n) = refl
 still-is ω y (dropLink i) l (Numbered n) = refl
+still-is ω y (ask i) l (Numbered n) = refl
+still-is ω y (dropAsk i) l (Numbered n) = refl
 still-is ω y drain l (Numbered n) = refl
 still-is ω y (begin i op) l GoesOn = refl
 still-is ω y (dropLink i) l GoesOn = refl
+still-is ω y (ask i) l GoesOn = refl
+still-is ω y (dropAsk i) l GoesOn = refl
 still-is ω y drain l GoesOn = refl
 still-is ω y (step i) l GoesOn = go (is-line-1 l) (is-compare l)
   where
@@ -433,6 +463,7 @@ still-is ω y c l (Finished i t) = refl
 still-is ω y c l (HandedOut i t) = let r = out-is c l t in ap drain-of (r .1)
 still-is ω y c l (Empty i) = refl
 still-is ω y c l (Full i t) = refl
+still-is ω y c l (Grown i) = refl
 still-is ω y c l (Refused r) = refl
 
 drain-one : (κ : Kind) (ω : ℕ) (q : Queue) (m : List ℕ) (s : Store) (x : Bool) → drain-of (cond x quiet (event-of-drain κ ω q m s)) ≡ (if x then 0 else 1)
@@ -449,6 +480,8 @@ drain-in : (W : World) (c : Call) (a : Answer) → W .bench .delayed ≡ true �
 drain-in W (begin i op) a e = ap (λ (δ : Bool). drain-of (event-of (W .bench .words) δ (W .bench .waiting .count) (begin i op) (lineAt (W .bench .workers) i) a)) e ∙ still-is _ _ (begin i op) _ a
 drain-in W (step i) a e = ap (λ (δ : Bool). drain-of (event-of (W .bench .words) δ (W .bench .waiting .count) (step i) (lineAt (W .bench .workers) i) a)) e ∙ still-is _ _ (step i) _ a
 drain-in W (dropLink i) a e = ap (λ (δ : Bool). drain-of (event-of (W .bench .words) δ (W .bench .waiting .count) (dropLink i) (lineAt (W .bench .workers) i) a)) e ∙ still-is _ _ (dropLink i) _ a
+drain-in W (ask i) a e = ap (λ (δ : Bool). drain-of (event-of (W .bench .words) δ (W .bench .waiting .count) (ask i) (lineAt (W .bench .workers) i) a)) e ∙ still-is _ _ (ask i) _ a
+drain-in W (dropAsk i) a e = ap (λ (δ : Bool). drain-of (event-of (W .bench .words) δ (W .bench .waiting .count) (dropAsk i) (lineAt (W .bench .workers) i) a)) e ∙ still-is _ _ (dropAsk i) _ a
 drain-in W drain a e = drain-one _ _ _ _ (oldest (W .bench .waiting)) (isRefused a)
 
 -- all calls of the list have delayed stores

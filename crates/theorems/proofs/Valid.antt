@@ -5,9 +5,12 @@ use mathlib.Core.Logic.{inl, inr}
 use mathlib.Core.List.{List, [], _∷_}
 use Prim.Native.Nat.{ℕ, zero, suc, _+_, _-_, _^_, _≤_, _<_}
 use native.Mathlib.Omega.{arith}
+use native.Mathlib.Nat.{mod-lt}
 use lib.Dec.{ltb, leb}
 use lib.ListN.{length}
 use borrow.Author.Tests.{eq-eqb, le-leb, lt-ltb, ltb-false}
+use Rattle.model.specs.declared.Growth.{Growth}
+use Rattle.model.specs.declared.Growth.the-variants.{ForPut, ForCommit}
 use Rattle.model.specs.declared.Kind.{Kind}
 use Rattle.model.specs.declared.Kind.the-variants.{Lifo, Fifo, Deque}
 use Rattle.model.specs.declared.Line.{Line}
@@ -26,11 +29,12 @@ use Rattle.model.proofs.Tests.{and-both, or-either}
 use Rattle.model.specs.Lines.{size, holdsLink}
 use Rattle.model.specs.Stores.{Shared, inLine}
 use Rattle.model.specs.World.{World, tagBits, lineAt, isIdle}
-use Rattle.model.specs.Limits.{kindOk, linkOk, linksOk, taskOk, numberOk, anchorOk, readOk, headOk, roomOk, someOk, notedOk, slotOk, isDeque, nextOk, ownerOk, thiefOk, thievesOk, hasAnchor, storesOk, benchOk, validOf}
+use Rattle.model.specs.Limits.{kindOk, linkOk, linksOk, taskOk, numberOk, anchorOk, readOk, headOk, roomOk, someOk, notedOk, slotOk, isDeque, nextOk, ownerOk, thiefOk, thievesOk, hasAnchor, storesOk, benchOk, validOf, growthOk}
 use Rattle.theorems.proofs.Folds.{places, laid, words, landed-is}
 use Rattle.model.specs.Figures.{anchor}
 use Rattle.theorems.proofs.Directory.{Arrays, tidy-below}
-use Rattle.theorems.proofs.Shape.{tail, Bounded, Head, OwnRead, Room, Some, Span, Early, ThiefRead, Slot, Double, After, Known, pending, Spent, OwnShape, ThiefShape, tails, lows, FitAnchor, FitHead, FitTail, Path, Shape}
+use Rattle.theorems.proofs.Asides.{Aside, ok-aside}
+use Rattle.theorems.proofs.Shape.{openFor, KnownFor, tail, Bounded, Head, OwnRead, Room, Some, Span, Early, ThiefRead, Slot, Double, After, Known, pending, Spent, OwnShape, ThiefShape, tails, lows, FitAnchor, FitHead, FitTail, Path, Shape}
 use Rattle.theorems.proofs.ShapeLay.{shape-settle, tails-is}
 use Rattle.theorems.proofs.ShapeClaim.{path-places}
 
@@ -83,6 +87,10 @@ ok-span Deque τ h q u s = lt-ltb h 2048 s
 ok-task : (n : ℕ) (t : Task) → Known n t → taskOk n t ≡ true
 ok-task n t (a, e) = and-both _ _ (le-leb (t .number) 65535 a) (none-from n t e)
 
+ok-growth : (ω : ℕ) (g : Growth) → KnownFor ω g → growthOk ω g ≡ true
+ok-growth ω (ForPut t) s = ok-task (ω + 1) t s
+ok-growth ω ForCommit s = refl
+
 ok-owner : (κ : Kind) (w ω : ℕ) (q : Queue) (low τ : ℕ) (o : Line) → τ + pending o ≤ 65535 → LowOk κ low τ → OwnShape κ w ω (size ω q) low τ o → ownerOk κ w ω q o ≡ true
 ok-owner κ w ω q low τ Idle u l s = and-both _ _ refl refl
 ok-owner κ w ω q low τ (PutRead t) u l s = and-both _ _ refl (ok-task (ω + 1) t s)
@@ -92,11 +100,12 @@ ok-owner κ w ω q low τ (PutWord t r j) u l (a, b, d, e) =
     and-both _ _ refl (and-both _ _ (ok-task (ω + 1) t a) (and-both _ _ (ok-own κ w (size ω q) low τ r (omega arith) l b) (and-both _ _ (ok-room κ w (size ω q) low τ r u b d) (le-leb j ω e))))
 ok-owner κ w ω q low τ (PutFinish t r) u l (a, b, d) =
     and-both _ _ refl (and-both _ _ (ok-task (ω + 1) t a) (and-both _ _ (ok-own κ w (size ω q) low τ r (omega arith) l b) (ok-room κ w (size ω q) low τ r u b d)))
-ok-owner κ w ω q low τ (Claim t) u l s = and-both _ _ refl (ok-task (ω + 1) t s)
-ok-owner κ w ω q low τ (Note t) u l s = and-both _ _ refl (ok-task (ω + 1) t s)
+ok-owner κ w ω q low τ (Claim ForCommit) u l s = and-both _ _ refl refl
+ok-owner κ w ω q low τ (Claim (ForPut t)) u l s = and-both _ _ refl (ok-task (ω + 1) t s)
+ok-owner κ w ω q low τ (Note t) u l s = and-both _ _ refl (ok-growth ω t s)
 ok-owner κ w ω q low τ (Copy t h j k) u l (a, b, d, e) =
-    and-both _ _ refl (and-both _ _ (ok-task (ω + 1) t a) (and-both _ _ (ok-span κ τ h j (omega arith) b) (and-both _ _ (le-leb j (size ω q) d) (lt-ltb k j e))))
-ok-owner κ w ω q low τ (Publish t) u l s = and-both _ _ refl (ok-task (ω + 1) t s)
+    and-both _ _ refl (and-both _ _ (ok-growth ω t a) (and-both _ _ (ok-span κ τ h j (omega arith) b) (and-both _ _ (le-leb j (size ω q) d) (lt-ltb k j e))))
+ok-owner κ w ω q low τ (Publish t) u l s = and-both _ _ refl (ok-growth ω t s)
 ok-owner κ w ω q low τ TakeRead u l s = and-both _ _ refl refl
 ok-owner κ w ω q low τ (TakeTail h) u l s = and-both _ _ refl (ok-head κ h low τ (omega arith) l s)
 ok-owner κ w ω q low τ (TakeTest r) u l s = and-both _ _ refl (ok-own κ w (size ω q) low τ r (omega arith) l s)
@@ -132,10 +141,10 @@ ok-double Lifo d = absurd d
 ok-double Fifo d = absurd d
 ok-double Deque d = refl
 
-ok-next : (κ : Kind) (e : ℕ) → After κ e → nextOk κ e ≡ true
-ok-next Lifo e a = eq-eqb e 0 a
-ok-next Fifo e a = eq-eqb e 0 a
-ok-next Deque e a = lt-ltb e 2048 a
+ok-next : (κ : Kind) (h e : ℕ) → After κ h e → nextOk κ e ≡ true
+ok-next Lifo h e a = eq-eqb e 0 a
+ok-next Fifo h e a = eq-eqb e 0 a
+ok-next Deque h e a = lt-ltb e 2048 (rw a (mod-lt (h + 1) (omega arith)))
 
 ok-thief : (κ : Kind) (w ω : ℕ) (q : Queue) (τ : ℕ) (θ : Line) → τ ≤ 65535 → ThiefShape κ w ω q τ θ → thiefOk κ w ω q θ ≡ true
 unfolding _or_
@@ -151,7 +160,7 @@ ok-thief κ w ω q τ (StealWord r k t j) u (a, b, d, e, f, g) =
 ok-thief κ w ω q τ (StealNext r t) u (a, b, d, e) =
     and-both _ _ refl (and-both _ _ (ok-read κ w (size ω q) τ r u a) (and-both _ _ (ok-some κ r b) (and-both _ _ (ok-double κ d) (ok-task (ω + 1) t e))))
 ok-thief κ w ω q τ (StealCompare r i t) u (a, b, d, e) =
-    and-both _ _ refl (and-both _ _ (ok-read κ w (size ω q) τ r u a) (and-both _ _ (ok-some κ r b) (and-both _ _ (ok-next κ i d) (ok-task (ω + 1) t e))))
+    and-both _ _ refl (and-both _ _ (ok-read κ w (size ω q) τ r u a) (and-both _ _ (ok-some κ r b) (and-both _ _ (ok-next κ (r .head) i d) (ok-task (ω + 1) t e))))
 ok-thief κ w ω q τ (PutRead t) u s = absurd s
 ok-thief κ w ω q τ (PutTail t h) u s = absurd s
 ok-thief κ w ω q τ (PutTest t r) u s = absurd s
@@ -189,6 +198,10 @@ ok-links κ q l f (suc k) = and-both _ _ (ok-links κ q l f k) (pick (holdsLink 
     pick true e = or-either _ _ (inr (f k e))
     pick false e = or-either _ _ (inl refl)
 
+open-le : (g : Growth) → openFor g ≤ 1
+open-le (ForPut t) = omega arith
+open-le ForCommit = omega arith
+
 pending-le : (o : Line) → pending o ≤ 1
 pending-le Idle = omega arith
 pending-le (PutRead t) = omega arith
@@ -196,10 +209,10 @@ pending-le (PutTail t h) = omega arith
 pending-le (PutTest t r) = omega arith
 pending-le (PutWord t r j) = omega arith
 pending-le (PutFinish t r) = omega arith
-pending-le (Claim t) = omega arith
-pending-le (Note t) = omega arith
-pending-le (Copy t h j i) = omega arith
-pending-le (Publish t) = omega arith
+pending-le (Claim t) = open-le t
+pending-le (Note t) = open-le t
+pending-le (Copy t h j i) = open-le t
+pending-le (Publish t) = open-le t
 pending-le TakeRead = omega arith
 pending-le (TakeTail h) = omega arith
 pending-le (TakeTest r) = omega arith
@@ -281,6 +294,7 @@ pub record Whole (W : World) : Type 0 where
   pub stores : length (W .bench .waiting .stores) ≡ 8
   pub line : W .bench .waiting .count ≤ 8
   pub mode : W .bench .delayed ≡ false → W .bench .waiting .count ≡ 0
+  pub aside : Aside (W .bench .words) (laid (inLine (W .bench .waiting)) (W .bench .queue)) (W .store) (lineAt (W .bench .workers) 0) (W .bench .aside)
   pub low : ℕ
   pub shape : Shape (W .bench .kind) (tagBits (W .bench)) (W .bench .words) (W .bench .used) low (W .bench .queue) (W .store) (inLine (W .bench .waiting)) (lineAt (W .bench .workers) 0) (thieves (W .bench .workers))
 
@@ -308,9 +322,10 @@ valid W H =
     (and-both _ _ (ok-anchor κ w (size ω v) _ (v .anchor) (omega (arith, T)) (B .anchor))
     (and-both _ _ (le-leb _ _ (H .used))
     (and-both _ _ (and-both _ _ (ok-count (W .bench .delayed) (W .bench .waiting .count) (H .line) (H .mode)) (ok-stores κ w ω (H .low) (q .published) _ v ss mono (A .some) (A .below) refl (sym te) (omega (arith, T)) (S .path)))
+    (and-both _ _ (ok-aside ω v (W .store) o (W .bench .aside) (H .aside))
     (and-both _ _ (ok-links κ q (W .bench .workers) (H .links) 8)
     (and-both _ _ (ok-owner κ w ω v _ (tail κ (v .anchor)) o T (low-ok κ w (size ω v) _ (v .anchor) (B .anchor)) (B .own .shape))
-    (ok-thieves κ w ω q (tail κ (q .anchor)) (W .bench .crew) (W .bench .workers) (omega (arith, T, ts, te)) (S .th) (H .rest) 7)))))))))))))
+    (ok-thieves κ w ω q (tail κ (q .anchor)) (W .bench .crew) (W .bench .workers) (omega (arith, T, ts, te)) (S .th) (H .rest) 7))))))))))))))
   where
     κ : Kind
     κ = W .bench .kind

@@ -11,11 +11,11 @@ use Rattle.model.specs.declared.Tally.the-variants.{Counted}
 use Rattle.model.specs.Tests.{if_then_else_, _and_}
 use Rattle.model.specs.Lines.{failsCompare}
 use Rattle.model.specs.World.{World, Outcome, lineAt}
-use Rattle.model.specs.Calls.{freshOf, oneMore, restartsOf, raised, whoOf, Call, begin, step, dropLink, drain, callOf}
+use Rattle.model.specs.Calls.{freshOf, oneMore, restartsOf, raised, whoOf, Call, begin, step, dropLink, drain, ask, dropAsk, callOf}
 use Rattle.model.specs.Run.{played, after}
 use Rattle.model.proofs.Tests.{if-true}
 use Rattle.theorems.specs.Restarts.{beats, beaten, upTo, WhoCounts}
-use Rattle.theorems.proofs.Cases.{begin-cases, step-cases, drop-cases, drain-cases}
+use Rattle.theorems.proofs.Cases.{begin-cases, step-cases, drop-cases, drain-cases, ask-cases, drop-ask-cases}
 use Rattle.theorems.proofs.Restarts.{counted}
 use Rattle.theorems.proofs.Fresh.{fresh-is}
 use Rattle.theorems.proofs.NeverForeign.{effect-answers, never-foreign}
@@ -93,6 +93,12 @@ call-counts W (dropLink i) k h =
     (record { crew = refl; many = refl; count = refl })
 call-counts W drain k h =
     drain-cases (Counts k W drain) W (λ r l. record { crew = refl; many = refl; count = refl }) (λ some. record { crew = refl; many = refl; count = refl })
+call-counts W (ask i) k h =
+    ask-cases (Counts k W (ask i)) W (λ r l. record { crew = refl; many = refl; count = refl }) i
+    (λ n A. record { crew = refl; many = refl; count = refl })
+call-counts W (dropAsk i) k h =
+    drop-ask-cases (Counts k W (dropAsk i)) W (λ r l. record { crew = refl; many = refl; count = refl }) i
+    (λ n A. record { crew = refl; many = refl; count = refl })
 call-counts W (step i) k h =
     step-cases (Counts k W (step i)) W (λ r l. record { crew = refl; many = refl; count = refl }) i
     (λ M.

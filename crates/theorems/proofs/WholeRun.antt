@@ -11,6 +11,7 @@ use lib.Seq.{getD-set-other, getD-set-same}
 use borrow.Author.Tests.{ltb-true, ltb-false, eqb-true}
 use Rattle.model.specs.declared.Kind.{Kind}
 use Rattle.model.specs.declared.Kind.the-variants.{Lifo, Fifo, Deque}
+use Rattle.model.specs.declared.Growth.the-variants.{ForPut, ForCommit}
 use Rattle.model.specs.declared.Line.{Line}
 use Rattle.model.specs.declared.Line.the-variants.{Idle, PutRead, PutTail, PutTest, PutWord, PutFinish, Claim, Note, Copy, Publish, TakeRead, TakeTail, TakeTest, TakeWord, TakeFinish, StealRead, StealTail, StealTest, StealNote, StealWord, StealNext, StealCompare}
 use Rattle.model.specs.declared.Queue.{Queue}
@@ -19,27 +20,29 @@ use Rattle.model.specs.declared.Pending.{Pending}
 use Rattle.model.specs.declared.Waiting.{Waiting}
 use Rattle.model.specs.declared.Worker.{Worker}
 use Rattle.model.specs.declared.Operation.{Operation}
-use Rattle.model.specs.declared.Operation.the-variants.{Put, Take, Steal}
+use Rattle.model.specs.declared.Operation.the-variants.{Put, Take, Steal, Commit}
 use Rattle.model.specs.declared.Payload.{Payload}
 use Rattle.model.specs.Tests.{if_then_else_, _and_, _or_}
 use Rattle.model.specs.Tasks.{task, firstWords}
 use Rattle.model.specs.Answers.{entryOf, ends, entryLength, entryWords, logged}
-use Rattle.model.specs.Stores.{inLine, joined, oldest}
+use Rattle.model.specs.Stores.{inLine, joined, oldest, oneLess}
 use Rattle.model.specs.Lines.{Effect, holdsLink}
-use Rattle.model.specs.World.{World, Outcome, tagBits, resting, lineAt, isIdle, isSteal1, isPast1}
+use Rattle.model.specs.World.{World, Outcome, tagBits, resting, lineAt, isIdle, isSteal1, isPast1, isExpanding, isCommit1}
 use Rattle.model.specs.Limits.{linkOk}
-use Rattle.model.specs.Calls.{linkSet, relinked, joining, landing, logFull, usedBy, firstLine, begun, Call, callOf}
+use Rattle.model.specs.Calls.{linkSet, relinked, joining, landing, logFull, usedBy, firstLine, begun, Call, callOf, setAside}
 use Rattle.model.specs.Run.{after}
 use Rattle.model.proofs.Tests.{or-false}
 use Rattle.model.proofs.Tasks.{gathered-again, first-number}
 use Rattle.theorems.proofs.Remainders.{le-or-lt}
-use Rattle.theorems.proofs.Folds.{laid, words}
+use Rattle.theorems.proofs.Folds.{laid, words, places, arraysAfter, queueAfter, storeAfter}
 use Rattle.theorems.proofs.Words.{set-all-length}
 use Rattle.theorems.proofs.Directory.{arrays-anchor}
-use Rattle.theorems.proofs.Cases.{dropped, effectOf, queueThen, storeThen, stepTo, drainTo, MayBegin, MayStep, call-cases}
+use Rattle.theorems.proofs.Cases.{dropped, effectOf, queueThen, storeThen, stepTo, drainTo, MayBegin, MayStep, call-cases, MayAside}
+use Rattle.theorems.proofs.Asides.{Aside, none-aside, aside-move, at-rest, line-next}
 use Rattle.theorems.proofs.Shape.{tail, Spent, Known, lowOf, lows, ThiefShape, thief-keep, Shape}
 use Rattle.theorems.proofs.ShapeLay.{shape-lay, shape-settle}
 use Rattle.theorems.proofs.ShapeOwner.{spent-put}
+use Rattle.theorems.proofs.ShapeClaim.{words-length}
 use Rattle.theorems.proofs.ShapeThief.{thief-shaped, thief-stay}
 use Rattle.theorems.proofs.ShapeStep.{no-more, not-both, claim-only, own-shaped}
 use Rattle.theorems.proofs.Held.{line-join, joined-length, line-drain, drained-length}
@@ -53,7 +56,8 @@ idle-is (PutTail t h) e = cc
 idle-is (PutTest t r) e = cc
 idle-is (PutWord t r j) e = cc
 idle-is (PutFinish t r) e = cc
-idle-is (Claim t) e = cc
+idle-is (Claim (ForPut t)) e = cc
+idle-is (Claim ForCommit) e = cc
 idle-is (Note t) e = cc
 idle-is (Copy t h j i) e = cc
 idle-is (Publish t) e = cc
@@ -169,12 +173,18 @@ module _ {W : World} (H : Whole W) where
   take-shape κ w ω used low q m ss φ S =
       record { anchor = S .anchor; arrays = S .arrays; path = S .path; own = record { claims = S .own .claims; spent = spent-put κ _ used Idle TakeRead refl (S .own .spent); shape = tt }; th = S .th }
 
+  commit-shape : (κ : Kind) (w ω used low : ℕ) (q : Queue) (m : List ℕ) (ss : List Store) (φ : ℕ → Line) → Shape κ w ω used low q m ss Idle φ → Shape κ w ω used low q m ss (Claim ForCommit) φ
+  commit-shape κ w ω used low q m ss φ S =
+      record { anchor = S .anchor; arrays = S .arrays; path = S .path; own = record { claims = S .own .claims; spent = spent-put κ _ used Idle (Claim ForCommit) refl (S .own .spent); shape = tt }; th = S .th }
+
   first-shape : (i : ℕ) (op : Operation) → MayBegin W i op → let x = firstLine op (W .bench .words) (W .bench .used) in
       ShapeOf (usedBy op (W .bench .used)) (lineAt (set (W .bench .workers) i (record { line = x })) 0) (thieves (set (W .bench .workers) i (record { line = x })))
   first-shape zero (Put p) B =
       own-back (ShapeOf (W .bench .used + 1)) (W .bench .workers) _ (in-crew 0 (B .member))
       (put-shape p _ _ _ _ _ _ _ _ _ (ltb-true (W .bench .used) 65535 (B .number)) (H .words .1) (idle-shape (B .idle)))
   first-shape (suc k) (Put p) B = not-thief k (B .hand)
+  first-shape zero Commit B = own-back (ShapeOf (W .bench .used)) (W .bench .workers) _ (in-crew 0 (B .member)) (commit-shape _ _ _ _ _ _ _ _ _ (idle-shape (B .idle)))
+  first-shape (suc k) Commit B = not-thief k (B .hand)
   first-shape zero Take B = own-back (ShapeOf (W .bench .used)) (W .bench .workers) TakeRead (in-crew 0 (B .member)) (take-shape _ _ _ _ _ _ _ _ _ (idle-shape (B .idle)))
   first-shape (suc k) Take B = not-thief k (B .hand)
   first-shape zero Steal B = not-owner (B .hand)
@@ -185,6 +195,7 @@ module _ {W : World} (H : Whole W) where
   used-in (Put p) i B = omega (arith, ltb-true (W .bench .used) 65535 (B .number))
   used-in Take i B = H .used
   used-in Steal i B = H .used
+  used-in Commit i B = H .used
 
   -- worker i's line becomes x, and worker k holds a link
   link-line : (κ : Kind) (q : Queue) (i k : ℕ) (x : Line) → i < W .bench .crew → (k ≡ i → linkOk κ q x ≡ true) → (k ≢ i → linkOk κ q (lineAt (W .bench .workers) k) ≡ true)
@@ -210,6 +221,26 @@ module _ {W : World} (H : Whole W) where
       absurd (true≢false (sym (link-parts (W .bench .kind) (W .bench .queue) (lineAt (W .bench .workers) k) (H .links k h) .1) ∙ ap isPast1 idle)))
       (λ ne. H .links k h)
 
+  -- the words set aside, while worker i's line becomes x
+  abbrev AsideAt : Line → Type 0
+  AsideAt o = Aside (W .bench .words) (laid (inLine (W .bench .waiting)) (W .bench .queue)) (W .store) o (W .bench .aside)
+
+  first-aside : (o : Line) → (isCommit1 o ≡ true → 0 < W .bench .aside) → isExpanding o ≡ false → AsideAt o
+  first-aside o some calm = aside-move (W .bench .words) (laid (inLine (W .bench .waiting)) (W .bench .queue)) (laid (inLine (W .bench .waiting)) (W .bench .queue)) (W .store) (W .store) (lineAt (W .bench .workers) 0) o (W .bench .aside) refl refl refl (λ e. refl) some (λ e. calm) (H .aside)
+
+  thief-aside : (k : ℕ) (x : Line) → AsideAt (lineAt (set (W .bench .workers) (suc k) (record { line = x })) 0)
+  thief-aside k x = subst AsideAt (sym (line-other (W .bench .workers) (suc k) 0 x (omega arith))) (H .aside)
+
+  own-aside : (x : Line) → 0 < W .bench .crew → AsideAt x → AsideAt (lineAt (set (W .bench .workers) 0 (record { line = x })) 0)
+  own-aside x l A = subst AsideAt (sym (line-same (W .bench .workers) 0 x (in-crew 0 l))) A
+
+  begun-aside : (i : ℕ) (op : Operation) → MayBegin W i op → AsideAt (lineAt (set (W .bench .workers) i (record { line = firstLine op (W .bench .words) (W .bench .used) })) 0)
+  begun-aside zero (Put p) B = let x = firstLine (Put p) (W .bench .words) (W .bench .used) in own-aside x (B .member) (first-aside x (λ c. absurd (true≢false (sym c))) refl)
+  begun-aside zero Take B = own-aside TakeRead (B .member) (first-aside TakeRead (λ c. absurd (true≢false (sym c))) refl)
+  begun-aside zero Steal B = not-owner (B .hand)
+  begun-aside zero Commit B = own-aside (Claim ForCommit) (B .member) (first-aside (Claim ForCommit) (λ c. ltb-true 0 (W .bench .aside) (B .ask)) refl)
+  begun-aside (suc k) op B = thief-aside k _
+
   begun-whole : (i : ℕ) (op : Operation) → MayBegin W i op → Whole (begun W i op .world)
   begun-whole i op B =
       record {
@@ -225,6 +256,7 @@ module _ {W : World} (H : Whole W) where
         stores = H .stores;
         line = H .line;
         mode = H .mode;
+        aside = begun-aside i op B;
         low = H .low;
         shape = first-shape i op B;
       }
@@ -269,6 +301,43 @@ module _ {W : World} (H : Whole W) where
           → Shape (W .bench .kind) (tagBits (W .bench)) (W .bench .words) (W .bench .used) (H .low) (laid (E .stores) (W .bench .queue)) (words (W .bench .words) (W .bench .queue .arrays) (E .stores) (W .store)) (inLine (W .bench .waiting)) (lineAt (W .bench .workers) 0) φ′
           → ShapeAfter (suc k) (H .low) (lineAt (W .bench .workers) 0) φ′
       kept S = rw (thief-calm k, thief-lands k .0, thief-lands k .1) S
+
+  -- the words set aside after it
+  abbrev AsideAfter : ℕ → Line → ℕ → Type 0
+  AsideAfter i o n = Aside (W .bench .words) (laid (inLine (stepTo W i .world .bench .waiting)) (stepTo W i .world .bench .queue)) (storeThen W i (effectOf W i)) o n
+
+  next-line : (i : ℕ) → (isCommit1 (effectOf W i .line) ≡ false) × (effectOf W i .claims ≡ false → isExpanding (lineAt (W .bench .workers) i) ≡ false → isExpanding (effectOf W i .line) ≡ false)
+  next-line zero = line-next (W .bench .kind) (tagBits (W .bench)) (W .bench .words) _ _ 0 (lineAt (W .bench .workers) 0)
+  next-line (suc k) = line-next (W .bench .kind) (tagBits (W .bench)) (W .bench .words) (W .bench .queue) (W .store) (suc k) (lineAt (W .bench .workers) (suc k))
+
+  -- the owner's line then
+  owner-next : (i : ℕ) → i < W .bench .crew → effectOf W i .claims ≡ false → let o = lineAt (stepTo W i .world .bench .workers) 0 in
+      (isCommit1 o ≡ true → 0 < W .bench .aside) × (isExpanding (lineAt (W .bench .workers) 0) ≡ false → isExpanding o ≡ false)
+  owner-next zero l f =
+      subst (λ (o : Line). (isCommit1 o ≡ true → 0 < W .bench .aside) × (isExpanding (lineAt (W .bench .workers) 0) ≡ false → isExpanding o ≡ false)) (sym (line-same (W .bench .workers) 0 _ (in-crew 0 l)))
+      ((λ c. absurd (true≢false (sym c ∙ next-line 0 .0))), next-line 0 .1 f)
+  owner-next (suc k) l f =
+      subst (λ (o : Line). (isCommit1 o ≡ true → 0 < W .bench .aside) × (isExpanding (lineAt (W .bench .workers) 0) ≡ false → isExpanding o ≡ false)) (sym (line-other (W .bench .workers) (suc k) 0 _ (omega arith)))
+      (H .aside .0, λ e. e)
+
+  stepped-aside : (i : ℕ) → i < W .bench .crew → AsideAfter i (lineAt (stepTo W i .world .bench .workers) 0) (stepTo W i .world .bench .aside)
+  unfolding if_then_else_
+  stepped-aside i l = go i l (effectOf W i .claims) refl
+    where
+      go : (i : ℕ) → i < W .bench .crew → (x : Bool) → effectOf W i .claims ≡ x → AsideAfter i (lineAt (stepTo W i .world .bench .workers) 0) (stepTo W i .world .bench .aside)
+      go i l false f =
+          subst (λ (x : Bool). AsideAfter i (lineAt (stepTo W i .world .bench .workers) 0) (if x then 0 else W .bench .aside)) (sym f)
+          (aside-move (W .bench .words) (laid (inLine (W .bench .waiting)) (W .bench .queue)) (laid (inLine (stepTo W i .world .bench .waiting)) (stepTo W i .world .bench .queue)) (W .store) (storeThen W i (effectOf W i)) (lineAt (W .bench .workers) 0) (lineAt (stepTo W i .world .bench .workers) 0) (W .bench .aside) (ap (λ (x : Bool). arraysAfter x (W .bench .queue)) f) same
+          (words-length (W .bench .words) (arraysAfter (effectOf W i .claims) (W .bench .queue)) (landing (W .bench .delayed) i (effectOf W i .stores)) (storeAfter (effectOf W i .claims) (W .bench .queue) (W .store)) ∙ ap (λ (x : Bool). length (storeAfter x (W .bench .queue) (W .store))) f)
+          (λ e. at-rest _ _ _ (line-shape i l .1 .own .claims) (owner-next i l f .1 e) ∙ same ∙ sym (at-rest _ _ _ (H .shape .own .claims) e))
+          (owner-next i l f .0) (owner-next i l f .1) (H .aside))
+        where
+          same : queueAfter (effectOf W i .claims) (W .bench .queue) .claimed ≡ W .bench .queue .claimed
+          same = ap (λ (x : Bool). queueAfter x (W .bench .queue) .claimed) f
+      go zero l true f =
+          subst (λ (x : Bool). AsideAfter 0 (lineAt (stepTo W 0 .world .bench .workers) 0) (if x then 0 else W .bench .aside)) (sym f)
+          (none-aside (W .bench .words) (laid (inLine (stepTo W 0 .world .bench .waiting)) (stepTo W 0 .world .bench .queue)) (storeThen W 0 (effectOf W 0)) (lineAt (stepTo W 0 .world .bench .workers) 0) (ap isCommit1 (line-same (W .bench .workers) 0 _ (in-crew 0 l)) ∙ next-line 0 .0))
+      go (suc k) l true f = absurd (true≢false (sym f ∙ thief-calm k))
 
   -- worker i holds a link after its step
   abbrev Linked : ℕ → Type 0
@@ -344,6 +413,7 @@ module _ {W : World} (H : Whole W) where
         stores = joined-length (W .bench .waiting) (joining (W .bench .delayed) i (effectOf W i .stores)) (omega (arith, room, H .stores)) ∙ H .stores;
         line = room;
         mode = λ e. omega (arith, H .mode e, none-now (W .bench .delayed) i (effectOf W i .stores) e);
+        aside = stepped-aside i (M .member);
         low = line-shape i (M .member) .0;
         shape = shape-relink i _ (line-shape i (M .member) .1);
       }
@@ -367,6 +437,7 @@ module _ {W : World} (H : Whole W) where
         stores = H .stores;
         line = H .line;
         mode = H .mode;
+        aside = H .aside;
         low = H .low;
         shape = shape-relink i false (H .shape);
       }
@@ -376,7 +447,34 @@ module _ {W : World} (H : Whole W) where
       go k (inl (e, x)) = absurd (true≢false (sym x))
       go k (inr (ne, x)) = H .links k x
 
+  -- ASK, DROP
+  aside-whole : (n : ℕ) → MayAside W n → Whole (setAside W n .world)
+  aside-whole n A =
+      record {
+        kinds = H .kinds;
+        links = H .links;
+        width = H .width;
+        words = H .words;
+        crew = H .crew;
+        workers = H .workers;
+        rest = H .rest;
+        used = H .used;
+        logged = H .logged;
+        stores = H .stores;
+        line = H .line;
+        mode = H .mode;
+        aside = subst (λ (o : Line). Aside (W .bench .words) (laid (inLine (W .bench .waiting)) (W .bench .queue)) (W .store) o n) (sym (idle-is (lineAt (W .bench .workers) 0) (A .idle))) ((λ c. absurd (true≢false (sym c))), λ l. let S = A .words l in (S .0, S .1, refl));
+        low = H .low;
+        shape = H .shape;
+      }
+
   -- DRAIN
+  drained-aside : 0 < W .bench .waiting .count → Aside (W .bench .words) (laid (inLine (oneLess (W .bench .waiting))) (drainTo W .bench .queue)) (drainTo W .store) (lineAt (W .bench .workers) 0) (W .bench .aside)
+  drained-aside some =
+      aside-move (W .bench .words) (laid (inLine (W .bench .waiting)) (W .bench .queue)) (laid (inLine (oneLess (W .bench .waiting))) (drainTo W .bench .queue)) (W .store) (drainTo W .store) (lineAt (W .bench .workers) 0) (lineAt (W .bench .workers) 0) (W .bench .aside) refl refl
+      (words-length (W .bench .words) (W .bench .queue .arrays) (oldest (W .bench .waiting) ∷ []) (W .store))
+      (λ e. ap (λ (ss : List Store). places ss (W .bench .queue .published)) (sym (line-drain (W .bench .waiting) some in-line))) (H .aside .0) (λ e. e) (H .aside)
+
   drained-whole : 0 < W .bench .waiting .count → Whole (drainTo W)
   drained-whole some =
       record {
@@ -392,6 +490,7 @@ module _ {W : World} (H : Whole W) where
         stores = drained-length (W .bench .waiting .stores) (omega (arith, H .stores)) ∙ H .stores;
         line = omega (arith, H .line);
         mode = λ e. omega (arith, H .mode e);
+        aside = drained-aside some;
         low = lowOf (oldest (W .bench .waiting)) (H .low);
         shape =
             shape-lay (W .bench .kind) (oldest (W .bench .waiting))
@@ -407,7 +506,7 @@ module _ {W : World} (H : Whole W) where
           link-as (W .bench .kind) (W .bench .queue) (drainTo W .bench .queue) θ θ refl b (link-parts (W .bench .kind) (W .bench .queue) θ o .1) refl o
 
   pub call-whole : (c : Call) → Whole (callOf W c .world)
-  call-whole c = call-cases (λ (D : Outcome). Whole (D .world)) W (λ r l. H) begun-whole stepped-whole dropped-whole drained-whole c
+  call-whole c = call-cases (λ (D : Outcome). Whole (D .world)) W (λ r l. H) begun-whole stepped-whole dropped-whole drained-whole aside-whole c
 
 pub whole-run : (cs : List Call) (W : World) → Whole W → Whole (after W cs)
 unfolding after

@@ -27,13 +27,14 @@ use Rattle.model.specs.declared.Answer.the-variants.{
   HandedOut,
   Empty,
   Full,
+  Grown,
   Refused,
 }
 use Rattle.model.specs.Tests.{if_then_else_}
 use Rattle.model.specs.Tasks.{task, firstWords}
 use Rattle.model.specs.Stores.{oldest}
 use Rattle.model.specs.World.{World, tagBits, lineAt}
-use Rattle.model.specs.Calls.{freshOf, Call, begin, step, dropLink, drain}
+use Rattle.model.specs.Calls.{freshOf, Call, begin, step, dropLink, drain, ask, dropAsk}
 use Rattle.model.specs.Listing.{isRefused}
 use Rattle.model.specs.Run.{Played, played, after}
 use Rattle.model.specs.Window.{windowSize, windowTask}
@@ -103,6 +104,8 @@ abbrev pub drainsAs : Call → Answer → ℕ
 drainsAs (begin i op) a = 0
 drainsAs (step i) a = 0
 drainsAs (dropLink i) a = 0
+drainsAs (ask i) a = 0
+drainsAs (dropAsk i) a = 0
 drainsAs drain a = if isRefused a then 0 else 1
 
 abbrev pub drains : List Played → ℕ
@@ -140,6 +143,7 @@ finishes (Finished i t) = 1
 finishes (HandedOut i t) = 0
 finishes (Empty i) = 0
 finishes (Full i t) = 0
+finishes (Grown i) = 0
 finishes (Refused r) = 0
 
 -- how many puts a store is the anchor store of (FIFO: tail store)
@@ -156,6 +160,8 @@ abbrev pub arrivesAs : World → Call → Answer → ℕ
 arrivesAs W (begin i op) a = if W .bench .delayed then 0 else finishes a
 arrivesAs W (step i) a = if W .bench .delayed then 0 else finishes a
 arrivesAs W (dropLink i) a = if W .bench .delayed then 0 else finishes a
+arrivesAs W (ask i) a = if W .bench .delayed then 0 else finishes a
+arrivesAs W (dropAsk i) a = if W .bench .delayed then 0 else finishes a
 arrivesAs W drain a = if isRefused a then 0 else ofPut (oldest (W .bench .waiting))
 
 -- how many puts a part of the list brings to memory

@@ -3,3 +3,4 @@ pub mod Corollaries
 pub mod AsBefore
 pub mod Reached
 pub mod Restarts
+pub mod Growth

@@ -15,7 +15,7 @@ use Rattle.model.specs.declared.Tally.the-variants.{Counted}
 use Rattle.model.specs.Tests.{if_then_else_, _and_}
 use Rattle.model.specs.Lines.{lineStep, failsCompare}
 use Rattle.model.specs.World.{World, lineAt, isSteal1}
-use Rattle.model.specs.Calls.{oneMore, restartsOf, stepOf, whoOf, Call, begin, step, dropLink, drain}
+use Rattle.model.specs.Calls.{oneMore, restartsOf, stepOf, whoOf, Call, begin, step, dropLink, drain, ask, dropAsk}
 use Rattle.model.specs.Run.{Played, played, after}
 use Rattle.model.specs.Listing.{isRefused}
 use Rattle.theorems.specs.Demand3.{FromFresh}
@@ -37,6 +37,8 @@ beats k W (step i) a =
     not (isRefused a) and (eqb k i and failsCompare (W .bench .kind) (W .bench .queue) i (lineAt (W .bench .workers) i))
 beats k W (dropLink i) a = false
 beats k W drain a = false
+beats k W (ask i) a = false
+beats k W (dropAsk i) a = false
 
 -- how often worker k was beaten in a list
 abbrev pub beaten : ℕ → List Played → ℕ

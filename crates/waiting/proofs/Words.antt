@@ -16,32 +16,36 @@ use Rattle.model.specs.Stores.{Shared, shared, landed, landedAll}
 use Rattle.waiting.specs.Places.{firstIn, Placed, coveredBy, valued, KeptBy}
 use Rattle.waiting.proofs.Line.{storeAt, lands-next}
 
--- no landed store moves an array, or claims one
+-- no landed store moves an array, claims one, or changes the size that is kept
 record Stays (S T : Shared) : Type 0 where
   pub arrays : T .queue .arrays ≡ S .queue .arrays
   pub claimed : T .queue .claimed ≡ S .queue .claimed
+  pub initial : T .queue .initial ≡ S .queue .initial
 
 one-stays : (v : ℕ) (S : Shared) (s : Store) → Stays S (landed v S s)
-one-stays v S (StoreWord k t j x) = record { arrays = refl; claimed = refl }
-one-stays v S (StoreNote k) = record { arrays = refl; claimed = refl }
-one-stays v S (StorePut a) = record { arrays = refl; claimed = refl }
-one-stays v S (StoreOut a) = record { arrays = refl; claimed = refl }
-one-stays v S (StoreHead h) = record { arrays = refl; claimed = refl }
-one-stays v S (StoreTail t) = record { arrays = refl; claimed = refl }
+one-stays v S (StoreWord k t j x) = record { arrays = refl; claimed = refl; initial = refl }
+one-stays v S (StoreNote k) = record { arrays = refl; claimed = refl; initial = refl }
+one-stays v S (StorePut a) = record { arrays = refl; claimed = refl; initial = refl }
+one-stays v S (StoreOut a) = record { arrays = refl; claimed = refl; initial = refl }
+one-stays v S (StoreHead h) = record { arrays = refl; claimed = refl; initial = refl }
+one-stays v S (StoreTail t) = record { arrays = refl; claimed = refl; initial = refl }
 
 stays : (v : ℕ) (S : Shared) (l : List Store) → Stays S (landedAll v S l)
 unfolding landedAll
-stays v S [] = record { arrays = refl; claimed = refl }
+stays v S [] = record { arrays = refl; claimed = refl; initial = refl }
 stays v S (s ∷ l) =
     let one = one-stays v S s in
     let more = stays v (landed v S s) l in
-    record { arrays = more .arrays ∙ one .arrays; claimed = more .claimed ∙ one .claimed }
+    record { arrays = more .arrays ∙ one .arrays; claimed = more .claimed ∙ one .claimed; initial = more .initial ∙ one .initial }
 
 pub arrays-stay : (v : ℕ) (S : Shared) (l : List Store) → landedAll v S l .queue .arrays ≡ S .queue .arrays
 arrays-stay v S l = stays v S l .arrays
 
 pub claimed-stays : (v : ℕ) (S : Shared) (l : List Store) → landedAll v S l .queue .claimed ≡ S .queue .claimed
 claimed-stays v S l = stays v S l .claimed
+
+pub initial-stays : (v : ℕ) (S : Shared) (l : List Store) → landedAll v S l .queue .initial ≡ S .queue .initial
+initial-stays v S l = stays v S l .initial
 
 -- so the queue before all of them tells the places of all
 same-words : (v : ℕ) (S : Shared) (q : Queue) (s : Store) → S .queue .arrays ≡ q .arrays

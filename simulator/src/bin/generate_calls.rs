@@ -6,8 +6,9 @@
 //! without it the seed decides. A list has stretches, each with a bench of its own
 //! on the same memory; in a third of the lists most of them delay their stores. In
 //! a stretch workers are paused where the queues are delicate, as in the runs of
-//! `generate`, and links fail; between that stand calls that the program has no
-//! line for, and looks at the shared state and at the log.
+//! `generate`, links fail, and the owner asks for growth and commits; between that
+//! stand calls that the program has no line for, and looks at the shared state and
+//! at the log.
 
 use std::io::Write;
 use std::process::ExitCode;
@@ -161,10 +162,20 @@ fn stretch(script: &mut Script, store: u32, delayed: bool) {
         act::race,
         act::equal_value,
         act::links_fail,
+        act::asks,
+        act::asks,
+        act::commit_with_thieves,
     ]);
     let linked = shape.kind >= 4;
     let favourite = if linked && script.random.chance(60) { act::links_fail } else { favourite };
-    let favourite = if shape.delayed && script.random.chance(60) { act::delayed } else { favourite };
+    let favourite = if shape.delayed && script.random.chance(50) { act::delayed } else { favourite };
+    // While the array is small it can grow often.
+    if shape.size < 64 && script.random.chance(40) {
+        act::asks(script);
+    }
+    if shape.delayed && shape.size < 64 && script.random.chance(20) {
+        act::commits_undrained(script);
+    }
     if shape.delayed && shape.size < 64 && script.random.chance(60) {
         act::growth_waits(script);
     }
@@ -258,7 +269,7 @@ fn strays(script: &mut Script) {
             8 => script.random.between(8, 300),
             _ => *script.random.pick(&[256, 257, 1 << 31, u32::MAX - 1, u32::MAX]),
         };
-        match script.random.below(12) {
+        match script.random.below(15) {
             0 | 1 => script.begin_put(worker),
             2 | 3 => script.begin_take(worker),
             4 | 5 => script.steal(worker),
@@ -269,6 +280,9 @@ fn strays(script: &mut Script) {
             7 | 8 => script.drop_link(worker),
             9 => script.who(worker),
             10 => script.drain(),
+            11 => script.ask(worker),
+            12 => script.drop_ask(worker),
+            13 => script.commit(worker),
             _ => {
                 let count = script.random.below(25);
                 script.step(worker, count);
@@ -289,7 +303,8 @@ fn the_end(script: &mut Script) {
                 "begin 0", "begin 0 put", "begin 0 put x", "begin 0 put 1 2 3 4 5", "begin 0 drop",
                 "drop", "drop 1 1", "drop x", "unlink 1", "fresh 1 1 1 1", "fresh 1 1 1 1 1 1 1",
                 "fresh 1 1 1 1 1 2", "drain 0", "begin 0 drain", "who", "who ", "who 1 1", "who x", "who 01", "who 4294967296", "whom 1", "begin 1 who",
-                "memory 2 4", "State", "front 0",
+                "ask", "ask ", "ask 0 0", "ask x", "ask 01", "ask 4294967296", "asks 0", "unask", "unask x", "unask 0 0",
+                "begin 0 commit 3", "begin commit", "begin 0 ask", "commit 0", "memory 2 4", "State", "front 0",
             ]);
             script.say(line);
             script.unplayed(b"step 0 1\nstate\nfront\n");

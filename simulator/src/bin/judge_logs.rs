@@ -2,7 +2,8 @@
 //!
 //!     judge_logs make SEED COUNT > CASES    random cases
 //!     judge_logs largest SEED WORDS > CASE  an accepted one, as long as it may be
-//!     judge_logs run < RUN > CASE           the log of a run of the bench's input
+//!     judge_logs run < RUN > CASE           the log of a run of the bench's input, or
+//!                                           of the last bench of a list of calls
 //!     judge_logs judge < CASES              an answer a line
 //!     judge_logs bench TIMES < CASE         nanoseconds to judge the first case
 //!

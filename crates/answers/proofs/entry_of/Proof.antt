@@ -47,11 +47,17 @@ enum-known-answer-4 c = search needs
 entry-with-requires-7 : tie.Need-entry-with-requires-7
 entry-with-requires-7 c κs = search needs
 
-enum-told-4 : tie.Need-enum-told-4
-enum-told-4 c = search needs
+enum-known-answer-5 : tie.Need-enum-known-answer-5
+enum-known-answer-5 c = search needs
 
 entry-with-requires-8 : tie.Need-entry-with-requires-8
 entry-with-requires-8 c κs = search needs
+
+enum-told-4 : tie.Need-enum-told-4
+enum-told-4 c = search needs
+
+entry-with-requires-9 : tie.Need-entry-with-requires-9
+entry-with-requires-9 c κs = search needs
 
 returns : tie.Need-returns
 returns c = simp (c .before .before .before .no-task .ensures, c .before .enum-told .given .1, c .entry-with .ensures)
@@ -75,7 +81,10 @@ returns-7 : tie.Need-returns-7
 returns-7 c = simp (c .before .before .answer4 .given .1, c .entry-with7 .ensures)
 
 returns-8 : tie.Need-returns-8
-returns-8 c = simp (c .before .before .before .no-task .ensures, c .before .enum-told4 .given .1, c .entry-with8 .ensures)
+returns-8 c = simp (c .before .before .before .before .no-task .ensures, c .before .before .answer5 .given .1, c .entry-with8 .ensures)
+
+returns-9 : tie.Need-returns-9
+returns-9 c = simp (c .before .before .before .no-task .ensures, c .before .enum-told4 .given .1, c .entry-with9 .ensures)
 
 pub entry-of-spec : {M : Type 1} → statement M
 entry-of-spec =
@@ -96,8 +105,10 @@ entry-of-spec =
     entry-with-requires-6
     enum-known-answer-4
     entry-with-requires-7
-    enum-told-4
+    enum-known-answer-5
     entry-with-requires-8
+    enum-told-4
+    entry-with-requires-9
     returns
     returns-2
     returns-3
@@ -105,4 +116,5 @@ entry-of-spec =
     returns-5
     returns-6
     returns-7
-    returns-8)
+    returns-8
+    returns-9)

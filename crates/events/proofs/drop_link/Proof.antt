@@ -65,7 +65,7 @@ returns-4 : tie.Need-returns-4
 unfolding dropLinkOf
 returns-4 c =
     let a = c .before .before .before .before .before .before .before .before .before .before .args in
-    ap (λ (q : Queue). record { world = remembered (lent (a .bench) (a .store .now) (a .log .now)) (shared q (a .store .now)) (a .bench .waiting); answer = Accepted }) (c .with-link .ensures)
+    ap (λ (q : Queue). record { world = remembered (lent (a .bench) (a .store .now) (a .log .now)) (shared q (a .store .now)) (a .bench .waiting) (a .bench .aside); answer = Accepted }) (c .with-link .ensures)
     ∙ sym
     (if-true _ (passed (c .before .before .before .before .before .before .before .valid .ensures) (c .before .before .before .before .before .before .if1 .left)) ∙ if-true _ (lt-ltb _ _ (c .before .before .before .before .if2 .left))
     ∙ if-true _ (not-false _ (c .before .if3 .left)))

@@ -59,25 +59,6 @@ loop-again-2 c =
     let t : c .before .before .before .before .kind-at .result ≡ 3 = c .if4 .taken in
     (omega arith, floor-skip (start .args .words) (wordsOf (start .args .log .now)) _ _ (c .before .before .before .before .before .before .loop .inv .1) (known-by (start .args .words) (wordsOf (start .args .log .now)) _ _ (c .before .before .before .before .kind-at .ensures) (omega (arith, t)) (omega (arith, t))) (plain-by (start .args .words) (wordsOf (start .args .log .now)) _ _ (c .before .before .before .before .kind-at .ensures) (λ x. omega (arith, t, x)) (λ x. omega (arith, t, x))))
 
-number-at-requires : tie.Need-number-at-requires Inv-loop μ-loop
-number-at-requires c κs =
-    entry-ends _ _ _ _ (c .before .before .before .before .before .before .before .before .pre) (c .before .before .before .before .before .loop-test .taken)
-
-cast-number : tie.Need-cast-number Inv-loop μ-loop
-cast-number c =
-    omega arith
-
-returns-3 : tie.Need-returns-3 Inv-loop μ-loop
-returns-3 c =
-    let start = c .before .before .before .before .before .before .before .before .before .before in
-    let r = c .before .number-at .ensures in
-    let t = c .if5 .taken in
-    not-rising (start .args .words) (wordsOf (start .args .log .now)) _ _ (c .before .before .before .before .before .before .before .before .loop .inv .1) (start .args .entries) (omega arith) (numbered-by (start .args .words) (wordsOf (start .args .log .now)) _ _ (c .before .before .before .before .before .before .kind-at .ensures) (omega arith) (omega arith) (c .before .before .before .if3 .left) (c .before .before .if4 .left)) (omega (arith, r, t))
-
-add-floor : tie.Need-add-floor Inv-loop μ-loop
-add-floor c =
-    omega arith
-
 add-j-3 : tie.Need-add-j-3 Inv-loop μ-loop
 add-j-3 c =
     omega arith
@@ -88,12 +69,45 @@ loop-less-3 c =
 
 loop-again-3 : tie.Need-loop-again-3 Inv-loop μ-loop
 loop-again-3 c =
-    let start = c .before .before .before .before .before .before .before .before .before .before in
-    let at-loop = c .before .before .before .before .before .before .before .before in
-    let at-word = c .before .before .before .before .before .before in
+    let start = c .before .before .before .before .before .before .before .before .before in
+    let t : c .before .before .before .before .before .kind-at .result ≡ 5 = c .if5 .taken in
+    (omega arith, floor-skip (start .args .words) (wordsOf (start .args .log .now)) _ _ (c .before .before .before .before .before .before .before .loop .inv .1) (known-by (start .args .words) (wordsOf (start .args .log .now)) _ _ (c .before .before .before .before .before .kind-at .ensures) (omega (arith, t)) (omega (arith, t))) (plain-by (start .args .words) (wordsOf (start .args .log .now)) _ _ (c .before .before .before .before .before .kind-at .ensures) (λ x. omega (arith, t, x)) (λ x. omega (arith, t, x))))
+
+number-at-requires : tie.Need-number-at-requires Inv-loop μ-loop
+number-at-requires c κs =
+    entry-ends _ _ _ _ (c .before .before .before .before .before .before .before .before .before .pre) (c .before .before .before .before .before .before .loop-test .taken)
+
+cast-number : tie.Need-cast-number Inv-loop μ-loop
+cast-number c =
+    omega arith
+
+returns-3 : tie.Need-returns-3 Inv-loop μ-loop
+returns-3 c =
+    let start = c .before .before .before .before .before .before .before .before .before .before .before in
     let r = c .before .number-at .ensures in
-    let t = c .if5 .left in
-    (omega arith, subst (λ (x : ℕ). Floor (start .args .words) (wordsOf (start .args .log .now)) (at-loop .loop .j + 1) (x + 1)) (sym r) (floor-next (start .args .words) (wordsOf (start .args .log .now)) _ _ (at-loop .loop .inv .1) (known-by (start .args .words) (wordsOf (start .args .log .now)) _ _ (at-word .kind-at .ensures) (omega arith) (omega arith)) (numbered-by (start .args .words) (wordsOf (start .args .log .now)) _ _ (at-word .kind-at .ensures) (omega arith) (omega arith) (c .before .before .before .if3 .left) (c .before .before .if4 .left)) (omega (arith, r, t))))
+    let t = c .if6 .taken in
+    not-rising (start .args .words) (wordsOf (start .args .log .now)) _ _ (c .before .before .before .before .before .before .before .before .before .loop .inv .1) (start .args .entries) (omega arith) (numbered-by (start .args .words) (wordsOf (start .args .log .now)) _ _ (c .before .before .before .before .before .before .before .kind-at .ensures) (omega arith) (omega arith) (c .before .before .before .before .if3 .left) (c .before .before .before .if4 .left) (c .before .before .if5 .left)) (omega (arith, r, t))
+
+add-floor : tie.Need-add-floor Inv-loop μ-loop
+add-floor c =
+    omega arith
+
+add-j-4 : tie.Need-add-j-4 Inv-loop μ-loop
+add-j-4 c =
+    omega arith
+
+loop-less-4 : tie.Need-loop-less-4 Inv-loop μ-loop
+loop-less-4 c =
+    omega arith
+
+loop-again-4 : tie.Need-loop-again-4 Inv-loop μ-loop
+loop-again-4 c =
+    let start = c .before .before .before .before .before .before .before .before .before .before .before in
+    let at-loop = c .before .before .before .before .before .before .before .before .before in
+    let at-word = c .before .before .before .before .before .before .before in
+    let r = c .before .number-at .ensures in
+    let t = c .if6 .left in
+    (omega arith, subst (λ (x : ℕ). Floor (start .args .words) (wordsOf (start .args .log .now)) (at-loop .loop .j + 1) (x + 1)) (sym r) (floor-next (start .args .words) (wordsOf (start .args .log .now)) _ _ (at-loop .loop .inv .1) (known-by (start .args .words) (wordsOf (start .args .log .now)) _ _ (at-word .kind-at .ensures) (omega arith) (omega arith)) (numbered-by (start .args .words) (wordsOf (start .args .log .now)) _ _ (at-word .kind-at .ensures) (omega arith) (omega arith) (c .before .before .before .before .if3 .left) (c .before .before .before .if4 .left) (c .before .before .if5 .left)) (omega (arith, r, t))))
 
 returns-4 : tie.Need-returns-4 Inv-loop μ-loop
 returns-4 c =
@@ -115,11 +129,14 @@ in-order-spec =
     add-j-2
     loop-less-2
     loop-again-2
+    add-j-3
+    loop-less-3
+    loop-again-3
     number-at-requires
     cast-number
     returns-3
     add-floor
-    add-j-3
-    loop-less-3
-    loop-again-3
+    add-j-4
+    loop-less-4
+    loop-again-4
     returns-4)

@@ -51,7 +51,7 @@ returns-2 c =
     let frame = and-right (o .result .fine) (frameOk (a .bench) (o .result .published) (a .store .now) (a .log .now)) framed in
     let S = told fine in
     let whole = sym (frame-of W (o .result) told fine) ∙ frame in
-    sym (not-filled W whole (refused (c .before .contents-ok .ensures (ownersView W .queue) (S .published) (S .arrays)) (c .if2 .taken)))
+    sym (not-filled W whole (refused (c .before .contents-ok .ensures (ownersView W .queue) (S .published) (S .arrays) (S .claimed)) (c .if2 .taken)))
 
 returns-3 : tie.Need-returns-3
 returns-3 c =
@@ -64,7 +64,7 @@ returns-3 c =
     let frame = and-right (o .result .fine) (frameOk (a .bench) (o .result .published) (a .store .now) (a .log .now)) framed in
     let S = told fine in
     let whole = sym (frame-of W (o .result) told fine) ∙ frame in
-    let filled-in = passed (c .before .before .before .contents-ok .ensures (ownersView W .queue) (S .published) (S .arrays)) (c .before .before .if2 .left) in
+    let filled-in = passed (c .before .before .before .contents-ok .ensures (ownersView W .queue) (S .published) (S .arrays) (S .claimed)) (c .before .before .if2 .left) in
     sym
     (filled W whole (sym (o .ensures .0) ∙ fine) filled-in
     ∙ none-waits (a .bench) (ownersView W .queue) (c .if3 .taken) (S .same (c .if3 .taken)) (and-left _ _ filled-in))
@@ -94,7 +94,7 @@ returns-4 c =
     let frame = and-right (o .result .fine) (frameOk (a .bench) (o .result .published) (a .store .now) (a .log .now)) framed in
     let S = told fine in
     let whole = sym (frame-of W (o .result) told fine) ∙ frame in
-    let filled-in = passed (c .before .before .before .before .contents-ok .ensures (ownersView W .queue) (S .published) (S .arrays)) (c .before .before .before .if2 .left) in
+    let filled-in = passed (c .before .before .before .before .contents-ok .ensures (ownersView W .queue) (S .published) (S .arrays) (S .claimed)) (c .before .before .before .if2 .left) in
     c .waits-ok .ensures (ownersView W .queue) S ∙ sym (filled W whole (sym (o .ensures .0) ∙ fine) filled-in)
 
 pub valid-spec : {M : Type 1} → statement M

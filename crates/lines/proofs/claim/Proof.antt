@@ -25,6 +25,9 @@ end-of-requires c κs = search needs
 twice-as-long-requires : tie.Need-twice-as-long-requires
 twice-as-long-requires c κs = search needs
 
+task-for-requires : tie.Need-task-for-requires
+task-for-requires c κs = search needs
+
 returns : tie.Need-returns
 unfolding claimsBy storesBy answerBy failsBy Doable if_then_else_
 returns c =
@@ -40,7 +43,7 @@ returns c =
 returns-2 : tie.Need-returns-2
 unfolding claimsBy storesBy answerBy failsBy Doable if_then_else_
 returns-2 c = (
-  λ v S. let none = sym (c .before .has-room .ensures v S) ∙ c .if1 .left in record { claims = simp none; stores = simp none; answer = simp none },
+  λ v S. let none = sym (c .before .before .has-room .ensures v S) ∙ c .before .if1 .left in record { claims = simp none; stores = simp none; answer = simp (none, c .task-for .ensures) },
   (λ v S f. refl, refl),
 )
 
@@ -53,5 +56,6 @@ claim-spec =
     cast-at
     end-of-requires
     twice-as-long-requires
+    task-for-requires
     returns
     returns-2)

@@ -2,7 +2,7 @@ use mathlib.Core.Path.{refl, sym, ap, _∙_}
 use mathlib.Core.Bool.{not}
 use Rattle.model.specs.Tests.{if_then_else_}
 use Rattle.lines.specs.Actions.{claimsBy, storesBy, answerBy, failsBy, Doable}
-use Rattle.lines.proofs.LastLines.{steal-anchor}
+use Rattle.lines.proofs.LastLines.{steal-concludes}
 use borrow.Author.Needs.{needs}
 use Rattle.lines.proofs.compare.Statement.{statement}
 use Rattle.lines.proofs.compare.Tie as tie
@@ -19,7 +19,7 @@ returns c =
     let won = sym (c .before .before .succeeds .ensures) ∙ c .before .if1 .taken in
     let a = c .before .before .before .args in
     let left = c .steal-store .ensures in
-    (λ v. record { claims = simp won; stores = simp (won, left); answer = simp won }, (λ v n. (steal-anchor (a .read) (a .kind) (a .next) left, refl), sym (ap not won)))
+    (λ v. record { claims = simp won; stores = simp (won, left); answer = simp won }, (λ v n. (steal-concludes (a .queue) (a .read) (a .kind) (a .next) left, refl), sym (ap not won)))
 
 returns-2 : tie.Need-returns-2
 unfolding claimsBy storesBy answerBy failsBy Doable if_then_else_

@@ -10,7 +10,7 @@ use Rattle.slots.specs.Bounds.{Power, Sized}
 use Rattle.slots.proofs.Places.{slot-is, slot-few, read-in}
 use Rattle.lines.specs.Actions.{Ready, claimsBy, storesBy, answerBy, failsBy, Lands, Doable}
 use Rattle.lines.proofs.Copies.{copies-are}
-use Rattle.lines.proofs.LastLines.{put-anchor, take-anchor}
+use Rattle.lines.proofs.LastLines.{put-concludes, take-concludes}
 use Rattle.lines.proofs.decide.Statement.{statement}
 use Rattle.lines.proofs.decide.Tie as tie
 
@@ -107,46 +107,52 @@ slot-at-requires c κs =
     let h = rw (arm .line4 .given .1) at (start .pre .1 .1) in
     (h .3 .0, (omega (arith, h .3 .1 .0), subst Power (h .3 .1 .0 .0) (h .3 .1 .1)))
 
+enum-known-line-5 : tie.Need-enum-known-line-5
+enum-known-line-5 c = search needs
+
+publish-requires : tie.Need-publish-requires
+publish-requires c κs = search needs
+
 enum-told-6 : tie.Need-enum-told-6
 enum-told-6 c = search needs
 
 enum-told-7 : tie.Need-enum-told-7
 enum-told-7 c = search needs
 
-enum-told-8 : tie.Need-enum-told-8
-enum-told-8 c = search needs
-
-enum-known-line-5 : tie.Need-enum-known-line-5
-enum-known-line-5 c = search needs
+enum-known-line-6 : tie.Need-enum-known-line-6
+enum-known-line-6 c = search needs
 
 stop-empty-requires : tie.Need-stop-empty-requires
 stop-empty-requires c κs = search needs
 
-enum-told-9 : tie.Need-enum-told-9
-enum-told-9 c = search needs
+enum-told-8 : tie.Need-enum-told-8
+enum-told-8 c = search needs
 
-enum-known-line-6 : tie.Need-enum-known-line-6
-enum-known-line-6 c = search needs
+enum-known-line-7 : tie.Need-enum-known-line-7
+enum-known-line-7 c = search needs
 
 take-store-requires : tie.Need-take-store-requires
 unfolding Ready
 take-store-requires c κs =
     let arm = c .before in
     let start = arm .before .before .before .before in
-    let h = rw (arm .line6 .given .1) at (start .pre .1 .1) in
+    let h = rw (arm .line7 .given .1) at (start .pre .1 .1) in
     (h .0 .0, h .1)
+
+enum-told-9 : tie.Need-enum-told-9
+enum-told-9 c = search needs
 
 enum-told-10 : tie.Need-enum-told-10
 enum-told-10 c = search needs
 
-enum-told-11 : tie.Need-enum-told-11
-enum-told-11 c = search needs
-
-enum-known-line-7 : tie.Need-enum-known-line-7
-enum-known-line-7 c = search needs
+enum-known-line-8 : tie.Need-enum-known-line-8
+enum-known-line-8 c = search needs
 
 stop-empty-requires-2 : tie.Need-stop-empty-requires-2
 stop-empty-requires-2 c κs = search needs
+
+enum-told-11 : tie.Need-enum-told-11
+enum-told-11 c = search needs
 
 enum-told-12 : tie.Need-enum-told-12
 enum-told-12 c = search needs
@@ -154,18 +160,15 @@ enum-told-12 c = search needs
 enum-told-13 : tie.Need-enum-told-13
 enum-told-13 c = search needs
 
-enum-told-14 : tie.Need-enum-told-14
-enum-told-14 c = search needs
-
-enum-known-line-8 : tie.Need-enum-known-line-8
-enum-known-line-8 c = search needs
+enum-known-line-9 : tie.Need-enum-known-line-9
+enum-known-line-9 c = search needs
 
 compare-requires : tie.Need-compare-requires
 unfolding Ready
 compare-requires c κs =
     let arm = c .before in
     let start = arm .before .before .before .before in
-    rw (arm .line8 .given .1) at (start .pre .1 .1)
+    rw (arm .line9 .given .1) at (start .pre .1 .1)
 
 returns : tie.Need-returns
 unfolding lineStep claimsBy storesBy answerBy failsBy Doable
@@ -206,7 +209,7 @@ returns-6 c =
     let a = arm .before .before .before .before .args in
     let e = arm .line2 .given .1 in
     let left = c .put-store .ensures in
-    (record { claims = simp e; stores = simp (e, left); answer = simp e }, ((put-anchor _ (a .kind) (a .width) left, refl), simp e))
+    (record { claims = simp e; stores = simp (e, left); answer = simp e }, ((put-concludes (a .queue) _ (a .kind) (a .width) left, refl), simp e))
 
 returns-7 : tie.Need-returns-7
 unfolding lineStep claimsBy storesBy answerBy failsBy Doable Ready
@@ -244,70 +247,74 @@ returns-9 c =
     )
 
 returns-10 : tie.Need-returns-10
-unfolding lineStep claimsBy storesBy answerBy failsBy Doable Lands
-returns-10 c = let e = c .enum-told6 .given .1 in (record { claims = simp e; stores = simp e; answer = simp e }, (refl, simp e))
+unfolding lineStep claimsBy storesBy answerBy failsBy Doable
+returns-10 c =
+    let e = c .before .before .line5 .given .1 in
+    let t = c .publish .ensures in
+    let does = t .0 _ in
+    (record { claims = simp e (does .claims); stores = simp e (does .stores); answer = simp e (does .answer) }, (t .1 .0 _ _, simp (e, t .1 .1)))
 
 returns-11 : tie.Need-returns-11
 unfolding lineStep claimsBy storesBy answerBy failsBy Doable
-returns-11 c = let e = c .enum-told7 .given .1 in (record { claims = simp e; stores = simp e; answer = simp e }, (tt, simp e))
+returns-11 c = let e = c .enum-told6 .given .1 in (record { claims = simp e; stores = simp e; answer = simp e }, (tt, simp e))
 
 returns-12 : tie.Need-returns-12
 unfolding lineStep claimsBy storesBy answerBy failsBy Doable
-returns-12 c = let e = c .enum-told8 .given .1 in (record { claims = simp e; stores = simp e; answer = simp e }, (tt, simp e))
+returns-12 c = let e = c .enum-told7 .given .1 in (record { claims = simp e; stores = simp e; answer = simp e }, (tt, simp e))
 
 returns-13 : tie.Need-returns-13
 unfolding lineStep claimsBy storesBy answerBy failsBy Doable
 returns-13 c =
-    let e = c .before .before .line5 .given .1 in
+    let e = c .before .before .line6 .given .1 in
     let t = c .stop-empty .ensures in
     let does = t .0 _ _ in
     (record { claims = simp e (does .claims); stores = simp e (does .stores); answer = simp e (does .answer) }, (t .1 .0 _ _ _, simp (e, t .1 .1)))
 
 returns-14 : tie.Need-returns-14
 unfolding lineStep claimsBy storesBy answerBy failsBy Doable
-returns-14 c = let e = c .enum-told9 .given .1 in (record { claims = simp e; stores = simp e; answer = simp e }, (tt, simp e))
+returns-14 c = let e = c .enum-told8 .given .1 in (record { claims = simp e; stores = simp e; answer = simp e }, (tt, simp e))
 
 returns-15 : tie.Need-returns-15
 unfolding lineStep claimsBy storesBy answerBy failsBy Doable
 returns-15 c =
     let arm = c .before .before in
     let a = arm .before .before .before .before .args in
-    let e = arm .line6 .given .1 in
+    let e = arm .line7 .given .1 in
     let left = c .take-store .ensures in
-    (record { claims = simp e; stores = simp (e, left); answer = simp e }, ((take-anchor _ (a .kind) left, refl), simp e))
+    (record { claims = simp e; stores = simp (e, left); answer = simp e }, ((take-concludes (a .queue) _ (a .kind) left, refl), simp e))
 
 returns-16 : tie.Need-returns-16
 unfolding lineStep claimsBy storesBy answerBy failsBy Doable
-returns-16 c = let e = c .enum-told10 .given .1 in (record { claims = simp e; stores = simp e; answer = simp e }, (tt, simp e))
+returns-16 c = let e = c .enum-told9 .given .1 in (record { claims = simp e; stores = simp e; answer = simp e }, (tt, simp e))
 
 returns-17 : tie.Need-returns-17
 unfolding lineStep claimsBy storesBy answerBy failsBy Doable
-returns-17 c = let e = c .enum-told11 .given .1 in (record { claims = simp e; stores = simp e; answer = simp e }, (tt, simp e))
+returns-17 c = let e = c .enum-told10 .given .1 in (record { claims = simp e; stores = simp e; answer = simp e }, (tt, simp e))
 
 returns-18 : tie.Need-returns-18
 unfolding lineStep claimsBy storesBy answerBy failsBy Doable
 returns-18 c =
-    let e = c .before .before .line7 .given .1 in
+    let e = c .before .before .line8 .given .1 in
     let t = c .stop-empty2 .ensures in
     let does = t .0 _ _ in
     (record { claims = simp e (does .claims); stores = simp e (does .stores); answer = simp e (does .answer) }, (t .1 .0 _ _ _, simp (e, t .1 .1)))
 
 returns-19 : tie.Need-returns-19
 unfolding lineStep claimsBy storesBy answerBy failsBy Doable
-returns-19 c = let e = c .enum-told12 .given .1 in (record { claims = simp e; stores = simp e; answer = simp e }, (tt, simp e))
+returns-19 c = let e = c .enum-told11 .given .1 in (record { claims = simp e; stores = simp e; answer = simp e }, (tt, simp e))
 
 returns-20 : tie.Need-returns-20
 unfolding lineStep claimsBy storesBy answerBy failsBy Doable
-returns-20 c = let e = c .enum-told13 .given .1 in (record { claims = simp e; stores = simp e; answer = simp e }, (tt, simp e))
+returns-20 c = let e = c .enum-told12 .given .1 in (record { claims = simp e; stores = simp e; answer = simp e }, (tt, simp e))
 
 returns-21 : tie.Need-returns-21
 unfolding lineStep claimsBy storesBy answerBy failsBy Doable
-returns-21 c = let e = c .enum-told14 .given .1 in (record { claims = simp e; stores = simp e; answer = simp e }, (tt, simp e))
+returns-21 c = let e = c .enum-told13 .given .1 in (record { claims = simp e; stores = simp e; answer = simp e }, (tt, simp e))
 
 returns-22 : tie.Need-returns-22
 unfolding lineStep claimsBy storesBy answerBy failsBy Doable
 returns-22 c =
-    let e = c .before .before .line8 .given .1 in
+    let e = c .before .before .line9 .given .1 in
     let t = c .compare .ensures in
     let does = t .0 _ in
     (record { claims = simp e (does .claims); stores = simp e (does .stores); answer = simp e (does .answer) }, (t .1 .0 _ _, simp (e, t .1 .1)))
@@ -335,22 +342,23 @@ decide-spec =
     read-task-requires
     cast-claimed
     slot-at-requires
+    enum-known-line-5
+    publish-requires
     enum-told-6
     enum-told-7
-    enum-told-8
-    enum-known-line-5
-    stop-empty-requires
-    enum-told-9
     enum-known-line-6
-    take-store-requires
-    enum-told-10
-    enum-told-11
+    stop-empty-requires
+    enum-told-8
     enum-known-line-7
+    take-store-requires
+    enum-told-9
+    enum-told-10
+    enum-known-line-8
     stop-empty-requires-2
+    enum-told-11
     enum-told-12
     enum-told-13
-    enum-told-14
-    enum-known-line-8
+    enum-known-line-9
     compare-requires
     returns
     returns-2

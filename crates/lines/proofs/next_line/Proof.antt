@@ -94,6 +94,9 @@ copy-on-requires c κs =
 enum-known-line-8 : tie.Need-enum-known-line-8
 enum-known-line-8 c = search needs
 
+past-publish-requires : tie.Need-past-publish-requires
+past-publish-requires c κs = search needs
+
 enum-told-3 : tie.Need-enum-told-3
 enum-told-3 c = search needs
 
@@ -265,7 +268,7 @@ returns-9 c = λ w. simp (c .before .before .line7 .given .1, c .copy-on .ensure
 
 returns-10 : tie.Need-returns-10
 unfolding lineStep
-returns-10 c = λ w. simp (c .before .line8 .given .1)
+returns-10 c = λ w. simp (c .before .before .line8 .given .1) (c .past-publish .ensures _ _)
 
 returns-11 : tie.Need-returns-11
 unfolding lineStep
@@ -343,6 +346,7 @@ next-line-spec =
     enum-known-line-7
     copy-on-requires
     enum-known-line-8
+    past-publish-requires
     enum-told-3
     take-read-requires
     enum-known-line-9

@@ -249,7 +249,7 @@ show-requires-2 c κs =
     let made = at-step .step-in .result .made in
     let step =
     stepped-front b (l .long) _ (k .store) (k .log) _ _ i place to made e (at-step .step-in .kept .1 .1 .1 .1 .1 .1 .1 .1 .1 .0) (k .inv .1)
-    (at-step .step-in .ensures .1 .0 refl (b .delayed) (b .waiting) (b .used) place (b .restarts) (b .workers) (once-of b (l .long) (k .store) (k .log) i (k .inv .1)) (at-place-of .place-of .ensures .1) refl) in
+    (at-step .step-in .ensures .1 .0 refl (b .delayed) (b .waiting) (b .aside) (b .used) place (b .restarts) (b .workers) (once-of b (l .long) (k .store) (k .log) i (k .inv .1)) (at-place-of .place-of .ensures .1) refl) in
     let by = refuses b place to made step _ (c .before .before .made .given .1) in
     stepping-room _ _ _ _ _ _ (k .left) _ _ _ _ (k .inv .0) _ (let z : l .wrote + 256 ≤ length (l .out) = omega (arith, l .inv .0 .fits, l .inv .3, at-if1 .if1 .left) in z) (c .before .before .before .before .before .before .before .before .before .before .before .before .before .before .loop-test .taken)
     by
@@ -283,7 +283,7 @@ lines-again-4 c =
     let made = at-step .step-in .result .made in
     let step =
     stepped-front b (l .long) _ (k .store) (k .log) _ _ i place to made e (at-step .step-in .kept .1 .1 .1 .1 .1 .1 .1 .1 .1 .0) (k .inv .1)
-    (at-step .step-in .ensures .1 .0 refl (b .delayed) (b .waiting) (b .used) place (b .restarts) (b .workers) (once-of b (l .long) (k .store) (k .log) i (k .inv .1)) (at-place-of .place-of .ensures .1) refl) in
+    (at-step .step-in .ensures .1 .0 refl (b .delayed) (b .waiting) (b .aside) (b .used) place (b .restarts) (b .workers) (once-of b (l .long) (k .store) (k .log) i (k .inv .1)) (at-place-of .place-of .ensures .1) refl) in
     let s = sessionOf (l .live) (l .long) (l .bench) in
     let t = sessionOf (l .live) (l .long) b in
     let why = c .before .before .before .before .before .made .given .0 .0 in
@@ -341,7 +341,7 @@ loop-again c =
     let made = at-step .step-in .result .made in
     let step =
     stepped-front b (l .long) _ (k .store) (k .log) _ _ i place to made e (at-step .step-in .kept .1 .1 .1 .1 .1 .1 .1 .1 .1 .0) (k .inv .1)
-    (at-step .step-in .ensures .1 .0 refl (b .delayed) (b .waiting) (b .used) place (b .restarts) (b .workers) (once-of b (l .long) (k .store) (k .log) i (k .inv .1)) (at-place-of .place-of .ensures .1) refl) in
+    (at-step .step-in .ensures .1 .0 refl (b .delayed) (b .waiting) (b .aside) (b .used) place (b .restarts) (b .workers) (once-of b (l .long) (k .store) (k .log) i (k .inv .1)) (at-place-of .place-of .ensures .1) refl) in
     let t = sessionOf (l .live) (l .long) b in
     let by = restarts b place to made step (c .before .before .enum-told4 .given .1) (ap (set (b .restarts) place) (c .one-more .ensures)) in (
       stepping-on _ _ _ _ _ _ (k .left) _ _ _ _ (k .inv .0) (c .before .before .before .before .before .before .before .before .before .before .before .before .before .before .before .loop-test .taken) _ GoesOn _ _ by (k .inv .0 .live) _ _ (shows-none (k .out) (k .wrote)) refl,
@@ -375,7 +375,7 @@ show-requires-3 c κs =
     let made = at-step .step-in .result .made in
     let step =
     stepped-front b (l .long) _ (k .store) (k .log) _ _ i place to made e (at-step .step-in .kept .1 .1 .1 .1 .1 .1 .1 .1 .1 .0) (k .inv .1)
-    (at-step .step-in .ensures .1 .0 refl (b .delayed) (b .waiting) (b .used) place (b .restarts) (b .workers) (once-of b (l .long) (k .store) (k .log) i (k .inv .1)) (at-place-of .place-of .ensures .1) refl) in
+    (at-step .step-in .ensures .1 .0 refl (b .delayed) (b .waiting) (b .aside) (b .used) place (b .restarts) (b .workers) (once-of b (l .long) (k .store) (k .log) i (k .inv .1)) (at-place-of .place-of .ensures .1) refl) in
     let by = settles b place to made step (c .before .before .settled .ensures) in
     stepping-room _ _ _ _ _ _ (k .left) _ _ _ _ (k .inv .0) _ (let z : l .wrote + 256 ≤ length (l .out) = omega (arith, l .inv .0 .fits, l .inv .3, at-if1 .if1 .left) in z) (c .before .before .before .before .before .before .before .before .before .before .before .before .before .before .before .loop-test .taken)
     by
@@ -401,7 +401,7 @@ loop-again-2 c =
     let made = at-step .step-in .result .made in
     let step =
     stepped-front b (l .long) _ (k .store) (k .log) _ _ i place to made e (at-step .step-in .kept .1 .1 .1 .1 .1 .1 .1 .1 .1 .0) (k .inv .1)
-    (at-step .step-in .ensures .1 .0 refl (b .delayed) (b .waiting) (b .used) place (b .restarts) (b .workers) (once-of b (l .long) (k .store) (k .log) i (k .inv .1)) (at-place-of .place-of .ensures .1) refl) in
+    (at-step .step-in .ensures .1 .0 refl (b .delayed) (b .waiting) (b .aside) (b .used) place (b .restarts) (b .workers) (once-of b (l .long) (k .store) (k .log) i (k .inv .1)) (at-place-of .place-of .ensures .1) refl) in
     let t = sessionOf (l .live) (l .long) b in
     let done = c .before .before .before .before .before .settled .result in
     let by = settles b place to made step (c .before .before .before .before .before .settled .ensures) in
@@ -441,7 +441,7 @@ loop-again-3 c =
     let made = at-step .step-in .result .made in
     let step =
     stepped-front b (l .long) _ (k .store) (k .log) _ _ i place to made e (at-step .step-in .kept .1 .1 .1 .1 .1 .1 .1 .1 .1 .0) (k .inv .1)
-    (at-step .step-in .ensures .1 .0 refl (b .delayed) (b .waiting) (b .used) place (b .restarts) (b .workers) (once-of b (l .long) (k .store) (k .log) i (k .inv .1)) (at-place-of .place-of .ensures .1) refl) in
+    (at-step .step-in .ensures .1 .0 refl (b .delayed) (b .waiting) (b .aside) (b .used) place (b .restarts) (b .workers) (once-of b (l .long) (k .store) (k .log) i (k .inv .1)) (at-place-of .place-of .ensures .1) refl) in
     let t = sessionOf (l .live) (l .long) b in
     let by = replaces b place to made step (c .enum-told3 .given .1) in (
       stepping-on _ _ _ _ _ _ (k .left) _ _ _ _ (k .inv .0) (c .before .before .before .before .before .before .before .before .before .before .before .loop-test .taken) _ GoesOn _ _ by (k .inv .0 .live) _ _ (shows-none (k .out) (k .wrote)) refl,

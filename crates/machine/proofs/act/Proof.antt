@@ -67,8 +67,8 @@ log-answer-requires c κs = search needs
 enum-known-action-5 : tie.Need-enum-known-action-5
 enum-known-action-5 c = search needs
 
-after-store-requires : tie.Need-after-store-requires
-after-store-requires c κs = search needs
+concluded-requires : tie.Need-concluded-requires
+concluded-requires c κs = search needs
 
 log-answer-requires-2 : tie.Need-log-answer-requires-2
 log-answer-requires-2 c κs = search needs
@@ -149,7 +149,7 @@ returns-8 c =
     let e = c .before .before .before .before .before .before .before .action5 .given .1 in
     let logged = c .before .before .before .log-answer2 .ensures in
     let kept = ends-leave (a .words) (a .queue) (a .store .now) (length (a .store .now)) e (start .pre .1) in
-    (ends (a .words) (a .written) (a .log .now) (a .queue) (logged .0) e (c .before .before .before .before .before .after-store .ensures) (c .if2 .taken), (kept, logged .1 ∙ sym (simp e)))
+    (ends (a .words) (a .written) (a .log .now) (a .queue) (logged .0) e (c .before .before .before .before .before .concluded .ensures) (c .if2 .taken), (kept, logged .1 ∙ sym (simp e)))
 
 same-length-7 : tie.Need-same-length-7
 same-length-7 c = search needs
@@ -183,7 +183,7 @@ act-spec =
     enum-known-action-4
     log-answer-requires
     enum-known-action-5
-    after-store-requires
+    concluded-requires
     log-answer-requires-2
     returns
     returns-2

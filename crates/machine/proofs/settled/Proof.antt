@@ -91,6 +91,27 @@ add-length-4 c = let h = rw (c .before .before .before .made4 .given .1) at (c .
 replaced-requires-6 : tie.Need-replaced-requires-6
 replaced-requires-6 c κs = search needs
 
+enum-known-made-5 : tie.Need-enum-known-made-5
+enum-known-made-5 c = search needs
+
+publish-requires-2 : tie.Need-publish-requires-2
+unfolding Fits
+publish-requires-2 c κs = let h = rw (c .before .made5 .given .1) at (c .before .before .before .before .pre .1) in h .0
+
+with-link-requires-3 : tie.Need-with-link-requires-3
+with-link-requires-3 c κs = search needs
+
+add-length-5 : tie.Need-add-length-5
+unfolding Fits
+add-length-5 c = let h = rw (c .before .before .before .before .made5 .given .1) at (c .before .before .before .before .before .before .before .pre .1) in omega (arith, h .1)
+
+add-length-6 : tie.Need-add-length-6
+unfolding Fits
+add-length-6 c = let h = rw (c .before .before .before .before .made5 .given .1) at (c .before .before .before .before .before .before .before .pre .1) in omega (arith, h .1)
+
+replaced-requires-7 : tie.Need-replaced-requires-7
+replaced-requires-7 c κs = search needs
+
 returns : tie.Need-returns
 unfolding benchAfter answerAfter
 returns c = simp (c .before .enum-told .given .1, c .replaced .ensures)
@@ -127,6 +148,10 @@ returns-9 : tie.Need-returns-9
 unfolding benchAfter answerAfter
 returns-9 c = simp (c .before .before .before .before .made4 .given .1, c .replaced6 .ensures, c .before .before .with-anchor .ensures)
 
+returns-10 : tie.Need-returns-10
+unfolding benchAfter answerAfter
+returns-10 c = simp (c .before .before .before .before .before .made5 .given .1, c .replaced7 .ensures, c .before .before .with-link3 .ensures, c .before .before .before .publish2 .ensures)
+
 pub settled-spec : {M : Type 1} → statement M
 settled-spec =
     tie.close
@@ -158,6 +183,12 @@ settled-spec =
     add-length-3
     add-length-4
     replaced-requires-6
+    enum-known-made-5
+    publish-requires-2
+    with-link-requires-3
+    add-length-5
+    add-length-6
+    replaced-requires-7
     returns
     returns-2
     returns-3
@@ -166,4 +197,5 @@ settled-spec =
     returns-6
     returns-7
     returns-8
-    returns-9)
+    returns-9
+    returns-10)

@@ -22,7 +22,7 @@ unfolding benchAfter answerAfter Fits
 returns c = (
   tt,
   (
-    λ now d s u k n ws once at e. sym (if-false _ (le-ltb _ _ (c .if1 .taken))),
+    λ now d s o u k n ws once at e. sym (if-false _ (le-ltb _ _ (c .if1 .taken))),
     (
       λ joins. plans-outside (c .if1 .taken) refl,
       λ joins. (refl, refl),
@@ -41,8 +41,8 @@ returns-2 c =
     let h = c .before .before .if1 .left in (
       tt,
       (
-        λ now d s u k n ws once at e.
-            idle-worker (benchOf (a .kind) (a .width) (a .words) (a .crew) (a .queue) (a .written) d s u n ws) (a .worker) (a .line) _ _
+        λ now d s o u k n ws once at e.
+            idle-worker (benchOf (a .kind) (a .width) (a .words) (a .crew) (a .queue) (a .written) d s o u n ws) (a .worker) (a .line) _ _
             (ap (lineAt ws) (sym (at (omega (arith, h, start .pre .crew)))) ∙ e) h (sym (c .before .is-idle .ensures) ∙ c .if2 .taken),
         (
           λ joins. plans-rest h (sym (c .before .is-idle .ensures) ∙ c .if2 .taken) refl,
@@ -72,8 +72,8 @@ returns-3 c =
     let h = c .before .before .before .before .before .before .if1 .left in (
       tt,
       (
-        λ now d s u k n ws once at e.
-            let b = benchOf (a .kind) (a .width) (a .words) (a .crew) (a .queue) (a .written) d s u n ws in
+        λ now d s o u k n ws once at e.
+            let b = benchOf (a .kind) (a .width) (a .words) (a .crew) (a .queue) (a .written) d s o u n ws in
             let is = at (omega (arith, h, start .pre .crew)) in
             ap (λ (j : ℕ). movedBy b j x made.Links m l) is
             ∙ line-links b (a .worker) (a .line) m l (ap (lineAt ws) (sym is) ∙ e) h once (start .pre .held h) x (c .before .before .next-line .ensures)
@@ -141,8 +141,8 @@ returns-5 c =
     let made = at-act .act .ensures .0 in (
       subst (Fits (a .words) (a .queue) (a .written)) (sym made) (fits (a .words) (a .queue) (a .written) (length m) l act (start .pre .ground .listed) safe),
       (
-        λ now d s u k n ws once at e.
-            let b = benchOf (a .kind) (a .width) (a .words) (a .crew) (a .queue) (a .written) d s u n ws in
+        λ now d s o u k n ws once at e.
+            let b = benchOf (a .kind) (a .width) (a .words) (a .crew) (a .queue) (a .written) d s o u n ws in
             let is = at (omega (arith, h, start .pre .crew)) in
             same-moved b k x made (at-act .act .ensures .1 .0) (at-act .act .ensures .1 .1)
             ∙ ap (λ (j : ℕ). movedBy b j x (actedBy (a .words) (a .written) l (a .queue) act) (leftBy (a .words) (shared (a .queue) m) act .store) (logAfter (a .words) (a .written) l act)) is

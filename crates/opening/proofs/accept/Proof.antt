@@ -26,6 +26,12 @@ enum-told-2 c = search needs
 opens-requires-3 : tie.Need-opens-requires-3
 opens-requires-3 c κs = search needs
 
+enum-told-3 : tie.Need-enum-told-3
+enum-told-3 c = search needs
+
+opens-requires-4 : tie.Need-opens-requires-4
+opens-requires-4 c κs = search needs
+
 returns : tie.Need-returns
 returns c = λ m l. simp (c .before .before .before .operation .given .1, c .before .cut .ensures, c .opens .ensures)
 
@@ -34,6 +40,9 @@ returns-2 c = λ m l. simp (c .before .enum-told .given .1, c .opens2 .ensures)
 
 returns-3 : tie.Need-returns-3
 returns-3 c = λ m l. simp (c .before .enum-told2 .given .1, c .opens3 .ensures)
+
+returns-4 : tie.Need-returns-4
+returns-4 c = λ m l. simp (c .before .enum-told3 .given .1, c .opens4 .ensures)
 
 pub accept-spec : {M : Type 1} → statement M
 accept-spec =
@@ -47,6 +56,9 @@ accept-spec =
     opens-requires-2
     enum-told-2
     opens-requires-3
+    enum-told-3
+    opens-requires-4
     returns
     returns-2
-    returns-3)
+    returns-3
+    returns-4)

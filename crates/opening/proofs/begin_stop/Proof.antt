@@ -46,16 +46,29 @@ returns-4 c = λ m l v.
     ∙ if-true _ (passed (c .before .before .before .is-idle .ensures) (c .before .before .if3 .left))
     ∙ if-false _ (refused (c .before .numbers-left .ensures) (c .if4 .taken))
 
+asked-requires : tie.Need-asked-requires
+asked-requires c κs = search needs
+
 returns-5 : tie.Need-returns-5
 unfolding beginOf
-returns-5 c =
-    let at-if1 = c .before .before .before .before .before .before .before in
+returns-5 c = λ m l v.
+    if-true _ v ∙ if-true _ (lt-ltb _ _ (c .before .before .before .before .before .before .before .before .before .if1 .left))
+    ∙ if-true _ (passed (c .before .before .before .before .before .before .before .before .right-hand .ensures) (c .before .before .before .before .before .before .before .if2 .left))
+    ∙ if-true _ (passed (c .before .before .before .before .before .is-idle .ensures) (c .before .before .before .before .if3 .left))
+    ∙ if-true _ (passed (c .before .before .before .numbers-left .ensures) (c .before .before .if4 .left))
+    ∙ if-false _ (refused (c .before .asked .ensures) (c .if5 .taken))
+
+returns-6 : tie.Need-returns-6
+unfolding beginOf
+returns-6 c =
+    let at-if1 = c .before .before .before .before .before .before .before .before .before in
     λ m l v. (
       at-if1 .if1 .left,
       if-true _ v ∙ if-true _ (lt-ltb _ _ (at-if1 .if1 .left))
-          ∙ if-true _ (passed (c .before .before .before .before .before .before .right-hand .ensures) (c .before .before .before .before .before .if2 .left))
-          ∙ if-true _ (passed (c .before .before .before .is-idle .ensures) (c .before .before .if3 .left))
-          ∙ if-true _ (passed (c .before .numbers-left .ensures) (c .if4 .left)),
+          ∙ if-true _ (passed (c .before .before .before .before .before .before .before .before .right-hand .ensures) (c .before .before .before .before .before .before .before .if2 .left))
+          ∙ if-true _ (passed (c .before .before .before .before .before .is-idle .ensures) (c .before .before .before .before .if3 .left))
+          ∙ if-true _ (passed (c .before .before .before .numbers-left .ensures) (c .before .before .if4 .left))
+          ∙ if-true _ (passed (c .before .asked .ensures) (c .if5 .left)),
     )
 
 pub begin-stop-spec : {M : Type 1} → statement M
@@ -71,4 +84,6 @@ begin-stop-spec =
     returns-3
     numbers-left-requires
     returns-4
-    returns-5)
+    asked-requires
+    returns-5
+    returns-6)

@@ -1,7 +1,7 @@
 use mathlib.Core.Path.{_∙_, sym, ap}
 use borrow.Author.Needs.{needs}
 use Rattle.model.specs.Calls.{callOf}
-use Rattle.plays.proofs.Said.{says-put, says-take, says-steal, says-drop, says-drain, says-step}
+use Rattle.plays.proofs.Said.{says-put, says-take, says-steal, says-drop, says-drain, says-commit, says-ask, says-drop-ask, says-step}
 use Rattle.plays.proofs.call.Statement.{statement}
 use Rattle.plays.proofs.call.Tie as tie
 
@@ -65,8 +65,8 @@ same-length-10 c = search needs
 returns-5 : tie.Need-returns-5
 returns-5 c = c .before .before .drain .ensures ∙ sym (ap (callOf _) (says-drain _ _ _ (c .before .before .before .before .before .before .before .before .before .if1 .left) (c .before .before .before .before .before .before .before .before .if2 .left) (c .before .before .before .before .before .before .before .if3 .left) (c .before .before .before .before .before .before .if4 .left) (c .before .before .before .before .before .if5 .taken)))
 
-step-requires : tie.Need-step-requires
-step-requires c κs = search needs
+begin-requires-4 : tie.Need-begin-requires-4
+begin-requires-4 c κs = search needs
 
 same-length-11 : tie.Need-same-length-11
 same-length-11 c = search needs
@@ -75,7 +75,43 @@ same-length-12 : tie.Need-same-length-12
 same-length-12 c = search needs
 
 returns-6 : tie.Need-returns-6
-returns-6 c = c .before .before .before .before .step .ensures ∙ sym (ap (callOf _) (says-step _ _ _ (c .before .before .before .before .before .before .before .before .before .before .before .if1 .left) (c .before .before .before .before .before .before .before .before .before .before .if2 .left) (c .before .before .before .before .before .before .before .before .before .if3 .left) (c .before .before .before .before .before .before .before .before .if4 .left) (c .before .before .before .before .before .before .before .if5 .left)))
+returns-6 c = c .begin4 .ensures ∙ sym (ap (callOf _) (says-commit _ _ _ (c .before .before .before .before .before .before .before .before .if1 .left) (c .before .before .before .before .before .before .before .if2 .left) (c .before .before .before .before .before .before .if3 .left) (c .before .before .before .before .before .if4 .left) (c .before .before .before .before .if5 .left) (c .before .before .before .if6 .taken)))
+
+ask-requires : tie.Need-ask-requires
+ask-requires c κs = search needs
+
+same-length-13 : tie.Need-same-length-13
+same-length-13 c = search needs
+
+same-length-14 : tie.Need-same-length-14
+same-length-14 c = search needs
+
+returns-7 : tie.Need-returns-7
+returns-7 c = c .ask .ensures ∙ sym (ap (callOf _) (says-ask _ _ _ (c .before .before .before .before .before .before .before .before .before .if1 .left) (c .before .before .before .before .before .before .before .before .if2 .left) (c .before .before .before .before .before .before .before .if3 .left) (c .before .before .before .before .before .before .if4 .left) (c .before .before .before .before .before .if5 .left) (c .before .before .before .before .if6 .left) (c .before .before .before .if7 .taken)))
+
+drop-ask-requires : tie.Need-drop-ask-requires
+drop-ask-requires c κs = search needs
+
+same-length-15 : tie.Need-same-length-15
+same-length-15 c = search needs
+
+same-length-16 : tie.Need-same-length-16
+same-length-16 c = search needs
+
+returns-8 : tie.Need-returns-8
+returns-8 c = c .drop-ask .ensures ∙ sym (ap (callOf _) (says-drop-ask _ _ _ (c .before .before .before .before .before .before .before .before .before .before .if1 .left) (c .before .before .before .before .before .before .before .before .before .if2 .left) (c .before .before .before .before .before .before .before .before .if3 .left) (c .before .before .before .before .before .before .before .if4 .left) (c .before .before .before .before .before .before .if5 .left) (c .before .before .before .before .before .if6 .left) (c .before .before .before .before .if7 .left) (c .before .before .before .if8 .taken)))
+
+step-requires : tie.Need-step-requires
+step-requires c κs = search needs
+
+same-length-17 : tie.Need-same-length-17
+same-length-17 c = search needs
+
+same-length-18 : tie.Need-same-length-18
+same-length-18 c = search needs
+
+returns-9 : tie.Need-returns-9
+returns-9 c = c .before .before .before .before .step .ensures ∙ sym (ap (callOf _) (says-step _ _ _ (c .before .before .before .before .before .before .before .before .before .before .before .before .before .before .if1 .left) (c .before .before .before .before .before .before .before .before .before .before .before .before .before .if2 .left) (c .before .before .before .before .before .before .before .before .before .before .before .before .if3 .left) (c .before .before .before .before .before .before .before .before .before .before .before .if4 .left) (c .before .before .before .before .before .before .before .before .before .before .if5 .left) (c .before .before .before .before .before .before .before .before .before .if6 .left) (c .before .before .before .before .before .before .before .before .if7 .left) (c .before .before .before .before .before .before .before .if8 .left)))
 
 pub call-spec : {M : Type 1} → statement M
 call-spec =
@@ -101,7 +137,19 @@ call-spec =
     same-length-9
     same-length-10
     returns-5
-    step-requires
+    begin-requires-4
     same-length-11
     same-length-12
-    returns-6)
+    returns-6
+    ask-requires
+    same-length-13
+    same-length-14
+    returns-7
+    drop-ask-requires
+    same-length-15
+    same-length-16
+    returns-8
+    step-requires
+    same-length-17
+    same-length-18
+    returns-9)

@@ -42,6 +42,12 @@ enum-told-6 c = search needs
 entered-requires-4 : tie.Need-entered-requires-4
 entered-requires-4 c κs = search needs
 
+enum-told-7 : tie.Need-enum-told-7
+enum-told-7 c = search needs
+
+entered-requires-5 : tie.Need-entered-requires-5
+entered-requires-5 c κs = search needs
+
 returns : tie.Need-returns
 returns c = search needs
 
@@ -66,6 +72,9 @@ returns-7 c = c .entered3 .ensures ∙ rw (c .before .enum-told5 .given .1)
 returns-8 : tie.Need-returns-8
 returns-8 c = c .entered4 .ensures ∙ rw (c .before .enum-told6 .given .1)
 
+returns-9 : tie.Need-returns-9
+returns-9 c = c .entered5 .ensures ∙ rw (c .before .enum-told7 .given .1)
+
 pub words-of-spec : {M : Type 1} → statement M
 words-of-spec =
     tie.close
@@ -83,6 +92,8 @@ words-of-spec =
     entered-requires-3
     enum-told-6
     entered-requires-4
+    enum-told-7
+    entered-requires-5
     returns
     returns-2
     returns-3
@@ -90,4 +101,5 @@ words-of-spec =
     returns-5
     returns-6
     returns-7
-    returns-8)
+    returns-8
+    returns-9)

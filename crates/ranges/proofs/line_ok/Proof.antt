@@ -53,14 +53,14 @@ past-test-requires c κs = search needs
 enum-known-line-6 : tie.Need-enum-known-line-6
 enum-known-line-6 c = search needs
 
-task-ok-requires-4 : tie.Need-task-ok-requires-4
-task-ok-requires-4 c κs = search needs
+growth-ok-requires : tie.Need-growth-ok-requires
+growth-ok-requires c κs = search needs
 
 enum-known-line-7 : tie.Need-enum-known-line-7
 enum-known-line-7 c = search needs
 
-task-ok-requires-5 : tie.Need-task-ok-requires-5
-task-ok-requires-5 c κs = search needs
+growth-ok-requires-2 : tie.Need-growth-ok-requires-2
+growth-ok-requires-2 c κs = search needs
 
 enum-known-line-8 : tie.Need-enum-known-line-8
 enum-known-line-8 c = search needs
@@ -71,8 +71,8 @@ copy-ok-requires c κs = search needs
 enum-known-line-9 : tie.Need-enum-known-line-9
 enum-known-line-9 c = search needs
 
-task-ok-requires-6 : tie.Need-task-ok-requires-6
-task-ok-requires-6 c κs = search needs
+growth-ok-requires-3 : tie.Need-growth-ok-requires-3
+growth-ok-requires-3 c κs = search needs
 
 enum-told-2 : tie.Need-enum-told-2
 enum-told-2 c = search needs
@@ -101,8 +101,8 @@ past-empty-requires c κs = search needs
 enum-known-line-13 : tie.Need-enum-known-line-13
 enum-known-line-13 c = search needs
 
-task-ok-requires-7 : tie.Need-task-ok-requires-7
-task-ok-requires-7 c κs = search needs
+task-ok-requires-4 : tie.Need-task-ok-requires-4
+task-ok-requires-4 c κs = search needs
 
 past-empty-requires-2 : tie.Need-past-empty-requires-2
 past-empty-requires-2 c κs = search needs
@@ -155,8 +155,8 @@ enum-known-line-18 c = search needs
 is-deque-requires : tie.Need-is-deque-requires
 is-deque-requires c κs = search needs
 
-task-ok-requires-8 : tie.Need-task-ok-requires-8
-task-ok-requires-8 c κs = search needs
+task-ok-requires-5 : tie.Need-task-ok-requires-5
+task-ok-requires-5 c κs = search needs
 
 both-requires-5 : tie.Need-both-requires-5
 both-requires-5 c κs = search needs
@@ -170,8 +170,8 @@ enum-known-line-19 c = search needs
 next-ok-requires : tie.Need-next-ok-requires
 next-ok-requires c κs = search needs
 
-task-ok-requires-9 : tie.Need-task-ok-requires-9
-task-ok-requires-9 c κs = search needs
+task-ok-requires-6 : tie.Need-task-ok-requires-6
+task-ok-requires-6 c κs = search needs
 
 both-requires-6 : tie.Need-both-requires-6
 both-requires-6 c κs = search needs
@@ -198,16 +198,16 @@ returns-6 : tie.Need-returns-6
 returns-6 c = λ q p d t. simp (c .before .before .line5 .given .1, c .past-test .ensures, t)
 
 returns-7 : tie.Need-returns-7
-returns-7 c = λ q p d t. simp (c .before .before .line6 .given .1, c .task-ok4 .ensures)
+returns-7 c = λ q p d t. simp (c .before .before .line6 .given .1, c .growth-ok .ensures)
 
 returns-8 : tie.Need-returns-8
-returns-8 c = λ q p d t. simp (c .before .before .line7 .given .1, c .task-ok5 .ensures)
+returns-8 c = λ q p d t. simp (c .before .before .line7 .given .1, c .growth-ok2 .ensures)
 
 returns-9 : tie.Need-returns-9
 returns-9 c = λ q p d t. simp (c .before .before .line8 .given .1, c .copy-ok .ensures, t)
 
 returns-10 : tie.Need-returns-10
-returns-10 c = λ q p d t. simp (c .before .before .line9 .given .1, c .task-ok6 .ensures)
+returns-10 c = λ q p d t. simp (c .before .before .line9 .given .1, c .growth-ok3 .ensures)
 
 returns-11 : tie.Need-returns-11
 returns-11 c = λ q p d t. simp (c .enum-told2 .given .1)
@@ -222,7 +222,7 @@ returns-14 : tie.Need-returns-14
 returns-14 c = λ q p d t. simp (c .before .before .before .line12 .given .1, c .before .reads-ok .ensures, c .past-empty .ensures, t)
 
 returns-15 : tie.Need-returns-15
-returns-15 c = λ q p d t. simp (c .before .before .before .line13 .given .1, c .before .task-ok7 .ensures, c .past-empty2 .ensures, t)
+returns-15 c = λ q p d t. simp (c .before .before .before .line13 .given .1, c .before .task-ok4 .ensures, c .past-empty2 .ensures, t)
 
 returns-16 : tie.Need-returns-16
 returns-16 c = λ q p d t. simp (c .enum-told3 .given .1)
@@ -240,10 +240,10 @@ returns-20 : tie.Need-returns-20
 returns-20 c = λ q p d t. simp (c .before .before .before .before .before .line17 .given .1, c .before .before .before .place-ok .ensures (c .before .before .before .before .before .before .before .args .words) q p d, c .before .before .reads-ok2 .ensures, c .before .both4 .ensures, c .past-empty3 .ensures, t)
 
 returns-21 : tie.Need-returns-21
-returns-21 c = λ q p d t. simp (c .before .before .before .before .before .line18 .given .1, c .before .before .before .is-deque .ensures, c .before .before .task-ok8 .ensures, c .before .both5 .ensures, c .past-empty4 .ensures, t)
+returns-21 c = λ q p d t. simp (c .before .before .before .before .before .line18 .given .1, c .before .before .before .is-deque .ensures, c .before .before .task-ok5 .ensures, c .before .both5 .ensures, c .past-empty4 .ensures, t)
 
 returns-22 : tie.Need-returns-22
-returns-22 c = λ q p d t. simp (c .before .before .before .before .before .line19 .given .1, c .before .before .before .next-ok .ensures, c .before .before .task-ok9 .ensures, c .before .both6 .ensures, c .past-empty5 .ensures, t)
+returns-22 c = λ q p d t. simp (c .before .before .before .before .before .line19 .given .1, c .before .before .before .next-ok .ensures, c .before .before .task-ok6 .ensures, c .before .both6 .ensures, c .past-empty5 .ensures, t)
 
 pub line-ok-spec : {M : Type 1} → statement M
 line-ok-spec =
@@ -266,13 +266,13 @@ line-ok-spec =
     enum-known-line-5
     past-test-requires
     enum-known-line-6
-    task-ok-requires-4
+    growth-ok-requires
     enum-known-line-7
-    task-ok-requires-5
+    growth-ok-requires-2
     enum-known-line-8
     copy-ok-requires
     enum-known-line-9
-    task-ok-requires-6
+    growth-ok-requires-3
     enum-told-2
     enum-known-line-10
     head-ok-requires-2
@@ -282,7 +282,7 @@ line-ok-spec =
     reads-ok-requires
     past-empty-requires
     enum-known-line-13
-    task-ok-requires-7
+    task-ok-requires-4
     past-empty-requires-2
     enum-told-3
     enum-known-line-14
@@ -300,12 +300,12 @@ line-ok-spec =
     past-empty-requires-3
     enum-known-line-18
     is-deque-requires
-    task-ok-requires-8
+    task-ok-requires-5
     both-requires-5
     past-empty-requires-4
     enum-known-line-19
     next-ok-requires
-    task-ok-requires-9
+    task-ok-requires-6
     both-requires-6
     past-empty-requires-5
     returns

@@ -63,6 +63,9 @@ print-requires-3 : tie.Need-print-requires-3
 unfolding shown
 print-requires-3 c κs = shows-room _ _ _ refl _ _ (rw (c .before .before .before .before .answer4 .given .1) at (c .before .before .before .before .before .before .before .pre))
 
+enum-told-4 : tie.Need-enum-told-4
+enum-told-4 c = search needs
+
 enum-known-answer-5 : tie.Need-enum-known-answer-5
 enum-known-answer-5 c = search needs
 
@@ -116,12 +119,15 @@ returns-7 : tie.Need-returns-7
 unfolding shown
 returns-7 c = rw (c .before .before .before .before .before .before .before .answer4 .given .1) (shows-one _ _ _ refl _ _ _ _ (c .before .before .print3 .ensures))
 
+returns-8 : tie.Need-returns-8
+returns-8 c = rw (c .enum-told4 .given .1) (shows-none _ _)
+
 same-length-5 : tie.Need-same-length-5
 same-length-5 c = search needs
 
-returns-8 : tie.Need-returns-8
+returns-9 : tie.Need-returns-9
 unfolding shown
-returns-8 c = rw (c .before .before .before .before .before .before .before .answer5 .given .1) (shows-one _ _ _ (ap (λ (n : ℕ). lineOf 82 (n ∷ [])) (sym (c .before .before .before .before .before .number-of .ensures))) _ _ _ _ (c .before .before .print4 .ensures))
+returns-9 c = rw (c .before .before .before .before .before .before .before .answer5 .given .1) (shows-one _ _ _ (ap (λ (n : ℕ). lineOf 82 (n ∷ [])) (sym (c .before .before .before .before .before .number-of .ensures))) _ _ _ _ (c .before .before .print4 .ensures))
 
 pub show-spec : {M : Type 1} → statement M
 show-spec =
@@ -144,6 +150,7 @@ show-spec =
     cast-t28
     slice-aggregate-print-3
     print-requires-3
+    enum-told-4
     enum-known-answer-5
     number-of-requires
     cast-t34
@@ -160,5 +167,6 @@ show-spec =
     returns-6
     same-length-4
     returns-7
+    returns-8
     same-length-5
-    returns-8)
+    returns-9)

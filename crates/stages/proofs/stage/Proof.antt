@@ -20,6 +20,12 @@ enum-told-5 c = search needs
 enum-told-6 : tie.Need-enum-told-6
 enum-told-6 c = search needs
 
+enum-known-line : tie.Need-enum-known-line
+enum-known-line c = search needs
+
+claim-stage-requires : tie.Need-claim-stage-requires
+claim-stage-requires c κs = search needs
+
 enum-told-7 : tie.Need-enum-told-7
 enum-told-7 c = search needs
 
@@ -65,9 +71,6 @@ enum-told-20 c = search needs
 enum-told-21 : tie.Need-enum-told-21
 enum-told-21 c = search needs
 
-enum-told-22 : tie.Need-enum-told-22
-enum-told-22 c = search needs
-
 returns : tie.Need-returns
 returns c = simp (c .enum-told .given .1)
 
@@ -87,52 +90,52 @@ returns-6 : tie.Need-returns-6
 returns-6 c = simp (c .enum-told6 .given .1)
 
 returns-7 : tie.Need-returns-7
-returns-7 c = simp (c .enum-told7 .given .1)
+returns-7 c = simp (c .before .before .line .given .1, c .claim-stage .ensures)
 
 returns-8 : tie.Need-returns-8
-returns-8 c = simp (c .enum-told8 .given .1)
+returns-8 c = simp (c .enum-told7 .given .1)
 
 returns-9 : tie.Need-returns-9
-returns-9 c = simp (c .enum-told9 .given .1)
+returns-9 c = simp (c .enum-told8 .given .1)
 
 returns-10 : tie.Need-returns-10
-returns-10 c = simp (c .enum-told10 .given .1)
+returns-10 c = simp (c .enum-told9 .given .1)
 
 returns-11 : tie.Need-returns-11
-returns-11 c = simp (c .enum-told11 .given .1)
+returns-11 c = simp (c .enum-told10 .given .1)
 
 returns-12 : tie.Need-returns-12
-returns-12 c = simp (c .enum-told12 .given .1)
+returns-12 c = simp (c .enum-told11 .given .1)
 
 returns-13 : tie.Need-returns-13
-returns-13 c = simp (c .enum-told13 .given .1)
+returns-13 c = simp (c .enum-told12 .given .1)
 
 returns-14 : tie.Need-returns-14
-returns-14 c = simp (c .enum-told14 .given .1)
+returns-14 c = simp (c .enum-told13 .given .1)
 
 returns-15 : tie.Need-returns-15
-returns-15 c = simp (c .enum-told15 .given .1)
+returns-15 c = simp (c .enum-told14 .given .1)
 
 returns-16 : tie.Need-returns-16
-returns-16 c = simp (c .enum-told16 .given .1)
+returns-16 c = simp (c .enum-told15 .given .1)
 
 returns-17 : tie.Need-returns-17
-returns-17 c = simp (c .enum-told17 .given .1)
+returns-17 c = simp (c .enum-told16 .given .1)
 
 returns-18 : tie.Need-returns-18
-returns-18 c = simp (c .enum-told18 .given .1)
+returns-18 c = simp (c .enum-told17 .given .1)
 
 returns-19 : tie.Need-returns-19
-returns-19 c = simp (c .enum-told19 .given .1)
+returns-19 c = simp (c .enum-told18 .given .1)
 
 returns-20 : tie.Need-returns-20
-returns-20 c = simp (c .enum-told20 .given .1)
+returns-20 c = simp (c .enum-told19 .given .1)
 
 returns-21 : tie.Need-returns-21
-returns-21 c = simp (c .enum-told21 .given .1)
+returns-21 c = simp (c .enum-told20 .given .1)
 
 returns-22 : tie.Need-returns-22
-returns-22 c = simp (c .enum-told22 .given .1)
+returns-22 c = simp (c .enum-told21 .given .1)
 
 pub stage-spec : {M : Type 1} → statement M
 stage-spec =
@@ -144,6 +147,8 @@ stage-spec =
     enum-told-4
     enum-told-5
     enum-told-6
+    enum-known-line
+    claim-stage-requires
     enum-told-7
     enum-told-8
     enum-told-9
@@ -159,7 +164,6 @@ stage-spec =
     enum-told-19
     enum-told-20
     enum-told-21
-    enum-told-22
     returns
     returns-2
     returns-3

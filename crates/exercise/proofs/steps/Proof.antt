@@ -2,8 +2,8 @@ use mathlib.Core.Path.{_≡_}
 use Prim.Native.Nat.{_-_}
 use lib.ListN.{length}
 use borrow.Author.Needs.{needs}
-use Rattle.exercise.proofs.put.Statement.{statement}
-use Rattle.exercise.proofs.put.Tie as tie
+use Rattle.exercise.proofs.steps.Statement.{statement}
+use Rattle.exercise.proofs.steps.Tie as tie
 
 abbrev Inv-loop : tie.InvT-loop
 Inv-loop lines store₀ log₀ last₀ line₀ store log last line =
@@ -11,12 +11,6 @@ Inv-loop lines store₀ log₀ last₀ line₀ store log last line =
 
 abbrev μ-loop : tie.MeasureT-loop
 μ-loop lines store₀ log₀ last₀ line₀ store log last line = lines - line
-
-payload-of-requires : tie.Need-payload-of-requires Inv-loop μ-loop
-payload-of-requires c κs = search needs
-
-begin-requires : tie.Need-begin-requires Inv-loop μ-loop
-begin-requires c κs = search needs
 
 loop-holds : tie.Need-loop-holds Inv-loop μ-loop
 loop-holds c = search needs
@@ -42,14 +36,12 @@ same-length-2 c = search needs
 returns : tie.Need-returns Inv-loop μ-loop
 returns c = search needs
 
-pub put-spec : {M : Type 1} → statement M
-put-spec =
+pub steps-spec : {M : Type 1} → statement M
+steps-spec =
     tie.close
     (tie.spec
     Inv-loop
     μ-loop
-    payload-of-requires
-    begin-requires
     loop-holds
     add-line
     step-requires
