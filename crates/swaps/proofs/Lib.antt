@@ -1,0 +1,3 @@
+pub mod WorkersOwn
+pub mod Swaps
+pub mod SwapExamples
