@@ -12,7 +12,9 @@
 use std::fmt;
 
 use crate::bench::{Operation, Shape};
+use crate::found::Found;
 use crate::outcome::{refusal, Outcome};
+use crate::rooms;
 use crate::settled::{Kept, Memory};
 use crate::task::Task;
 use crate::witness::{Asking, Cause, Shown, Witness};
@@ -34,7 +36,6 @@ enum Left {
 
 #[derive(Default)]
 pub struct Asks {
-    calls: u64,
     shape: Option<Shape>,
     /// As the last call left them: the words set aside, and how many arrays are
     /// claimed.
@@ -43,8 +44,7 @@ pub struct Asks {
     /// The owner has an operation open.
     busy: bool,
     commit: Option<Commit>,
-    /// What was wrong first, in whichever list.
-    wrong: Option<String>,
+    found: Found,
 }
 
 /// The calls that are answered by the words set aside.
@@ -57,13 +57,7 @@ enum About {
 
 impl Asks {
     pub fn is_wrong(&self) -> bool {
-        self.wrong.is_some()
-    }
-
-    fn note(&mut self, found: Result<(), &'static str>) {
-        if let (Err(what), None) = (found, &self.wrong) {
-            self.wrong = Some(format!("by call {}: {what}", self.calls));
-        }
+        self.found.is_wrong()
     }
 
     /// What the call is to be answered; `doubled` are the words that an array of
@@ -152,26 +146,22 @@ impl Asks {
 
 impl fmt::Display for Asks {
     fn fmt(&self, text: &mut fmt::Formatter<'_>) -> fmt::Result {
-        match &self.wrong {
-            None => write!(text, "asks kept"),
-            Some(what) => write!(text, "asks broken {what}"),
-        }
+        self.found.tell(text, "asks kept", "asks broken")
     }
 }
 
 impl Witness for Asks {
     fn fresh(&mut self, shape: Shape) {
         *self = Asks {
-            calls: self.calls,
             shape: Some(shape),
             arrays: 1,
-            wrong: self.wrong.take(),
+            found: std::mem::take(&mut self.found),
             ..Asks::default()
         };
     }
 
     fn call(&mut self) {
-        self.calls += 1;
+        self.found.call();
     }
 
     fn watches(&self) -> bool {
@@ -185,13 +175,14 @@ impl Witness for Asks {
         for &store in &before.line {
             settled.put(store);
         }
+        let doubled = rooms::doubled(shape, &settled.arrays, settled.size(), shown);
         let (about, aside) = match call {
-            Asking::Ask => (About::Ask, settled.doubled().unwrap_or(0)),
+            Asking::Ask => (About::Ask, doubled.unwrap_or(0)),
             Asking::Drop => (About::Drop, 0),
         };
-        let due = self.due(shape, about, worker, settled.doubled());
+        let due = self.due(shape, about, worker, doubled);
         let expected = Kept { aside: if due.is_ok() { aside } else { self.aside }, ..before.clone() };
-        self.note(if answer != due {
+        self.found.note(if answer != due {
             Err("an ask or a drop of it is answered wrong")
         } else if Kept::of(shape.kind, shown) != expected {
             Err("an ask or a drop of it changed something else")
@@ -218,7 +209,7 @@ impl Witness for Asks {
             }
             _ => Ok(()),
         };
-        self.note(found);
+        self.found.note(found);
         self.aside = shown.store.aside();
         self.arrays = shown.store.arrays().len();
         if let Some(commit) = &mut self.commit {
@@ -232,6 +223,7 @@ mod tests {
     use super::*;
     use crate::calls::Calls;
     use crate::store::Store;
+    use crate::yard::Neighbours;
 
     fn kept(list: &str) -> bool {
         let mut calls = Calls::new(Asks::default());
@@ -261,10 +253,10 @@ mod tests {
         }
     }
 
-    const SHAPE: Shape = Shape { kind: 2, width: 1, size: 1, crew: 2, payload_words: 1, delayed: false };
+    const SHAPE: Shape = Shape { kind: 2, width: 1, size: 1, crew: 2, payload_words: 1, delayed: false, quota: None };
 
     fn shown(store: &Store, tail: u32) -> Shown<'_> {
-        Shown { anchor: [0, tail, 0], restarts: &[0; 8], store, copying: false, commits: false }
+        Shown { anchor: [0, tail, 0], restarts: &[0; 8], store, copying: false, commits: false, neighbours: Neighbours::default() }
     }
 
     /// A store of six words with an array of one task and so many words set aside.

@@ -1,19 +1,22 @@
 //! The bench: one of the three machines and a crew, and the calls fresh, begin,
 //! step, drop_link, drain, ask, drop_ask and who with their refusals in order.
-//! Store and log are lent to it; the log is kept by whoever steps.
+//! Store and log are lent to it; the log is kept by whoever steps. One of several
+//! queues on the same words is a bench too, which has the words for its calls alone.
 
 use crate::double_ended::DoubleEnded;
 use crate::fifo::Fifo;
 use crate::guard::Guard;
 use crate::lifo::Lifo;
 use crate::outcome::{refusal, Outcome, Place};
-use crate::store::{Store, LARGEST};
+use crate::store::{Others, Store, LARGEST};
 use crate::task::{Payload, Task, MOST_PAYLOAD};
 use crate::witness::{Shown, Witness};
+use crate::yard::Neighbours;
 
 /// The last put number.
 pub const LAST_NUMBER: u32 = 65_535;
 
+#[derive(Clone, Debug, PartialEq, Eq)]
 enum Queue {
     Lifo(Lifo),
     Fifo(Fifo),
@@ -31,8 +34,8 @@ macro_rules! with_queue {
     };
 }
 
-/// How a bench is made.
-#[derive(Clone, Copy, Debug, PartialEq, Eq)]
+/// How a bench is made; none is made so by default.
+#[derive(Clone, Copy, Debug, Default, PartialEq, Eq)]
 pub struct Shape {
     pub kind: u32,
     pub width: u32,
@@ -41,6 +44,8 @@ pub struct Shape {
     pub payload_words: u32,
     /// With delayed stores.
     pub delayed: bool,
+    /// The most words its arrays may take; where none is named, the store's length.
+    pub quota: Option<u32>,
 }
 
 #[derive(Clone, Copy, Debug, PartialEq, Eq)]
@@ -53,6 +58,7 @@ pub enum Operation {
     Commit,
 }
 
+#[derive(Clone, Debug, PartialEq, Eq)]
 pub struct Bench {
     queue: Queue,
     crew: u32,
@@ -65,7 +71,12 @@ impl Bench {
     /// Fresh, on the lent words. They are taken if the bench is accepted, and
     /// stay where they are if it is refused.
     pub fn fresh(shape: Shape, words: &mut Vec<u32>) -> Result<Bench, u32> {
-        let Shape { kind, width, size, crew, payload_words, delayed } = shape;
+        Bench::beside(Others::default(), shape, words)
+    }
+
+    /// The same on words of which others have theirs.
+    pub fn beside(others: Others, shape: Shape, words: &mut Vec<u32>) -> Result<Bench, u32> {
+        let Shape { kind, width, size, crew, payload_words, delayed, quota } = shape;
         if !(1..=5).contains(&kind) {
             return Err(refusal::UNKNOWN_QUEUE);
         }
@@ -81,10 +92,16 @@ impl Bench {
         if !(1..=MOST_PAYLOAD as u32).contains(&payload_words) {
             return Err(refusal::PAYLOAD_WORDS);
         }
-        if words.len() < (size * (payload_words + 1)) as usize {
+        let first = size * (payload_words + 1);
+        if first > others.leave(words.len() as u32) {
             return Err(refusal::SHORT_STORE);
         }
-        let store = Store::fresh(std::mem::take(words), size, payload_words).with_line(delayed);
+        let quota = quota.unwrap_or(words.len() as u32);
+        if first > quota {
+            return Err(refusal::SHORT_QUOTA);
+        }
+        let words = std::mem::take(words);
+        let store = Store::beside(others, words, quota, size, payload_words).with_line(delayed);
         let queue = match kind {
             1 => Queue::Lifo(Lifo::new(Guard::tag(width), store)),
             2 => Queue::Fifo(Fifo::new(store)),
@@ -239,23 +256,38 @@ impl Bench {
     }
 
     pub fn shown(&self) -> Shown<'_> {
+        self.shown_beside(Neighbours::default())
+    }
+
+    pub fn shown_beside<'a>(&'a self, neighbours: Neighbours<'a>) -> Shown<'a> {
         Shown {
             anchor: self.anchor(),
             restarts: &self.restarts,
             store: self.store(),
             copying: with_queue!(&self.queue, machine => machine.copying()),
             commits: with_queue!(&self.queue, machine => machine.commits()),
+            neighbours,
         }
     }
 
-    /// Gives the lent words back.
-    pub fn into_words(self) -> Vec<u32> {
-        with_queue!(self.queue, machine => machine.into_store()).into_words()
+    /// Lends the words for a call, with what others have of them then.
+    pub fn lend(&mut self, words: Vec<u32>, others: Others) {
+        self.store_mut().lend(words, others);
+    }
+
+    /// Takes the words back.
+    pub fn take_back(&mut self) -> Vec<u32> {
+        self.store_mut().take_back()
     }
 
     /// Each task in the window, as the owner reads it.
     pub fn window(&self) -> Box<dyn Iterator<Item = Task> + '_> {
         with_queue!(&self.queue, machine => Box::new(machine.window()))
+    }
+
+    /// How many tasks are in the window; none of them is read.
+    pub fn standing(&self) -> usize {
+        self.window().size_hint().0
     }
 
     /// How far a worker is; none without such a worker.
@@ -273,10 +305,11 @@ impl Bench {
 mod tests {
     use super::*;
     use crate::random::Random;
+    use crate::rooms;
     use crate::settled::Memory;
     use crate::witness::Blind;
 
-    const LIFO: Shape = Shape { kind: 1, width: 4, size: 1, crew: 2, payload_words: 1, delayed: false };
+    const LIFO: Shape = Shape { kind: 1, width: 4, size: 1, crew: 2, payload_words: 1, delayed: false, quota: None };
 
     const PUT: Operation = Operation::Put { payload: [5, 6, 7, 8] };
 
@@ -327,7 +360,7 @@ mod tests {
 
     #[test]
     fn fresh_refuses_in_the_order_1_to_4_16_5() {
-        let wrong = Shape { kind: 0, width: 0, size: 0, crew: 0, payload_words: 0, delayed: false };
+        let wrong = Shape { kind: 0, width: 0, size: 0, crew: 0, payload_words: 0, delayed: false, quota: None };
         assert_eq!(refused(wrong, 0), 1);
         assert_eq!(refused(Shape { kind: 1, ..wrong }, 0), 2);
         assert_eq!(refused(Shape { kind: 1, width: 1, ..wrong }, 0), 3);
@@ -509,6 +542,7 @@ mod tests {
                 crew: random.between(1, 8),
                 payload_words: random.between(1, 4),
                 delayed: false,
+                quota: None,
             };
             let mut benches = [false, true].map(|delayed| Bench::fresh(Shape { delayed, ..shape }, &mut vec![9; 130]).unwrap());
             for _ in 0..2000 {
@@ -558,6 +592,7 @@ mod tests {
                 crew: random.between(1, 4),
                 payload_words: random.between(1, 4),
                 delayed: true,
+                quota: None,
             };
             let mut bench = Bench::fresh(shape, &mut vec![9; 130]).unwrap();
             let drains = *random.pick(&[5, 20, 40]);
@@ -585,7 +620,7 @@ mod tests {
                 assert_eq!(bench.full(), settled.count() == settled.size());
                 if bench.place(0) == Some(Place::Idle) && bench.store().aside() == 0 {
                     let next = bench.store().next_array().map(|array| bench.store().length(array));
-                    assert_eq!(next, settled.doubled());
+                    assert_eq!(next, rooms::doubled(shape, &settled.arrays, settled.size(), &bench.shown()));
                 }
             }
         }
@@ -784,6 +819,7 @@ mod tests {
                 crew: random.between(2, 8),
                 payload_words: random.between(1, 4),
                 delayed: false,
+                quota: None,
             };
             let mut bench = Bench::fresh(shape, &mut vec![0; 100]).unwrap();
             let mut held = [false; 8];

@@ -1,356 +1,160 @@
-//! Lists of library calls: the lent memory, the bench on it and what each call
-//! answers.
+//! Lists of library calls: which line may stand where, and what it plays.
 
 use std::io::{self, Write};
 
-use crate::bench::{Bench, Operation, Shape};
-use crate::call_text::{self, Call, Line};
-use crate::listing::{print, print_hand_out};
-use crate::log_judge::{COMMITTED, EMPTY, FINISHED, FULL, HANDED_OUT};
-use crate::outcome::{refusal, Outcome, Place};
-use crate::settled::{Kept, Memory};
-use crate::task::Task;
-use crate::waiting::Waiting;
-use crate::witness::{Asking, Cause, Witness};
+use crate::bench::Bench;
+use crate::call_text::{self, Line};
+use crate::company::Company;
+use crate::lent::{Lent, Whose};
+use crate::log::Log;
+use crate::outcome::Place;
+use crate::turn::{answer, Post};
+use crate::witness::Witness;
 
-/// What word 0 of the store and of the log is at the start; each later word is
-/// one more than the word before it.
-const STORE_FROM: u32 = 3_000_000_000;
-const LOG_FROM: u32 = 4_000_000_000;
-
-pub struct Calls<W> {
-    /// None before the first line.
-    lent: Option<Lent>,
-    witness: W,
+/// What a list is about. Its first line behind the lent memory says which.
+#[derive(Clone, Copy, Debug, PartialEq, Eq)]
+enum About {
+    /// A bench alone, and another in its place.
+    Bench,
+    /// The queues of a yard.
+    Yard,
 }
 
-impl<W: Witness> Calls<W> {
+/// How far a list is.
+enum Stage<W> {
+    /// Before its first line: who will watch.
+    Start(W),
+    Lent(Lent<W>),
+}
+
+pub struct Calls<W> {
+    stage: Stage<W>,
+    /// None before the second line.
+    about: Option<About>,
+}
+
+impl<W: Witness + Default> Calls<W> {
     pub fn new(witness: W) -> Calls<W> {
-        Calls { lent: None, witness }
-    }
-
-    pub fn witness(&self) -> &W {
-        &self.witness
-    }
-
-    pub fn into_witness(self) -> W {
-        self.witness
+        Calls { stage: Stage::Start(witness), about: None }
     }
 
     /// Plays one line, its newline taken off, and writes its answers, each as
     /// soon as it is there. Answers false if the line is not of the form: then
     /// nothing was played.
     pub fn line(&mut self, line: &[u8], out: &mut impl Write) -> io::Result<bool> {
-        match (call_text::parse(line), &mut self.lent) {
-            (Some(Line::Memory { store, log }), None) => self.lent = Some(Lent::new(store, log)),
-            (Some(Line::Call(call)), Some(lent)) => {
-                lent.play(call, &mut self.witness, out)?;
-                lent.show(&mut self.witness);
+        match (call_text::parse(line), &mut self.stage) {
+            (Some(Line::Memory { store, log }), Stage::Start(witness)) => {
+                self.stage = Stage::Lent(Lent::new(store, log, std::mem::take(witness)));
+                Ok(true)
             }
-            // The lent memory comes first and once.
-            _ => return Ok(false),
+            (Some(line), Stage::Lent(lent)) => match about(line, self.about) {
+                Some(about) => {
+                    self.about = Some(about);
+                    play(lent, line, out)?;
+                    Ok(true)
+                }
+                None => Ok(false),
+            },
+            // The lent memory comes first.
+            _ => Ok(false),
         }
-        Ok(true)
     }
 
-    fn bench(&self) -> Option<&Bench> {
-        self.lent.as_ref()?.bench.as_ref()
+    fn lent(&self) -> Option<&Lent<W>> {
+        match &self.stage {
+            Stage::Start(_) => None,
+            Stage::Lent(lent) => Some(lent),
+        }
     }
 
-    /// How far a worker is; none without a bench or such a worker.
-    pub fn place(&self, worker: u32) -> Option<Place> {
-        self.bench()?.place(worker)
+    /// Who watches the bench alone, or the first queue.
+    pub fn witness(&self) -> &W {
+        match &self.stage {
+            Stage::Start(witness) => witness,
+            Stage::Lent(lent) => &lent.posts()[0].witness,
+        }
+    }
+
+    pub fn into_witness(self) -> W {
+        match self.stage {
+            Stage::Start(witness) => witness,
+            Stage::Lent(lent) => lent.into_witness(),
+        }
+    }
+
+    /// What belongs to each queue; of a list about a bench alone, to that.
+    pub fn posts(&self) -> &[Post<W>] {
+        self.lent().map_or(&[], Lent::posts)
+    }
+
+    /// Whether the list is about the queues of a yard.
+    pub fn is_yard(&self) -> bool {
+        self.about == Some(About::Yard)
+    }
+
+    /// What was found about queues in company, if the witness watches.
+    pub fn company(&self) -> Option<&Company> {
+        self.lent()?.company()
+    }
+
+    /// The bench alone, or the queue of this number.
+    fn bench(&self, number: usize) -> Option<&Bench> {
+        self.lent()?.queues().get(number)
+    }
+
+    /// How far a worker is; none without such a queue or such a worker.
+    pub fn place(&self, number: usize, worker: u32) -> Option<Place> {
+        self.bench(number)?.place(worker)
     }
 
     /// Whether the current array is full.
-    pub fn full(&self) -> bool {
-        self.bench().is_some_and(Bench::full)
+    pub fn full(&self, number: usize) -> bool {
+        self.bench(number).is_some_and(Bench::full)
     }
 
     /// How many tasks are in the window.
-    pub fn standing(&self) -> usize {
-        self.bench().map_or(0, |bench| bench.window().count())
+    pub fn standing(&self, number: usize) -> usize {
+        self.bench(number).map_or(0, Bench::standing)
     }
 
     /// The words that an ask has set aside; 0 for none.
-    pub fn aside(&self) -> u32 {
-        self.bench().map_or(0, |bench| bench.store().aside())
+    pub fn aside(&self, number: usize) -> u32 {
+        self.bench(number).map_or(0, |bench| bench.store().aside())
     }
 
     /// How many stores wait.
-    pub fn waiting(&self) -> usize {
-        self.bench().map_or(0, |bench| bench.store().line().stores().len())
+    pub fn waiting(&self, number: usize) -> usize {
+        self.bench(number).map_or(0, |bench| bench.store().line().stores().len())
     }
 
     /// How many more entries the log can take.
-    pub fn entries_left(&self) -> u32 {
-        self.lent.as_ref().map_or(0, |lent| (lent.words_left() / lent.entry()) as u32)
+    pub fn entries_left(&self, number: usize) -> u32 {
+        self.lent().and_then(|lent| lent.log(number)).map_or(0, Log::entries_left)
     }
 }
 
-struct Lent {
-    /// The store's words; the bench has them while there is one.
-    store: Vec<u32>,
-    log: Vec<u32>,
-    /// Words of the log written.
-    written: usize,
-    /// The kind and the payload words of the last bench.
-    kind: u32,
-    payload_words: u32,
-    /// None before the first fresh and after a refused one.
-    bench: Option<Bench>,
-}
-
-impl Lent {
-    fn new(store: u32, log: u32) -> Lent {
-        Lent {
-            store: (STORE_FROM..STORE_FROM + store).collect(),
-            log: (LOG_FROM..LOG_FROM + log).collect(),
-            written: 0,
-            kind: 0,
-            payload_words: 1,
-            bench: None,
-        }
-    }
-
-    fn words_left(&self) -> usize {
-        self.log.len() - self.written
-    }
-
-    /// The words of an entry.
-    fn entry(&self) -> usize {
-        self.payload_words as usize + 3
-    }
-
-    /// Shows the witness what is shared.
-    fn show<W: Witness>(&self, witness: &mut W) {
-        if let Some(bench) = &self.bench {
-            witness.shared(bench.anchor(), bench.restarts());
-            if witness.watches() {
-                witness.after(Cause::Other, &bench.shown());
-            }
-        }
-    }
-
-    fn play<W: Witness>(&mut self, call: Call, witness: &mut W, out: &mut impl Write) -> io::Result<()> {
-        match call {
-            Call::Fresh(shape) => answer(self.fresh(shape, witness), out),
-            Call::Drop { worker } => answer(self.drop_link(worker, witness), out),
-            Call::Drain => answer(self.drain(witness), out),
-            Call::Ask { worker } => answer(self.ask(Asking::Ask, worker, witness), out),
-            Call::Unask { worker } => answer(self.ask(Asking::Drop, worker, witness), out),
-            Call::Begin { worker, operation } => match self.begin(worker, operation, witness) {
-                Ok(Some(number)) => say(out, b'N', &[number]),
-                Ok(None) => say(out, b'A', &[]),
-                Err(number) => say(out, b'R', &[number]),
-            },
-            Call::Step { worker, count } => {
-                for _ in 0..count {
-                    self.step(worker, witness, out)?;
-                }
-                Ok(())
-            }
-            Call::Who { worker } => match self.who(worker, witness) {
-                Ok(count) => say(out, b'W', &[worker, count]),
-                Err(number) => say(out, b'R', &[number]),
-            },
-            // Without a bench there is no front, and this call never refuses.
-            Call::Front if self.bench.is_none() => say(out, b'L', &[]),
-            Call::Front => say(out, b'L', &self.log[..self.written]),
-            Call::State => match &self.bench {
-                Some(bench) => say(out, b'S', &self.state(bench)),
-                None => say(out, b'R', &[refusal::FOREIGN_STATE]),
-            },
-        }
-    }
-
-    /// A refused fresh leaves no bench, not even the one before.
-    fn fresh<W: Witness>(&mut self, shape: Shape, witness: &mut W) -> Result<(), u32> {
-        if let Some(bench) = self.bench.take() {
-            self.store = bench.into_words();
-        }
-        self.bench = Some(Bench::fresh(shape, &mut self.store)?);
-        self.kind = shape.kind;
-        self.payload_words = shape.payload_words;
-        self.written = 0;
-        witness.fresh(shape);
-        Ok(())
-    }
-
-    fn begin<W: Witness>(
-        &mut self,
-        worker: u32,
-        operation: Operation,
-        witness: &mut W,
-    ) -> Result<Option<u32>, u32> {
-        let bench = self.bench.as_mut().ok_or(refusal::FOREIGN_STATE)?;
-        witness.call();
-        let answer = bench.begin(worker, operation);
-        if let (Ok(Some(number)), Operation::Put { payload }) = (answer, operation) {
-            witness.put_begun(Task::new(number, payload, self.payload_words));
-        }
-        if witness.watches() {
-            let answer = answer.map(|_| ());
-            witness.after(Cause::Begin { worker, operation, answer }, &bench.shown());
-        }
-        answer
-    }
-
-    /// An ask, or a drop of it.
-    fn ask<W: Witness>(&mut self, call: Asking, worker: u32, witness: &mut W) -> Result<(), u32> {
-        let bench = self.bench.as_mut().ok_or(refusal::FOREIGN_STATE)?;
-        witness.call();
-        let before = witness.watches().then(|| Kept::of(self.kind, &bench.shown()));
-        let answer = match call {
-            Asking::Ask => bench.ask(worker),
-            Asking::Drop => bench.drop_ask(worker),
-        };
-        if let Some(before) = before {
-            witness.asked(call, worker, answer, &before, &bench.shown());
-        }
-        answer
-    }
-
-    fn drop_link<W: Witness>(&mut self, worker: u32, witness: &mut W) -> Result<(), u32> {
-        let bench = self.bench.as_mut().ok_or(refusal::FOREIGN_STATE)?;
-        witness.call();
-        bench.drop_link(worker)?;
-        witness.dropped(worker as usize);
-        Ok(())
-    }
-
-    fn drain<W: Witness>(&mut self, witness: &mut W) -> Result<(), u32> {
-        let bench = self.bench.as_mut().ok_or(refusal::FOREIGN_STATE)?;
-        witness.call();
-        let oldest = bench.store().line().stores().first().copied();
-        bench.drain()?;
-        witness.shared(bench.anchor(), bench.restarts());
-        if witness.watches() {
-            witness.after(Cause::Drain, &bench.shown());
-        }
-        if let Some(store) = oldest {
-            witness.drained(store);
-        }
-        show_window(self.kind, bench, witness);
-        Ok(())
-    }
-
-    fn who<W: Witness>(&self, worker: u32, witness: &mut W) -> Result<u32, u32> {
-        let bench = self.bench.as_ref().ok_or(refusal::FOREIGN_STATE)?;
-        let count = bench.who(worker)?;
-        witness.who(worker as usize, count);
-        Ok(count)
-    }
-
-    fn step<W: Witness>(&mut self, worker: u32, witness: &mut W, out: &mut impl Write) -> io::Result<()> {
-        let room = self.words_left() >= self.entry();
-        let Some(bench) = &mut self.bench else {
-            return say(out, b'R', &[refusal::FOREIGN_STATE]);
-        };
-        witness.call();
-        let outcome = bench.step(worker, room, witness);
-        witness.shared(bench.anchor(), bench.restarts());
-        if witness.watches() {
-            witness.after(Cause::Step { worker, outcome }, &bench.shown());
-        }
-        witness.answered(worker, outcome);
-        show_window(self.kind, bench, witness);
-        match outcome {
-            Outcome::GoesOn | Outcome::Restarted | Outcome::Published => say(out, b'G', &[]),
-            Outcome::Finished(task) => {
-                self.enter(FINISHED, worker, task);
-                say(out, b'D', &[task.number()])
-            }
-            Outcome::HandedOut(task) => {
-                self.enter(HANDED_OUT, worker, task);
-                let mut line = Vec::new();
-                print_hand_out(&mut line, worker, task.words(self.payload_words));
-                out.write_all(&line)
-            }
-            Outcome::Empty => {
-                self.enter(EMPTY, worker, Task::default());
-                say(out, b'E', &[worker])
-            }
-            Outcome::Full(task) => {
-                self.enter(FULL, worker, task);
-                say(out, b'F', &[task.number()])
-            }
-            Outcome::Committed => {
-                self.enter(COMMITTED, worker, Task::default());
-                say(out, b'C', &[])
-            }
-            Outcome::Refused(number) => say(out, b'R', &[number]),
-        }
-    }
-
-    /// Writes an entry: kind, worker, put number and payload words.
-    fn enter(&mut self, kind: u32, worker: u32, task: Task) {
-        let end = self.written + self.entry();
-        let entry = &mut self.log[self.written..end];
-        entry[0] = kind;
-        entry[1] = worker;
-        entry[2..].copy_from_slice(task.words(self.payload_words));
-        self.written = end;
-    }
-
-    /// What is shared: the anchor; how many arrays are published and how many
-    /// claimed; each claimed one; put numbers used; words of the log written;
-    /// each worker's restarts, all eight; with delayed stores how many wait, and
-    /// each of them; the words set aside; and the store.
-    fn state(&self, bench: &Bench) -> Vec<u32> {
-        let store = bench.store();
-        let mut values = bench.anchor().to_vec();
-        values.extend([store.published() as u32, store.arrays().len() as u32]);
-        for &array in store.arrays() {
-            values.extend([array.offset, store.length(array)]);
-        }
-        values.extend([bench.numbers_used(), self.written as u32]);
-        values.extend(bench.restarts());
-        if store.line().delayed() {
-            values.push(store.line().stores().len() as u32);
-            for &waiting in store.line().stores() {
-                match waiting {
-                    Waiting::Word { array, slot, word, value } => {
-                        values.extend([1, store.address(array, slot, word) as u32, value]);
-                    }
-                    Waiting::Note { published } => values.extend([2, published as u32]),
-                    Waiting::Anchor([head, count, tag]) => values.extend([3, head, count, tag]),
-                    Waiting::Head(head) => values.extend([4, head]),
-                    Waiting::Tail(tail) => values.extend([5, tail]),
-                }
-            }
-        }
-        values.push(store.aside());
-        values.extend(store.words());
-        values
+/// What a list is about that goes on with this line; none if the line can't stand
+/// there. A making comes before all other lines of a yard.
+fn about(line: Line, before: Option<About>) -> Option<About> {
+    match (line, before) {
+        (Line::Fresh(_) | Line::Call { queue: None, .. }, None | Some(About::Bench)) => Some(About::Bench),
+        (Line::Make(_), None | Some(About::Yard)) => Some(About::Yard),
+        (Line::Call { queue: Some(_), .. }, Some(About::Yard)) => Some(About::Yard),
+        _ => None,
     }
 }
 
-/// Shows the witness the window, if it has moved: with delayed stores the one
-/// that is left when all waiting stores are put down.
-fn show_window<W: Witness>(kind: u32, bench: &Bench, witness: &mut W) {
-    if !witness.wants_window() {
-        return;
-    }
-    if bench.store().line().delayed() {
-        let window = Memory::of_owner(kind, &bench.shown()).window();
-        witness.window(&mut window.into_iter());
-    } else {
-        witness.window(&mut bench.window());
-    }
-}
-
-fn answer(answer: Result<(), u32>, out: &mut impl Write) -> io::Result<()> {
-    match answer {
-        Ok(()) => say(out, b'A', &[]),
-        Err(number) => say(out, b'R', &[number]),
-    }
-}
-
-fn say(out: &mut impl Write, letter: u8, values: &[u32]) -> io::Result<()> {
-    let mut line = Vec::new();
-    print(&mut line, letter, values);
-    out.write_all(&line)
+fn play<W: Witness + Default>(lent: &mut Lent<W>, line: Line, out: &mut impl Write) -> io::Result<()> {
+    let made = match line {
+        Line::Fresh(shape) => lent.fresh(shape),
+        Line::Make(shape) => lent.make(shape),
+        Line::Call { queue, call } => return lent.play(queue.map_or(Whose::Bench, Whose::Queue), call, out),
+        // It is the first line alone.
+        Line::Memory { .. } => return Ok(()),
+    };
+    let mut said = Vec::new();
+    answer(made, &mut said);
+    out.write_all(&said)
 }
 
 #[cfg(test)]
@@ -629,6 +433,49 @@ mod tests {
         assert!(calls.line(b"memory 2 4", &mut out).unwrap());
         assert!(!calls.line(b"memory 2 4", &mut out).unwrap());
         assert!(out.is_empty());
+    }
+
+    #[test]
+    fn a_list_is_about_a_bench_or_about_a_yard() {
+        let played = |list: &str| {
+            let mut calls = Calls::new(Blind);
+            let mut out = Vec::new();
+            list.split(", ").take_while(|line| calls.line(line.as_bytes(), &mut out).unwrap()).count()
+        };
+        let make = "make 1 1 1 1 1 0";
+        assert_eq!(played(&format!("memory 4 4, {make}, 0 state, {make}, 1 state, 9 front")), 6);
+        assert_eq!(played(&format!("memory 4 4, {make}, state")), 2);
+        assert_eq!(played(&format!("memory 4 4, {make}, fresh 1 1 1 1 1 0")), 2);
+        assert_eq!(played("memory 4 4, 0 state"), 1, "a making comes first");
+        assert_eq!(played("memory 4 4, make 0 1 1 1 1 0, 0 state"), 3, "be it refused");
+        assert_eq!(played(&format!("memory 4 4, state, {make}")), 2);
+        assert_eq!(played(&format!("memory 4 4, fresh 1 1 1 1 1 0, {make}")), 2);
+        assert_eq!(played("memory 4 4, fresh 1 1 1 1 1 0, 0 state"), 2);
+        assert_eq!(played(make), 0);
+    }
+
+    #[test]
+    fn a_queue_alone_without_a_quota_is_a_bench_alone() {
+        for kind in 1..=5 {
+            for words in 1..=4 {
+                for delayed in [0, 1] {
+                    let drains = "drain, ".repeat(5);
+                    let put = format!("begin 0 put 7 8 9 10, {}", format!("step 0 4, {drains}").repeat(6));
+                    let calls = format!(
+                        "{put}state, ask 0, begin 1 steal, step 1 4, {put}begin 0 commit, ask 0, begin 0 commit, \
+                         step 0 3, state, {drains}step 0 8, step 1 9, {put}{put}{put}who 1, drop 1, begin 0 take, \
+                         step 0 7, front, state, step 2 1"
+                    );
+                    let shape = format!("{kind} 1 1 2 {words} {delayed}");
+                    let memory = format!("memory {} 60", 7 * (words + 1) + 1);
+                    let queue: Vec<String> = calls.split(", ").map(|call| format!("0 {call}")).collect();
+                    assert_eq!(
+                        answers(&format!("{memory}, fresh {shape}, {calls}")),
+                        answers(&format!("{memory}, make {shape}, {}", queue.join(", ")))
+                    );
+                }
+            }
+        }
     }
 
     /// Takes no more than so many bytes.

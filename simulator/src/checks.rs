@@ -1,7 +1,7 @@
 //! All that is checked beside a run: demand 3, the restarts of each worker, FIFO's
-//! order, the limits on what is shared, asks and commits, and with delayed stores
-//! what each call did to memory and to the waiting line and what the owner read and
-//! wrote.
+//! order, the limits on what is shared, what X1 may claim, asks and commits, and
+//! with delayed stores what each call did to memory and to the waiting line and what
+//! the owner read and wrote.
 
 use std::fmt;
 
@@ -13,6 +13,7 @@ use crate::limits::Limits;
 use crate::order::Order;
 use crate::owner::Owner;
 use crate::restarts::Restarts;
+use crate::rooms::Rooms;
 use crate::settled::Kept;
 use crate::task::Task;
 use crate::waiting::Waiting;
@@ -24,6 +25,7 @@ pub struct Checks {
     restarts: Restarts,
     order: Order,
     limits: Limits,
+    rooms: Rooms,
     asks: Asks,
     drains: Drains,
     owner: Owner,
@@ -40,6 +42,7 @@ impl Checks {
             || self.restarts.is_wrong()
             || self.order.is_wrong()
             || self.limits.is_wrong()
+            || self.rooms.is_wrong()
             || self.asks.is_wrong()
             || self.drains.is_wrong()
             || self.owner.is_wrong()
@@ -49,8 +52,8 @@ impl Checks {
 /// A line for each of them.
 impl fmt::Display for Checks {
     fn fmt(&self, text: &mut fmt::Formatter<'_>) -> fmt::Result {
-        let Checks { demand3, restarts, order, limits, asks, drains, owner } = self;
-        write!(text, "{}\n{restarts}\n{order}\n{limits}\n{asks}\n{drains}\n{owner}", demand3.finding())
+        let Checks { demand3, restarts, order, limits, rooms, asks, drains, owner } = self;
+        write!(text, "{}\n{restarts}\n{order}\n{limits}\n{rooms}\n{asks}\n{drains}\n{owner}", demand3.finding())
     }
 }
 
@@ -60,6 +63,7 @@ impl Witness for Checks {
         self.restarts.fresh(shape);
         self.order.fresh(shape);
         self.limits.fresh(shape);
+        self.rooms.fresh(shape);
         self.asks.fresh(shape);
         self.drains.fresh(shape);
         self.owner.fresh(shape);
@@ -70,6 +74,7 @@ impl Witness for Checks {
         self.restarts.call();
         self.order.call();
         self.limits.call();
+        self.rooms.call();
         self.asks.call();
         self.drains.call();
         self.owner.call();
@@ -138,6 +143,7 @@ impl Witness for Checks {
     fn after(&mut self, cause: Cause, shown: &Shown) {
         self.demand3.after(cause, shown);
         self.limits.after(cause, shown);
+        self.rooms.after(cause, shown);
         self.asks.after(cause, shown);
         self.drains.after(cause, shown);
         self.owner.after(cause, shown);
@@ -170,12 +176,12 @@ mod tests {
 
     #[test]
     fn any_of_them_fails_all() {
-        let shape = Shape { kind: 4, width: 1, size: 1, crew: 2, payload_words: 1, delayed: false };
+        let shape = Shape { kind: 4, width: 1, size: 1, crew: 2, payload_words: 1, delayed: false, quota: None };
         let mut checks = Checks::new();
         checks.fresh(shape);
         assert!(!checks.failed());
         assert_eq!(checks.to_string(), 
-            "demand 3 kept\nrestarts counted\norder kept\nlimits kept\nasks kept\ndrains in turn\n\
+            "demand 3 kept\nrestarts counted\norder kept\nlimits kept\nroom as told\nasks kept\ndrains in turn\n\
              the owner read its own stores");
         checks.shared([0; 3], &[1, 0, 0, 0, 0, 0, 0, 0]);
         assert!(checks.failed());

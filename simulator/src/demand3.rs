@@ -266,7 +266,7 @@ mod tests {
     use super::*;
 
     fn shape(kind: u32, width: u32) -> Shape {
-        Shape { kind, width, size: 1, crew: 2, payload_words: 2, delayed: false }
+        Shape { kind, width, size: 1, crew: 2, payload_words: 2, delayed: false, quota: None }
     }
 
     /// With another word behind it, which is the same for all.

@@ -44,7 +44,7 @@ enum Counter {
     S6,
 }
 
-#[derive(Clone, Copy, Debug)]
+#[derive(Clone, Copy, Debug, PartialEq, Eq)]
 struct Worker {
     counter: Counter,
     /// The anchor as line 1 read it.
@@ -57,7 +57,7 @@ struct Worker {
     h2: u32,
 }
 
-#[derive(Clone, Debug)]
+#[derive(Clone, Debug, PartialEq, Eq)]
 pub struct DoubleEnded {
     store: Store,
     anchor: Anchor,
@@ -306,10 +306,6 @@ impl DoubleEnded {
 
     pub fn store_mut(&mut self) -> &mut Store {
         &mut self.store
-    }
-
-    pub fn into_store(self) -> Store {
-        self.store
     }
 
     /// Whether the next put, left alone, would have to expand.

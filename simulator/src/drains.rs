@@ -13,26 +13,25 @@
 use std::fmt;
 
 use crate::bench::Shape;
+use crate::found::Found;
 use crate::outcome::Outcome;
-use crate::settled::{waiting, Memory};
+use crate::settled::{places, waiting, Memory};
 use crate::waiting::Waiting;
 use crate::witness::{Cause, Shown, Witness};
 
 #[derive(Default)]
 pub struct Drains {
-    calls: u64,
     /// Of a bench with delayed stores; none else.
     shape: Option<Shape>,
     /// As the last call left them.
     memory: Option<Memory>,
     line: Vec<Waiting>,
-    /// What was wrong first, in whichever list.
-    wrong: Option<String>,
+    found: Found,
 }
 
 impl Drains {
     pub fn is_wrong(&self) -> bool {
-        self.wrong.is_some()
+        self.found.is_wrong()
     }
 
     /// Whether the call did what it may; else what it did.
@@ -58,9 +57,7 @@ impl Drains {
                 }
                 if let (true, Some(&array)) = (memory.arrays.len() == before.arrays.len() + 1, memory.arrays.last()) {
                     expected.arrays.push(array);
-                    let from = array.offset as usize;
-                    let to = from + (array.size * (shape.payload_words + 1)) as usize;
-                    expected.words[from..to].fill(0);
+                    expected.words[places(array, shape.payload_words)].fill(0);
                 }
                 line
             }
@@ -106,10 +103,7 @@ fn joined(shape: Shape, outcome: Outcome, new: &[Waiting]) -> bool {
 
 impl fmt::Display for Drains {
     fn fmt(&self, text: &mut fmt::Formatter<'_>) -> fmt::Result {
-        match &self.wrong {
-            None => write!(text, "drains in turn"),
-            Some(what) => write!(text, "drains wrong {what}"),
-        }
+        self.found.tell(text, "drains in turn", "drains wrong")
     }
 }
 
@@ -121,7 +115,7 @@ impl Witness for Drains {
     }
 
     fn call(&mut self) {
-        self.calls += 1;
+        self.found.call();
     }
 
     fn watches(&self) -> bool {
@@ -132,11 +126,7 @@ impl Witness for Drains {
         let Some(shape) = self.shape else { return };
         let memory = Memory::of(shape.kind, shown);
         let line: Vec<Waiting> = waiting(shown.store).copied().collect();
-        if self.wrong.is_none() {
-            if let Err(what) = self.right(shape, cause, &memory, &line) {
-                self.wrong = Some(format!("by call {}: {what}", self.calls));
-            }
-        }
+        self.found.note(self.right(shape, cause, &memory, &line));
         self.memory = Some(memory);
         self.line = line;
     }
@@ -147,6 +137,7 @@ mod tests {
     use super::*;
     use crate::store::Store;
     use crate::task::Task;
+    use crate::yard::Neighbours;
 
     const WORD: Waiting = Waiting::Word { array: 0, slot: 0, word: 0, value: 7 };
     const ANCHOR: Waiting = Waiting::Anchor([0, 1, 1]);
@@ -162,11 +153,11 @@ mod tests {
     /// Whether a call may lead from one to the other.
     fn wrong(kind: u32, cause: Cause, from: (&Store, [u32; 3]), to: (&Store, [u32; 3])) -> bool {
         let mut drains = Drains::default();
-        drains.fresh(Shape { kind, width: 1, size: 1, crew: 2, payload_words: 1, delayed: true });
-        let shown = |(store, anchor)| Shown { anchor, restarts: &[0; 8], store, copying: false, commits: false };
+        drains.fresh(Shape { kind, width: 1, size: 1, crew: 2, payload_words: 1, delayed: true, quota: None });
+        let shown = |(store, anchor)| Shown { anchor, restarts: &[0; 8], store, copying: false, commits: false, neighbours: Neighbours::default() };
         drains.after(Cause::Other, &shown(from));
         // How it came to that is not asked here.
-        drains.wrong = None;
+        drains.found = Found::default();
         drains.after(cause, &shown(to));
         drains.is_wrong()
     }

@@ -31,11 +31,11 @@ fn about_growth(script: &mut Script) {
 }
 
 /// Makes the owner idle; false if the log's end is in the way.
-fn owner_idle(script: &mut Script) -> bool {
+pub fn owner_idle(script: &mut Script) -> bool {
     script.finish(0)
 }
 
-fn whole_put(script: &mut Script) -> bool {
+pub fn whole_put(script: &mut Script) -> bool {
     if !owner_idle(script) {
         return false;
     }
@@ -43,7 +43,7 @@ fn whole_put(script: &mut Script) -> bool {
     script.finish(0)
 }
 
-fn whole_take(script: &mut Script) -> bool {
+pub fn whole_take(script: &mut Script) -> bool {
     if !owner_idle(script) {
         return false;
     }
@@ -69,23 +69,28 @@ fn other_thief(script: &mut Script, but: &[u32]) -> Option<u32> {
 }
 
 /// Any worker does its next line, or begins if it has none.
+pub fn any_line(script: &mut Script) {
+    let worker = script.random.below(script.shape.crew);
+    if script.idle(worker) {
+        begin(script, worker);
+    } else {
+        let count = match script.random.below(20) {
+            0 => 0,
+            1..=3 => script.random.between(2, 6),
+            _ => 1,
+        };
+        script.step(worker, count);
+    }
+    if script.has_event() && script.random.chance(4) {
+        let worker = script.random.below(script.shape.crew);
+        script.drop_link(worker);
+    }
+}
+
+/// The same for a while.
 pub fn uniform(script: &mut Script) {
     for _ in 0..script.random.between(20, 200) {
-        let worker = script.random.below(script.shape.crew);
-        if script.idle(worker) {
-            begin(script, worker);
-        } else {
-            let count = match script.random.below(20) {
-                0 => 0,
-                1..=3 => script.random.between(2, 6),
-                _ => 1,
-            };
-            script.step(worker, count);
-        }
-        if script.has_event() && script.random.chance(4) {
-            let worker = script.random.below(script.shape.crew);
-            script.drop_link(worker);
-        }
+        any_line(script);
     }
 }
 
@@ -449,7 +454,7 @@ pub fn links_fail(script: &mut Script) {
 }
 
 /// Ask if none stands, and commit; whether it ended.
-fn whole_commit(script: &mut Script) -> bool {
+pub fn whole_commit(script: &mut Script) -> bool {
     if !owner_idle(script) {
         return false;
     }
@@ -465,7 +470,7 @@ fn whole_commit(script: &mut Script) -> bool {
 
 /// Puts until one is at X1, which finds the ask as it stands; false if none comes
 /// to it.
-fn put_to_x1(script: &mut Script) -> bool {
+pub fn put_to_x1(script: &mut Script) -> bool {
     for _ in 0..40 {
         if !owner_idle(script) {
             return false;

@@ -56,7 +56,7 @@ enum StealLine {
     L6,
 }
 
-#[derive(Clone, Copy, Debug)]
+#[derive(Clone, Copy, Debug, PartialEq, Eq)]
 struct Thief {
     line: StealLine,
     head: u32,
@@ -65,7 +65,7 @@ struct Thief {
     task: Task,
 }
 
-#[derive(Clone, Debug)]
+#[derive(Clone, Debug, PartialEq, Eq)]
 pub struct Fifo {
     store: Store,
     head: u32,
@@ -407,10 +407,6 @@ impl Fifo {
 
     pub fn store_mut(&mut self) -> &mut Store {
         &mut self.store
-    }
-
-    pub fn into_store(self) -> Store {
-        self.store
     }
 
     /// Whether the next put, left alone, would have to expand.

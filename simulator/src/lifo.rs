@@ -27,7 +27,7 @@ enum OwnerAt {
     TakeSetAnchor,
 }
 
-#[derive(Clone, Debug)]
+#[derive(Clone, Debug, PartialEq, Eq)]
 struct Owner {
     at: OwnerAt,
     /// The task being put, or as much as has been read of the one being taken; of a
@@ -53,7 +53,7 @@ enum ThiefAt {
     Compare,
 }
 
-#[derive(Clone, Copy, Debug)]
+#[derive(Clone, Copy, Debug, PartialEq, Eq)]
 struct Thief {
     at: ThiefAt,
     t: u32,
@@ -62,7 +62,7 @@ struct Thief {
     task: Task,
 }
 
-#[derive(Clone, Debug)]
+#[derive(Clone, Debug, PartialEq, Eq)]
 pub struct Lifo {
     store: Store,
     t: u32,
@@ -374,10 +374,6 @@ impl Lifo {
 
     pub fn store_mut(&mut self) -> &mut Store {
         &mut self.store
-    }
-
-    pub fn into_store(self) -> Store {
-        self.store
     }
 
     /// Whether the next put, left alone, would have to expand.

@@ -7,9 +7,12 @@
 //! with any front of the waiting line put down.
 
 use std::fmt;
+use std::ops::Range;
 
-use crate::bench::{Shape, LAST_NUMBER};
-use crate::settled::waiting;
+use crate::bench::{Bench, Shape, LAST_NUMBER};
+use crate::found::Found;
+use crate::rooms;
+use crate::settled::{places, waiting};
 use crate::store::LARGEST;
 use crate::waiting::{Waiting, LONGEST};
 use crate::witness::{Cause, Shown, Witness};
@@ -20,24 +23,19 @@ const HEADS: u32 = 2048;
 
 #[derive(Default)]
 pub struct Limits {
-    calls: u64,
     shape: Option<Shape>,
-    /// What was wrong first, in whichever list.
-    wrong: Option<String>,
+    found: Found,
 }
 
 impl Limits {
     pub fn is_wrong(&self) -> bool {
-        self.wrong.is_some()
+        self.found.is_wrong()
     }
 }
 
 impl fmt::Display for Limits {
     fn fmt(&self, text: &mut fmt::Formatter<'_>) -> fmt::Result {
-        match &self.wrong {
-            None => write!(text, "limits kept"),
-            Some(what) => write!(text, "limits broken {what}"),
-        }
+        self.found.tell(text, "limits kept", "limits broken")
     }
 }
 
@@ -47,7 +45,7 @@ impl Witness for Limits {
     }
 
     fn call(&mut self) {
-        self.calls += 1;
+        self.found.call();
     }
 
     fn watches(&self) -> bool {
@@ -56,10 +54,8 @@ impl Witness for Limits {
 
     fn after(&mut self, _cause: Cause, shown: &Shown) {
         let Some(shape) = self.shape else { return };
-        if self.wrong.is_none() {
-            if let Err(what) = kept(shape, shown) {
-                self.wrong = Some(format!("by call {}: {what}", self.calls));
-            }
+        if !self.is_wrong() {
+            self.found.note(kept(shape, shown));
         }
     }
 }
@@ -78,6 +74,7 @@ fn kept(shape: Shape, shown: &Shown) -> Result<(), String> {
     let most = if shape.delayed { LONGEST } else { 0 };
     need(count <= most, || format!("{count} stores wait"))?;
     directory(shape, shown)?;
+    fits(shape, shown)?;
     let arrays = shown.store.arrays();
     let mut published = shown.store.published();
     let mut anchor = shown.anchor;
@@ -106,28 +103,48 @@ fn kept(shape: Shape, shown: &Shown) -> Result<(), String> {
 }
 
 /// The words set aside are what an ask would set aside, with the size of the array
-/// that the owner reads, and they fit the store. There are none at X2 to X4, and
-/// some at a commit's X1.
+/// that the owner reads. There are none at X2 to X4, and some at a commit's X1.
 fn set_aside(shape: Shape, shown: &Shown, size: u32) -> Result<(), String> {
-    let each = shape.payload_words + 1;
-    let used: u32 = shown.store.arrays().iter().map(|array| array.size * each).sum();
     let aside = shown.store.aside();
-    let right = 2 * size <= LARGEST && aside == 2 * size * each && (used + aside) as usize <= shown.store.words().len();
+    let right = 2 * size <= LARGEST && aside == 2 * size * (shape.payload_words + 1);
     need(aside == 0 || right, || format!("{aside} words are set aside with an array of {size}"))?;
     need(aside == 0 || !shown.copying, || format!("{aside} words are set aside at X2 to X4"))?;
     need(aside > 0 || !shown.commits, || "none are set aside at a commit's X1".to_string())
 }
 
-/// Laid end to end from offset 0, each twice the one before, within the store.
+/// Each array twice the one before, and behind it. With those of the other queues
+/// they are laid end to end from offset 0.
 fn directory(shape: Shape, shown: &Shown) -> Result<(), String> {
-    let mut end = 0;
     let mut size = shape.size;
-    for array in shown.store.arrays() {
-        need((array.offset, array.size) == (end, size) && size <= LARGEST, || format!("array {array:?}"))?;
-        end += size * (shape.payload_words + 1);
+    let mut end = 0;
+    for &array in shown.store.arrays() {
+        need(array.size == size && size <= LARGEST && end <= array.offset as usize, || format!("array {array:?}"))?;
         size *= 2;
+        end = places(array, shape.payload_words).end;
     }
-    need(end as usize <= shown.store.words().len(), || format!("arrays up to word {end}"))
+    let mut all: Vec<Range<usize>> = Vec::new();
+    for store in shown.neighbours.iter().map(Bench::store).chain([shown.store]) {
+        all.extend(store.arrays().iter().map(|&array| places(array, store.payload_words())));
+    }
+    all.sort_by_key(|places| places.start);
+    let mut next = 0;
+    for places in all {
+        need(places.start == next, || format!("the array at word {} with {next} words below", places.start))?;
+        next = places.end;
+    }
+    Ok(())
+}
+
+/// Words claimed and words set aside fit: the queue's own its quota, those of all
+/// queues the store, of which no more than the first 10,235 are used.
+fn fits(shape: Shape, shown: &Shown) -> Result<(), String> {
+    let (claimed, aside) = rooms::used(shown.store);
+    let words = shown.store.words().len() as u32;
+    let quota = rooms::quota(shape, words);
+    need(claimed + aside <= quota, || format!("{claimed} words and {aside} set aside with a quota of {quota}"))?;
+    let others: u32 = shown.neighbours.iter().map(|queue| rooms::used(queue.store())).map(|(one, other)| one + other).sum();
+    let all = claimed + aside + others;
+    need(all <= words.min(rooms::USABLE), || format!("{all} words of {words} are claimed or set aside"))
 }
 
 /// The queue's own, with the size of the array it is read with.
@@ -163,10 +180,11 @@ fn waiting_store(shape: Shape, shown: &Shown, store: Waiting) -> Result<(), Stri
 #[cfg(test)]
 mod tests {
     use super::*;
-    use crate::store::Store;
+    use crate::store::{Array, Others, Store};
+    use crate::yard::Neighbours;
 
     fn shape(kind: u32) -> Shape {
-        Shape { kind, width: 1, size: 1, crew: 2, payload_words: 1, delayed: true }
+        Shape { kind, width: 1, size: 1, crew: 2, payload_words: 1, delayed: true, quota: None }
     }
 
     /// A bench whose first array holds one task, with a second array of two tasks
@@ -177,7 +195,7 @@ mod tests {
         for &waiting in stores {
             store.line_mut().join(waiting);
         }
-        kept(shape(kind), &Shown { anchor, restarts: &[0; 8], store: &store, copying, commits: false }).is_ok()
+        kept(shape(kind), &Shown { anchor, restarts: &[0; 8], store: &store, copying, commits: false, neighbours: Neighbours::default() }).is_ok()
     }
 
     const NOTE: Waiting = Waiting::Note { published: 2 };
@@ -245,7 +263,7 @@ mod tests {
         }
         store.have_aside(aside);
         let shape = Shape { size, ..shape(1) };
-        kept(shape, &Shown { anchor: [0; 3], restarts: &[0; 8], store: &store, copying, commits }).is_ok()
+        kept(shape, &Shown { anchor: [0; 3], restarts: &[0; 8], store: &store, copying, commits, neighbours: Neighbours::default() }).is_ok()
     }
 
     #[test]
@@ -262,7 +280,7 @@ mod tests {
         let with = |size: u32, aside, commits| {
             let mut store = Store::fresh(vec![0; 10_300], size, 1).with_line(true);
             store.have_aside(aside);
-            let shown = Shown { anchor: [0; 3], restarts: &[0; 8], store: &store, copying: false, commits };
+            let shown = Shown { anchor: [0; 3], restarts: &[0; 8], store: &store, copying: false, commits, neighbours: Neighbours::default() };
             kept(Shape { size, ..shape(1) }, &shown).is_ok()
         };
         for size in [1, 2, 512] {
@@ -285,11 +303,66 @@ mod tests {
         let mut waits = Store::fresh(vec![0; 2], 1, 1).with_line(true);
         let shown = |store: &Store, delayed| {
             let shape = Shape { delayed, ..shape(1) };
-            kept(shape, &Shown { anchor: [0; 3], restarts: &[0; 8], store, copying: false, commits: false }).is_ok()
+            kept(shape, &Shown { anchor: [0; 3], restarts: &[0; 8], store, copying: false, commits: false, neighbours: Neighbours::default() }).is_ok()
         };
         assert!(shown(&waits, false));
         waits.line_mut().join(store);
         assert!(shown(&waits, true));
         assert!(!shown(&waits, false));
+    }
+
+    /// A queue whose arrays are those that it claims with so many words below it,
+    /// beside others of one array each, with this quota.
+    fn kept_beside(others: &[(u32, u32)], claims: &[u32], aside: u32, quota: u32, words: usize) -> bool {
+        let shape = Shape { delayed: false, quota: Some(quota), ..shape(2) };
+        let neighbours: Vec<Bench> = others
+            .iter()
+            .map(|&(claimed, aside)| {
+                let mut lent = vec![0; words];
+                let mut bench = Bench::beside(Others { claimed, aside: 0 }, shape, &mut lent).unwrap();
+                if aside > 0 {
+                    bench.lend(vec![0; 100], Others::default());
+                    bench.ask(0).unwrap();
+                }
+                bench
+            })
+            .collect();
+        let mut store = Store::beside(Others { claimed: claims[0], aside: 0 }, vec![0; words], 99, 1, 1);
+        for (&offset, size) in claims[1..].iter().zip([2, 4]) {
+            store.claim(Array { offset, size });
+            store.put_down(store.note_of_claimed());
+        }
+        store.have_aside(aside);
+        let neighbours = Neighbours::of(&neighbours);
+        let shown = Shown { anchor: [0; 3], restarts: &[0; 8], store: &store, copying: false, commits: false, neighbours };
+        kept(shape, &shown).is_ok()
+    }
+
+    #[test]
+    fn arrays_of_several_queues_cover_the_words_below_the_last() {
+        let kept = |others: &[(u32, u32)], claims: &[u32]| kept_beside(others, claims, 0, 50, 40);
+        assert!(kept(&[(0, 0)], &[2]));
+        assert!(kept(&[(2, 0)], &[0]));
+        assert!(kept(&[(2, 0)], &[0, 4]));
+        assert!(kept(&[(2, 0), (8, 0)], &[0, 4, 10]));
+        assert!(!kept(&[(0, 0)], &[0]), "one upon the other");
+        assert!(!kept(&[(1, 0)], &[0]), "they overlap");
+        assert!(!kept(&[(2, 0)], &[0, 2]), "the second is another's");
+        assert!(!kept(&[(2, 0)], &[0, 3]));
+        assert!(!kept(&[(3, 0)], &[0]), "a gap");
+        assert!(!kept(&[(2, 0)], &[0, 5]));
+        assert!(!kept(&[], &[2]), "a gap below all");
+        assert!(!kept(&[], &[4, 0]), "not by age");
+    }
+
+    #[test]
+    fn words_claimed_and_set_aside_fit_quota_and_store() {
+        assert!(kept_beside(&[(0, 0)], &[2], 4, 6, 8));
+        assert!(!kept_beside(&[(0, 0)], &[2], 4, 5, 8), "over its quota");
+        assert!(!kept_beside(&[(0, 0)], &[2], 4, 6, 7), "over the store");
+        assert!(kept_beside(&[(0, 4)], &[2], 4, 6, 12));
+        assert!(!kept_beside(&[(0, 4)], &[2], 4, 6, 11), "another's words set aside");
+        assert!(kept_beside(&[(0, 0)], &[2, 4], 0, 6, 8));
+        assert!(!kept_beside(&[(0, 0)], &[2, 4], 0, 5, 8));
     }
 }

@@ -5,46 +5,41 @@ use std::collections::HashSet;
 use std::fmt;
 
 use crate::bench::Shape;
+use crate::found::Found;
 use crate::task::Task;
 use crate::witness::Witness;
 
 #[derive(Default)]
 pub struct Order {
-    calls: u64,
     fifo: bool,
     seen: HashSet<u32>,
     largest: u32,
-    /// What was wrong first, in whichever list.
-    wrong: Option<String>,
+    found: Found,
 }
 
 impl Order {
     pub fn is_wrong(&self) -> bool {
-        self.wrong.is_some()
+        self.found.is_wrong()
     }
 }
 
 impl fmt::Display for Order {
     fn fmt(&self, text: &mut fmt::Formatter<'_>) -> fmt::Result {
-        match &self.wrong {
-            None => write!(text, "order kept"),
-            Some(what) => write!(text, "order broken {what}"),
-        }
+        self.found.tell(text, "order kept", "order broken")
     }
 }
 
 impl Witness for Order {
     fn fresh(&mut self, shape: Shape) {
         *self = Order {
-            calls: self.calls,
             fifo: shape.kind == 2,
-            wrong: self.wrong.take(),
+            found: std::mem::take(&mut self.found),
             ..Order::default()
         };
     }
 
     fn call(&mut self) {
-        self.calls += 1;
+        self.found.call();
     }
 
     fn handed_out(&mut self, worker: usize, task: Task) {
@@ -52,11 +47,9 @@ impl Witness for Order {
         if !self.fifo || !self.seen.insert(number) {
             return;
         }
-        if number <= self.largest && self.wrong.is_none() {
-            self.wrong = Some(format!(
-                "by call {}: worker {worker} was first handed put {number} after put {}",
-                self.calls, self.largest
-            ));
+        if number <= self.largest {
+            let largest = self.largest;
+            self.found.wrong(format!("worker {worker} was first handed put {number} after put {largest}"));
         }
         self.largest = self.largest.max(number);
     }
@@ -68,7 +61,7 @@ mod tests {
 
     fn wrong(kind: u32, numbers: &[u32]) -> bool {
         let mut order = Order::default();
-        order.fresh(Shape { kind, width: 1, size: 1, crew: 2, payload_words: 1, delayed: true });
+        order.fresh(Shape { kind, width: 1, size: 1, crew: 2, payload_words: 1, delayed: true, quota: None });
         for &number in numbers {
             order.handed_out(1, Task([number, 0, 0, 0, 0]));
         }
@@ -85,7 +78,7 @@ mod tests {
 
     #[test]
     fn a_later_fresh_starts_anew_and_what_is_wrong_stays() {
-        let shape = Shape { kind: 2, width: 1, size: 1, crew: 2, payload_words: 1, delayed: false };
+        let shape = Shape { kind: 2, width: 1, size: 1, crew: 2, payload_words: 1, delayed: false, quota: None };
         let mut order = Order::default();
         order.fresh(shape);
         order.handed_out(0, Task([5, 0, 0, 0, 0]));

@@ -24,6 +24,8 @@ pub mod refusal {
     pub const NO_ROOM_TO_GROW: u32 = 20;
     pub const ASK_STANDS: u32 = 21;
     pub const NO_ASK: u32 = 22;
+    pub const SHORT_QUOTA: u32 = 23;
+    pub const NO_SUCH_QUEUE: u32 = 24;
 }
 
 /// What one step did. A machine that answers `Refused` has changed nothing.

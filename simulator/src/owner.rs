@@ -7,7 +7,7 @@
 //!   its last store is the anchor that follows (FIFO: the tail);
 //! - a take hands out the task that it read, and stores the anchor (FIFO: head);
 //! - EMPTY is answered if it read no task, growth and FULL come if it read a full
-//!   array, FULL if no larger one can be claimed;
+//!   array;
 //! - X3 copies what it reads, as many tasks as it read at X2 (LIFO: every slot), and
 //!   X4 notes the claimed array;
 //! - a commit is such a growth alone, full array or not;
@@ -17,9 +17,9 @@
 use std::fmt;
 
 use crate::bench::{Operation, Shape};
+use crate::found::Found;
 use crate::outcome::{refusal, Outcome};
 use crate::settled::{waiting, Memory};
-use crate::store::LARGEST;
 use crate::task::Task;
 use crate::waiting::{Waiting, LONGEST};
 use crate::witness::{Cause, Shown, Witness};
@@ -35,7 +35,6 @@ enum Growth {
 }
 
 pub struct Owner {
-    calls: u64,
     /// Of a bench with delayed stores; none else.
     shape: Option<Shape>,
     /// What the owner would read, and how many stores wait, as the last call left
@@ -54,14 +53,12 @@ pub struct Owner {
     growth: Growth,
     /// How few stores waited when its next step was refused 18.
     refused_at: Option<usize>,
-    /// What was wrong first, in whichever list.
-    wrong: Option<String>,
+    found: Found,
 }
 
 impl Owner {
     fn new() -> Owner {
         Owner {
-            calls: 0,
             shape: None,
             before: None,
             waiting: 0,
@@ -72,12 +69,12 @@ impl Owner {
             operation: Operation::Take,
             growth: Growth::None,
             refused_at: None,
-            wrong: None,
+            found: Found::default(),
         }
     }
 
     pub fn is_wrong(&self) -> bool {
-        self.wrong.is_some()
+        self.found.is_wrong()
     }
 
     /// Whether it would end with EMPTY or FULL, by what it read.
@@ -124,12 +121,8 @@ impl Owner {
                 count > 0 && task == read.task(index) && new == [last]
             }
             Outcome::Empty => count == 0 && new.is_empty(),
-            Outcome::Full(_) => {
-                let used: u32 = before.arrays.iter().map(|array| array.size).sum();
-                let left = before.words.len() as u32 - used * (shape.payload_words + 1);
-                let larger = 2 * size <= LARGEST && left >= 2 * size * (shape.payload_words + 1);
-                count == size && !larger && new.is_empty()
-            }
+            // Whether a larger array fits is asked elsewhere.
+            Outcome::Full(_) => count == size && new.is_empty(),
             Outcome::Committed if !commit => false,
             Outcome::Published | Outcome::Committed => {
                 let copied = matches!(self.growth, Growth::Copying { next, stop } if next == stop);
@@ -189,25 +182,21 @@ impl Default for Owner {
 
 impl fmt::Display for Owner {
     fn fmt(&self, text: &mut fmt::Formatter<'_>) -> fmt::Result {
-        match &self.wrong {
-            None => write!(text, "the owner read its own stores"),
-            Some(what) => write!(text, "the owner went wrong {what}"),
-        }
+        self.found.tell(text, "the owner read its own stores", "the owner went wrong")
     }
 }
 
 impl Witness for Owner {
     fn fresh(&mut self, shape: Shape) {
         *self = Owner {
-            calls: self.calls,
             shape: shape.delayed.then_some(shape),
-            wrong: self.wrong.take(),
+            found: std::mem::take(&mut self.found),
             ..Owner::new()
         };
     }
 
     fn call(&mut self) {
-        self.calls += 1;
+        self.found.call();
         self.line_one = false;
     }
 
@@ -237,15 +226,14 @@ impl Witness for Owner {
                     self.refused_at = Some(self.waiting);
                 }
                 let stores = number == refusal::LOG_FULL && !self.ends_without_a_store();
-                if stores && self.waiting == LONGEST && self.wrong.is_none() {
-                    self.wrong = Some(format!("by call {}: 11 though its store could not wait", self.calls));
+                if stores && self.waiting == LONGEST {
+                    self.found.wrong("11 though its store could not wait");
                 }
             }
             Cause::Step { worker: 0, outcome } => {
                 let new = line.get(self.waiting..).unwrap_or(&[]);
-                if let (Err(what), None) = (self.step(shape, outcome, &now, new), &self.wrong) {
-                    self.wrong = Some(format!("by call {}: {what}", self.calls));
-                }
+                let done = self.step(shape, outcome, &now, new);
+                self.found.note(done);
             }
             Cause::Begin { worker: 0, operation, answer: Ok(()) } => {
                 self.operation = operation;
@@ -265,6 +253,7 @@ mod tests {
     use super::*;
     use crate::calls::Calls;
     use crate::store::Store;
+    use crate::yard::Neighbours;
 
     fn kept(list: &str) -> bool {
         let mut calls = Calls::new(Owner::new());
@@ -320,7 +309,7 @@ mod tests {
             for _ in 0..owner.waiting {
                 store.line_mut().join(Waiting::Word { array: 0, slot: 0, word: 0, value: 1 });
             }
-            let shown = Shown { anchor: [0; 3], restarts: &[0; 8], store: &store, copying: false, commits: false };
+            let shown = Shown { anchor: [0; 3], restarts: &[0; 8], store: &store, copying: false, commits: false, neighbours: Neighbours::default() };
             owner.after(Cause::Step { worker: 0, outcome: Outcome::Refused(refusal::LOG_FULL) }, &shown);
             (owner.waiting, owner.is_wrong())
         };
@@ -399,7 +388,7 @@ mod tests {
         (owner, before)
     }
 
-    const SHAPE: Shape = Shape { kind: 1, width: 1, size: 1, crew: 2, payload_words: 1, delayed: true };
+    const SHAPE: Shape = Shape { kind: 1, width: 1, size: 1, crew: 2, payload_words: 1, delayed: true, quota: None };
 
     #[test]
     fn a_put_that_stores_another_anchor_or_task() {

@@ -14,12 +14,12 @@
 use std::fmt;
 
 use crate::bench::Shape;
+use crate::found::Found;
 use crate::task::Task;
 use crate::waiting::Waiting;
 use crate::witness::Witness;
 
 pub struct Restarts {
-    calls: u64,
     kind: u32,
     delayed: bool,
     /// As the last call left it.
@@ -29,26 +29,24 @@ pub struct Restarts {
     read: [[u32; 3]; 8],
     broken: [bool; 8],
     counts: [u32; 8],
-    /// What was wrong first, in whichever list.
-    wrong: Option<String>,
+    found: Found,
 }
 
 impl Restarts {
     pub fn new() -> Restarts {
         Restarts {
-            calls: 0,
             kind: 0,
             delayed: false,
             anchor: [0; 3],
             read: [[0; 3]; 8],
             broken: [false; 8],
             counts: [0; 8],
-            wrong: None,
+            found: Found::default(),
         }
     }
 
     pub fn is_wrong(&self) -> bool {
-        self.wrong.is_some()
+        self.found.is_wrong()
     }
 
     fn failed(&self, worker: usize) -> bool {
@@ -56,12 +54,6 @@ impl Restarts {
             2 => self.read[worker][0] != self.anchor[0],
             4 | 5 => self.broken[worker],
             _ => self.read[worker] != self.anchor,
-        }
-    }
-
-    fn wrong(&mut self, what: String) {
-        if self.wrong.is_none() {
-            self.wrong = Some(format!("after call {}: {what}", self.calls));
         }
     }
 }
@@ -74,26 +66,22 @@ impl Default for Restarts {
 
 impl fmt::Display for Restarts {
     fn fmt(&self, text: &mut fmt::Formatter<'_>) -> fmt::Result {
-        match &self.wrong {
-            None => write!(text, "restarts counted"),
-            Some(what) => write!(text, "restarts miscounted {what}"),
-        }
+        self.found.tell(text, "restarts counted", "restarts miscounted")
     }
 }
 
 impl Witness for Restarts {
     fn fresh(&mut self, shape: Shape) {
         *self = Restarts {
-            calls: self.calls,
             kind: shape.kind,
             delayed: shape.delayed,
-            wrong: self.wrong.take(),
+            found: std::mem::take(&mut self.found),
             ..Restarts::new()
         };
     }
 
     fn call(&mut self) {
-        self.calls += 1;
+        self.found.call();
     }
 
     fn line_one(&mut self, worker: usize) {
@@ -132,20 +120,20 @@ impl Witness for Restarts {
     fn shared(&mut self, anchor: [u32; 3], restarts: &[u32; 8]) {
         self.anchor = anchor;
         if *restarts != self.counts {
-            self.wrong(format!("the counts are {restarts:?} and should be {:?}", self.counts));
+            self.found.wrong(format!("the counts are {restarts:?} and should be {:?}", self.counts));
         }
     }
 
     fn who(&mut self, worker: usize, count: u32) {
         if count != self.counts[worker] {
-            self.wrong(format!("worker {worker} has {} and not {count}", self.counts[worker]));
+            self.found.wrong(format!("worker {worker} has {} and not {count}", self.counts[worker]));
         }
     }
 
     fn total(&mut self, restarts: u64) {
         let sum: u64 = self.counts.iter().map(|&count| u64::from(count)).sum();
         if restarts != sum {
-            self.wrong(format!("the sum is {sum} and not {restarts}"));
+            self.found.wrong(format!("the sum is {sum} and not {restarts}"));
         }
     }
 }
@@ -156,7 +144,7 @@ mod tests {
 
     fn history(kind: u32) -> Restarts {
         let mut history = Restarts::new();
-        history.fresh(Shape { kind, width: 1, size: 1, crew: 8, payload_words: 1, delayed: false });
+        history.fresh(Shape { kind, width: 1, size: 1, crew: 8, payload_words: 1, delayed: false, quota: None });
         history
     }
 
@@ -244,7 +232,7 @@ mod tests {
             assert_eq!(history.is_wrong(), shown != THIRD, "{shown:?}");
             // It stays wrong, whatever comes.
             history.shared([1, 1, 0], &THIRD);
-            history.fresh(Shape { kind: 1, width: 1, size: 1, crew: 1, payload_words: 1, delayed: false });
+            history.fresh(Shape { kind: 1, width: 1, size: 1, crew: 1, payload_words: 1, delayed: false, quota: None });
             assert_eq!(history.is_wrong(), shown != THIRD);
         }
     }
@@ -280,7 +268,7 @@ mod tests {
         history.line_one(1);
         history.shared([0, 1, 1], &NONE);
         history.compare(1);
-        history.fresh(Shape { kind: 3, width: 1, size: 1, crew: 2, payload_words: 1, delayed: false });
+        history.fresh(Shape { kind: 3, width: 1, size: 1, crew: 2, payload_words: 1, delayed: false, quota: None });
         history.shared([0, 0, 0], &NONE);
         history.who(1, 0);
         assert!(!history.is_wrong());

@@ -36,12 +36,33 @@ pub struct Drains {
     pub sparing: bool,
 }
 
+/// What is done between two lines now and then, after so many of a hundred.
+#[derive(Clone, Copy)]
+pub struct Between {
+    pub now_and_then: u32,
+    pub act: fn(&mut Script),
+}
+
+/// A queue of a yard: how it was made, and how its stores drain.
+#[derive(Clone, Copy)]
+struct Stall {
+    shape: Shape,
+    drains: Drains,
+}
+
 pub struct Script {
     pub random: Random,
-    /// The bench's, as the last accepted fresh made it.
+    /// The bench's, as the last accepted fresh made it; in a yard the queue's that
+    /// the lines are for.
     pub shape: Shape,
     pub looks: Looks,
     pub drains: Drains,
+    /// In a yard, where other queues may be called.
+    pub between: Option<Between>,
+    /// The queues made in a yard, and the number that the lines are for; none
+    /// outside a yard.
+    stalls: Vec<Stall>,
+    queue: Option<u32>,
     form: Form,
     text: Vec<u8>,
     /// What the last line printed.
@@ -58,10 +79,15 @@ impl Script {
 
     /// A list of library calls.
     pub fn calls(random: Random, store: u32, log: u32) -> Script {
-        let none = Shape { kind: 0, width: 0, size: 0, crew: 0, payload_words: 1, delayed: false };
+        let none = Shape { payload_words: 1, ..Shape::default() };
         let mut script = Script::new(random, none, Form::Calls(Calls::new(Blind)));
         script.say(&format!("memory {store} {log}"));
         script
+    }
+
+    /// A list of library calls about queues on the same store.
+    pub fn yard(random: Random, store: u32, log: u32) -> Script {
+        Script { queue: Some(0), ..Script::calls(random, store, log) }
     }
 
     fn new(random: Random, shape: Shape, form: Form) -> Script {
@@ -70,12 +96,70 @@ impl Script {
             shape,
             looks: Looks::default(),
             drains: Drains::default(),
+            between: None,
+            stalls: Vec::new(),
+            queue: None,
             form,
             text: Vec::new(),
             heard: Vec::new(),
             steps: 0,
             ended: false,
         }
+    }
+
+    /// How many queues the yard has.
+    pub fn queues(&self) -> u32 {
+        self.stalls.len() as u32
+    }
+
+    /// The number of the queue that the lines are for.
+    pub fn number(&self) -> usize {
+        self.queue.unwrap_or(0) as usize
+    }
+
+    /// The lines from now on are for this queue, be it made or not.
+    pub fn turn_to(&mut self, queue: u32) {
+        let drains = self.drains;
+        let number = self.number();
+        if let Some(stall) = self.stalls.get_mut(number) {
+            stall.drains = drains;
+        }
+        self.queue = Some(queue);
+        if let Some(stall) = self.stalls.get(queue as usize) {
+            self.shape = stall.shape;
+            self.drains = stall.drains;
+        }
+    }
+
+    /// One more queue; whether it is accepted. The lines from then on are for it.
+    pub fn make(&mut self, shape: Shape, drains: Drains) -> bool {
+        let Shape { kind, width, size, crew, payload_words, delayed, quota } = shape;
+        let quota = quota.map_or(String::new(), |quota| format!(" {quota}"));
+        let line = format!("make {kind} {width} {size} {crew} {payload_words} {}{quota}", u32::from(delayed));
+        self.text.extend_from_slice(line.as_bytes());
+        self.text.push(b'\n');
+        self.play_line(line.as_bytes());
+        self.steps += 1;
+        let accepted = self.heard.first() == Some(&b'A');
+        if accepted {
+            self.stalls.push(Stall { shape, drains });
+            self.turn_to(self.queues() - 1);
+        }
+        accepted
+    }
+
+    /// Now and then another queue is called, and the lines are for the same as
+    /// before then.
+    fn look_around(&mut self) {
+        let Some(between) = self.between.take() else { return };
+        if self.random.chance(between.now_and_then) {
+            let queue = self.queue;
+            (between.act)(self);
+            if let Some(queue) = queue {
+                self.turn_to(queue);
+            }
+        }
+        self.between = Some(between);
     }
 
     /// Steps written so far; a line that makes none counts as one.
@@ -93,7 +177,7 @@ impl Script {
     pub fn full(&self) -> bool {
         match &self.form {
             Form::Program(player) => player.full(),
-            Form::Calls(calls) => calls.full(),
+            Form::Calls(calls) => calls.full(self.number()),
         }
     }
 
@@ -101,14 +185,14 @@ impl Script {
     pub fn entries_left(&self) -> u32 {
         match &self.form {
             Form::Program(player) => player.entries_left(),
-            Form::Calls(calls) => calls.entries_left(),
+            Form::Calls(calls) => calls.entries_left(self.number()),
         }
     }
 
     pub fn place(&self, worker: u32) -> Place {
         let place = match &self.form {
             Form::Program(player) => player.place(worker),
-            Form::Calls(calls) => calls.place(worker),
+            Form::Calls(calls) => calls.place(self.number(), worker),
         };
         place.unwrap_or(Place::Idle)
     }
@@ -131,7 +215,7 @@ impl Script {
     pub fn waiting(&self) -> usize {
         match &self.form {
             Form::Program(_) => 0,
-            Form::Calls(calls) => calls.waiting(),
+            Form::Calls(calls) => calls.waiting(self.number()),
         }
     }
 
@@ -142,6 +226,7 @@ impl Script {
         if self.delayed() && self.random.chance(self.drains.now_and_then) {
             self.some_drains();
         }
+        self.look_around();
     }
 
     /// One drain, whether a store waits or not.
@@ -178,7 +263,7 @@ impl Script {
 
     /// A library call; whether it is accepted.
     pub fn fresh(&mut self, shape: Shape) -> bool {
-        let Shape { kind, width, size, crew, payload_words, delayed } = shape;
+        let Shape { kind, width, size, crew, payload_words, delayed, .. } = shape;
         let sixth = match delayed {
             true => " 1",
             // It may be left out.
@@ -281,7 +366,7 @@ impl Script {
     pub fn standing(&self) -> usize {
         match &self.form {
             Form::Program(_) => 0,
-            Form::Calls(calls) => calls.standing(),
+            Form::Calls(calls) => calls.standing(self.number()),
         }
     }
 
@@ -289,7 +374,7 @@ impl Script {
     pub fn asked(&self) -> bool {
         match &self.form {
             Form::Program(_) => false,
-            Form::Calls(calls) => calls.aside() > 0,
+            Form::Calls(calls) => calls.aside(self.number()) > 0,
         }
     }
 
@@ -330,8 +415,27 @@ impl Script {
         if self.delayed() {
             return self.step_and_drain_until(worker, most, there);
         }
+        if self.between.is_some() {
+            return self.step_and_look_around_until(worker, most, there);
+        }
         let (made, refused) = self.play_until(worker, most, &there);
         self.write_steps(worker, made, refused);
+        there(self.place(worker))
+    }
+
+    /// The same with other queues' calls between the steps.
+    fn step_and_look_around_until(&mut self, worker: u32, most: u32, there: impl Fn(Place) -> bool) -> bool {
+        let mut left = most;
+        while left > 0 && !there(self.place(worker)) {
+            let stretch = self.random.between(1, 20).min(left);
+            let (made, refused) = self.play_until(worker, stretch, &there);
+            self.write_steps(worker, made, refused);
+            left -= made;
+            if refused {
+                break;
+            }
+            self.look_around();
+        }
         there(self.place(worker))
     }
 
@@ -359,6 +463,7 @@ impl Script {
             } else if made == stretch && stretch < left + made {
                 self.some_drains();
             }
+            self.look_around();
         }
         there(self.place(worker))
     }
@@ -425,24 +530,41 @@ impl Script {
         self.text
     }
 
+    /// The queue's number in front of a line, in a yard.
+    fn prefix(&self) -> String {
+        self.queue.map_or(String::new(), |queue| format!("{queue} "))
+    }
+
     fn write(&mut self, line: &[u8]) {
-        self.text.extend_from_slice(line);
-        self.text.push(b'\n');
+        let prefix = self.prefix();
+        let mut write = |line: &[u8]| {
+            self.text.extend_from_slice(prefix.as_bytes());
+            self.text.extend_from_slice(line);
+            self.text.push(b'\n');
+        };
+        write(line);
         // A look changes nothing, so it is written and need not be played.
         if self.looks.state > 0 && self.random.chance(self.looks.state) {
-            self.text.extend_from_slice(b"state\n");
+            write(b"state");
         }
         if self.looks.front > 0 && self.random.chance(self.looks.front) {
-            self.text.extend_from_slice(b"front\n");
+            write(b"front");
         }
         if self.looks.who > 0 && self.random.chance(self.looks.who) {
             // Of the crew, or just not.
             let worker = self.random.below(self.shape.crew + 1);
-            self.text.extend_from_slice(format!("who {worker}\n").as_bytes());
+            write(format!("who {worker}").as_bytes());
         }
     }
 
     fn play(&mut self, line: &[u8]) {
+        match self.prefix() {
+            none if none.is_empty() => self.play_line(line),
+            prefix => self.play_line(&[prefix.as_bytes(), line].concat()),
+        }
+    }
+
+    fn play_line(&mut self, line: &[u8]) {
         self.heard.clear();
         if self.ended {
             return;

@@ -2,7 +2,9 @@
 //! It is written apart from the machines and knows nothing of how they read: with
 //! all waiting stores put down it is what the owner reads.
 
-use crate::store::{Array, Store, LARGEST};
+use std::ops::Range;
+
+use crate::store::{Array, Store};
 use crate::task::Task;
 use crate::waiting::Waiting;
 use crate::witness::Shown;
@@ -11,6 +13,7 @@ use crate::witness::Shown;
 pub struct Memory {
     kind: u32,
     payload_words: u32,
+    /// Those of the queue's own arrays; in the place of all others 0.
     pub words: Vec<u32>,
     /// Every array claimed, oldest first, and how many are published.
     pub arrays: Vec<Array>,
@@ -22,10 +25,17 @@ pub struct Memory {
 impl Memory {
     /// What is in memory.
     pub fn of(kind: u32, shown: &Shown) -> Memory {
+        let payload_words = shown.store.payload_words();
+        let all = shown.store.words();
+        let mut words = vec![0; all.len()];
+        for array in shown.store.arrays() {
+            let own = places(*array, payload_words);
+            words[own.clone()].copy_from_slice(&all[own]);
+        }
         Memory {
             kind,
-            payload_words: shown.store.payload_words(),
-            words: shown.store.words().to_vec(),
+            payload_words,
+            words,
             arrays: shown.store.arrays().to_vec(),
             published: shown.store.published(),
             anchor: shown.anchor,
@@ -44,10 +54,8 @@ impl Memory {
     pub fn put(&mut self, store: Waiting) {
         match store {
             Waiting::Word { array, slot, word, value } => {
-                // The arrays lie end to end.
-                let tasks: u32 = self.arrays[..array].iter().map(|before| before.size).sum();
                 let each = self.payload_words as usize + 1;
-                self.words[(tasks + slot) as usize * each + word] = value;
+                self.words[self.arrays[array].offset as usize + slot as usize * each + word] = value;
             }
             Waiting::Note { published } => self.published = published,
             Waiting::Anchor(anchor) => self.anchor = anchor,
@@ -59,14 +67,6 @@ impl Memory {
     /// The size of the current array.
     pub fn size(&self) -> u32 {
         self.arrays[self.published - 1].size
-    }
-
-    /// The words that an array of twice that takes; none if X1 would answer FULL.
-    pub fn doubled(&self) -> Option<u32> {
-        let each = self.payload_words + 1;
-        let used: u32 = self.arrays.iter().map(|array| array.size * each).sum();
-        let words = 2 * self.size() * each;
-        (2 * self.size() <= LARGEST && (used + words) as usize <= self.words.len()).then_some(words)
     }
 
     /// How many tasks are in the window.
@@ -117,6 +117,20 @@ impl Kept {
             commits: shown.commits,
         }
     }
+}
+
+/// Where the words of an array lie.
+pub fn places(array: Array, payload_words: u32) -> Range<usize> {
+    let from = array.offset as usize;
+    from..from + (array.size * (payload_words + 1)) as usize
+}
+
+/// How many arrays are published for the owner, those whose notes wait among them.
+pub fn owners_published(store: &Store) -> usize {
+    waiting(store).fold(store.published(), |published, waiting| match waiting {
+        Waiting::Note { published } => *published,
+        _ => published,
+    })
 }
 
 /// The waiting stores, oldest first.

@@ -1,5 +1,8 @@
-//! The store: the lent words, the arrays laid end to end in them, the words set
+//! The store as one queue has it: the lent words, its arrays in them, the words set
 //! aside for one more, and the owner's waiting line.
+//!
+//! A new array lies at the next free word. A queue alone on the words has its arrays
+//! end to end; others may have arrays between them.
 //!
 //! A task takes its put number's word and the payload's, and an array as many
 //! times that as it holds tasks. What a thief reads is memory; what the owner
@@ -10,6 +13,24 @@ use crate::waiting::{Line, Waiting};
 
 /// No array holds more tasks than this.
 pub const LARGEST: u32 = 1024;
+
+/// No words behind these are used, however long the store.
+pub const MOST_WORDS: u32 = 10_235;
+
+/// What other queues have of the words: their arrays, and what their asks have set
+/// aside. A queue alone has no others.
+#[derive(Clone, Copy, Debug, Default, PartialEq, Eq)]
+pub struct Others {
+    pub claimed: u32,
+    pub aside: u32,
+}
+
+impl Others {
+    /// How many words of so many they leave.
+    pub fn leave(self, words: u32) -> u32 {
+        words.min(MOST_WORDS).saturating_sub(self.claimed + self.aside)
+    }
+}
 
 /// An array as a thief notes it. Arrays are never given back, so a noted one
 /// can be read however much later.
@@ -30,10 +51,13 @@ pub enum Growth {
     ForCommit,
 }
 
-#[derive(Clone, Debug)]
+#[derive(Clone, Debug, PartialEq, Eq)]
 pub struct Store {
     words: Vec<u32>,
     payload_words: u32,
+    /// The most words that the arrays may take.
+    quota: u32,
+    others: Others,
     /// Every array claimed so far, oldest first, and how many of them memory has
     /// as published.
     arrays: Vec<Array>,
@@ -50,10 +74,18 @@ impl Store {
     /// Makes the first of the lent words, as many as `size` tasks take, the
     /// first array and zeroes them. The others stay as they are.
     pub fn fresh(words: Vec<u32>, size: u32, payload_words: u32) -> Store {
-        let first = Array { offset: 0, size };
+        let quota = words.len() as u32;
+        Store::beside(Others::default(), words, quota, size, payload_words)
+    }
+
+    /// The same with the first words behind those that others have claimed.
+    pub fn beside(others: Others, words: Vec<u32>, quota: u32, size: u32, payload_words: u32) -> Store {
+        let first = Array { offset: others.claimed, size };
         let mut store = Store {
             words,
             payload_words,
+            quota,
+            others,
             arrays: vec![first],
             published: 1,
             current: first,
@@ -72,9 +104,16 @@ impl Store {
         &self.words
     }
 
-    /// Gives the lent words back.
-    pub fn into_words(self) -> Vec<u32> {
-        self.words
+    /// Lends the words for a call, with what others have of them then.
+    pub fn lend(&mut self, words: Vec<u32>, others: Others) {
+        self.words = words;
+        self.others = others;
+    }
+
+    /// Takes the words back. What others have is not known from now on.
+    pub fn take_back(&mut self) -> Vec<u32> {
+        self.others = Others::default();
+        std::mem::take(&mut self.words)
     }
 
     /// Every array claimed so far, oldest first.
@@ -136,19 +175,17 @@ impl Store {
         self.words[from..to].fill(0);
     }
 
-    /// The array X1 would claim, if X1 can claim one.
-    ///
-    /// The arrays lie end to end and the one that is current for the owner is the
-    /// last, so it ends where the words left begin.
+    /// The words of all arrays claimed so far.
+    pub fn claimed(&self) -> u32 {
+        self.arrays.iter().map(|&array| self.length(array)).sum()
+    }
+
+    /// The array X1 would claim, if X1 can claim one. It lies at the next free word.
     pub fn next_array(&self) -> Option<Array> {
-        let (_, last) = self.owners_array();
-        let next = Array { offset: last.offset + self.length(last), size: 2 * last.size };
-        let left = self.words.len() as u32 - next.offset;
-        if next.size > LARGEST || left < self.length(next) {
-            None
-        } else {
-            Some(next)
-        }
+        let claimed = self.claimed();
+        let next = Array { offset: self.others.claimed + claimed, size: 2 * self.owners_size() };
+        let left = self.others.leave(self.words.len() as u32).min(self.quota).saturating_sub(claimed);
+        (next.size <= LARGEST && self.length(next) <= left).then_some(next)
     }
 
     /// X1: takes `array` for the owner and zeroes it. Neither waits. Words set
@@ -309,7 +346,7 @@ mod tests {
     #[test]
     fn fresh_zeroes_the_first_array_and_touches_no_other_word() {
         assert_eq!(store(6, 2, 1).words(), [0, 0, 0, 0, 77, 77]);
-        assert_eq!(store(2, 1, 1).into_words(), [0, 0]);
+        assert_eq!(store(2, 1, 1).words(), [0, 0]);
         assert_eq!(store(7, 2, 2).words(), [0, 0, 0, 0, 0, 0, 77]);
         assert_eq!(store(5, 1, 3).words(), [0, 0, 0, 0, 77]);
         assert_eq!(store(6, 1, 4).words(), [0, 0, 0, 0, 0, 77]);

@@ -53,7 +53,7 @@ pub fn parse(line: &[u8]) -> Option<Command> {
             None => (1, rest),
         };
         return (rest.is_empty() && words <= MOST_WORDS).then_some(Command::Queue {
-            shape: Shape { kind, width, size, crew, payload_words, delayed: false },
+            shape: Shape { kind, width, size, crew, payload_words, delayed: false, quota: None },
             words,
         });
     }
@@ -103,7 +103,7 @@ mod tests {
 
     #[test]
     fn each_form() {
-        let shape = Shape { kind: 1, width: 16, size: 1024, crew: 8, payload_words: 1, delayed: false };
+        let shape = Shape { kind: 1, width: 16, size: 1024, crew: 8, payload_words: 1, delayed: false, quota: None };
         assert_eq!(parse(b"queue 1 16 1024 8 10235"), Some(Command::Queue { shape, words: 10_235 }));
         for payload_words in [0, 1, 2, 3, 4, 5, 10, u32::MAX] {
             assert_eq!(
@@ -137,6 +137,7 @@ mod tests {
                     crew: u32::MAX,
                     payload_words: 1,
                     delayed: false,
+                    quota: None,
                 },
                 words: 0
             })

@@ -19,7 +19,7 @@ pub enum Waiting {
     Tail(u32),
 }
 
-#[derive(Clone, Debug, Default)]
+#[derive(Clone, Debug, Default, PartialEq, Eq)]
 pub struct Line {
     /// Without it no store ever waits.
     delayed: bool,

@@ -8,6 +8,7 @@ use crate::settled::Kept;
 use crate::store::Store;
 use crate::task::Task;
 use crate::waiting::Waiting;
+use crate::yard::Neighbours;
 
 /// What a bench shows: memory, and the owner's waiting line.
 pub struct Shown<'a> {
@@ -21,6 +22,8 @@ pub struct Shown<'a> {
     pub copying: bool,
     /// The owner is at X1 of a commit.
     pub commits: bool,
+    /// The other queues on the same words; none of a bench alone.
+    pub neighbours: Neighbours<'a>,
 }
 
 /// Which call brought a bench to what it shows.
@@ -103,6 +106,7 @@ pub trait Witness {
     fn total(&mut self, _restarts: u64) {}
 }
 
+#[derive(Default)]
 pub struct Blind;
 
 impl Witness for Blind {}

@@ -6,7 +6,7 @@ use Prim.Native.Nat.{ℕ}
 use lib.ListN.{replicate}
 use Rattle.model.specs.declared.Operation.the-variants.{Put, Take, Steal, Commit}
 use Rattle.model.specs.Tests.{if_then_else_, _and_, _or_}
-use Rattle.model.specs.Memory.{zeros, wordAt, setWord, offsetAt, lengthAt, sizeAt}
+use Rattle.model.specs.Memory.{zeros, wordAt, setWord, offsetAt, lengthAt, sizeAt, wordsTo}
 use Rattle.model.specs.Tasks.{payload, wordIn, withWord, gathered}
 use Rattle.model.proofs.Runs.{one}
 use Rattle.model.specs.Stores.{landedAll}
@@ -35,16 +35,16 @@ none-accepted = refl
 
 -- P1 breaks the premise with a tag of 1 bit and loses a task, and is not accepted; P2, with a tag of 2 bits, is
 pub p1-not-accepted : accepted (bench 1 2) p1 ≡ false
-unfolding bench p1 does frontOf after allBelow someBelow freshOf beginOf stepOf validOf lineStep landedAll zeros wordAt setWord offsetAt lengthAt sizeAt gathered wordIn withWord if_then_else_ _and_ _or_
+unfolding bench p1 does frontOf after allBelow someBelow freshOf beginOf stepOf validOf wordsTo lineStep landedAll zeros wordAt setWord offsetAt lengthAt sizeAt gathered wordIn withWord if_then_else_ _and_ _or_
 p1-not-accepted = refl
 
 pub p2-accepted : accepted (bench 2 2) p1 ≡ true
-unfolding bench p1 does frontOf after allBelow someBelow freshOf beginOf stepOf validOf lineStep landedAll zeros wordAt setWord offsetAt lengthAt sizeAt gathered wordIn withWord if_then_else_ _and_ _or_
+unfolding bench p1 does frontOf after allBelow someBelow freshOf beginOf stepOf validOf wordsTo lineStep landedAll zeros wordAt setWord offsetAt lengthAt sizeAt gathered wordIn withWord if_then_else_ _and_ _or_
 p2-accepted = refl
 
 -- of kind 4 the same calls are accepted without a tag
 pub linked-accepted : accepted (benchOf 4) p1 ≡ true
-unfolding benchOf p1 does frontOf after allBelow someBelow freshOf beginOf stepOf validOf lineStep landedAll zeros wordAt setWord offsetAt lengthAt sizeAt gathered wordIn withWord if_then_else_ _and_ _or_
+unfolding benchOf p1 does frontOf after allBelow someBelow freshOf beginOf stepOf validOf wordsTo lineStep landedAll zeros wordAt setWord offsetAt lengthAt sizeAt gathered wordIn withWord if_then_else_ _and_ _or_
 linked-accepted = refl
 
 -- of a FIFO with one slot: an EMPTY, a put that stands in the window, one answered FULL, and a step of an idle worker that is
@@ -53,7 +53,7 @@ abbrev full : List Call
 full = tried.does 1 Steal 6 ++ tried.does 0 (Put (one 8)) 6 ++ tried.does 0 (Put (one 9)) 6
 
 pub full-accepted : accepted (freshOf (setup 2 1 1 2 1) (replicate 2 0) (replicate 40 5) .world) full ≡ true
-unfolding tried.does frontOf after allBelow someBelow freshOf beginOf stepOf validOf lineStep landedAll zeros wordAt setWord offsetAt lengthAt sizeAt gathered wordIn withWord if_then_else_ _and_ _or_
+unfolding tried.does frontOf after allBelow someBelow freshOf beginOf stepOf validOf wordsTo lineStep landedAll zeros wordAt setWord offsetAt lengthAt sizeAt gathered wordIn withWord if_then_else_ _and_ _or_
 full-accepted = refl
 
 -- THE BYTES. The words of these runs are below 256, so each is its lowest byte and three zeros
@@ -66,15 +66,15 @@ verdict W cs = judged (W .bench .words) (encoded (logFront (after W cs))) (encod
 
 -- P1 is answered no, though its premise is the only thing that is wrong with it; P2, and P1 of kind 4, have two hand-outs of different numbers
 pub p1-judged : verdict (bench 1 2) p1 ≡ No
-unfolding bench p1 does frontOf after judged wordsOf allBelow someBelow freshOf beginOf stepOf validOf lineStep landedAll zeros wordAt setWord offsetAt lengthAt sizeAt gathered wordIn withWord if_then_else_ _and_ _or_
+unfolding bench p1 does frontOf after judged wordsOf allBelow someBelow freshOf beginOf stepOf validOf wordsTo lineStep landedAll zeros wordAt setWord offsetAt lengthAt sizeAt gathered wordIn withWord if_then_else_ _and_ _or_
 p1-judged = refl
 
 pub p2-judged : verdict (bench 2 2) p1 ≡ Accepted 2 0
-unfolding bench p1 does frontOf after judged wordsOf allBelow someBelow countBelow freshOf beginOf stepOf validOf lineStep landedAll zeros wordAt setWord offsetAt lengthAt sizeAt gathered wordIn withWord if_then_else_ _and_ _or_
+unfolding bench p1 does frontOf after judged wordsOf allBelow someBelow countBelow freshOf beginOf stepOf validOf wordsTo lineStep landedAll zeros wordAt setWord offsetAt lengthAt sizeAt gathered wordIn withWord if_then_else_ _and_ _or_
 p2-judged = refl
 
 pub linked-judged : verdict (benchOf 4) p1 ≡ Accepted 2 0
-unfolding benchOf p1 does frontOf after judged wordsOf allBelow someBelow countBelow freshOf beginOf stepOf validOf lineStep landedAll zeros wordAt setWord offsetAt lengthAt sizeAt gathered wordIn withWord if_then_else_ _and_ _or_
+unfolding benchOf p1 does frontOf after judged wordsOf allBelow someBelow countBelow freshOf beginOf stepOf validOf wordsTo lineStep landedAll zeros wordAt setWord offsetAt lengthAt sizeAt gathered wordIn withWord if_then_else_ _and_ _or_
 linked-judged = refl
 
 -- P3: owner and thief are handed the same task, two hand-outs of one number
@@ -82,7 +82,7 @@ abbrev p3 : List Call
 p3 = tried.does 0 (Put (one 5)) 6 ++ tried.does 0 Take 3 ++ tried.does 1 Steal 7 ++ replicate 3 (step 0)
 
 pub p3-judged : verdict (freshOf (setup 2 1 2 2 1) (replicate 4 0) (replicate 40 5) .world) p3 ≡ Accepted 2 1
-unfolding tried.does frontOf after judged wordsOf allBelow someBelow countBelow freshOf beginOf stepOf validOf lineStep landedAll zeros wordAt setWord offsetAt lengthAt sizeAt gathered wordIn withWord if_then_else_ _and_ _or_
+unfolding tried.does frontOf after judged wordsOf allBelow someBelow countBelow freshOf beginOf stepOf validOf wordsTo lineStep landedAll zeros wordAt setWord offsetAt lengthAt sizeAt gathered wordIn withWord if_then_else_ _and_ _or_
 p3-judged = refl
 
 -- two payload words, so five words an entry: the first put is handed out, the second stands in the window
@@ -90,7 +90,7 @@ abbrev wide : List Call
 wide = tried.does 0 (Put (payload 5 6 0 0)) 6 ++ tried.does 0 (Put (payload 7 8 9 9)) 6 ++ tried.does 1 Steal 8
 
 pub wide-judged : verdict (freshOf (setup 3 1 2 2 2) (replicate 6 0) (replicate 40 5) .world) wide ≡ Accepted 1 0
-unfolding tried.does frontOf after judged wordsOf allBelow someBelow countBelow freshOf beginOf stepOf validOf lineStep landedAll zeros wordAt setWord offsetAt lengthAt sizeAt gathered wordIn withWord if_then_else_ _and_ _or_
+unfolding tried.does frontOf after judged wordsOf allBelow someBelow countBelow freshOf beginOf stepOf validOf wordsTo lineStep landedAll zeros wordAt setWord offsetAt lengthAt sizeAt gathered wordIn withWord if_then_else_ _and_ _or_
 wide-judged = refl
 
 -- a commit between a put and its hand-out: its entry is passed over
@@ -98,9 +98,9 @@ abbrev grown : List Call
 grown = tried.does 0 (Put (one 5)) 5 ++ ask 0 ∷ tried.does 0 Commit 5 ++ tried.does 1 Steal 6
 
 pub grown-judged : verdict (benchOf 1) grown ≡ Accepted 1 0
-unfolding benchOf tried.does frontOf after judged wordsOf allBelow someBelow countBelow freshOf beginOf stepOf askOf validOf lineStep landedAll zeros wordAt setWord offsetAt lengthAt sizeAt gathered wordIn withWord if_then_else_ _and_ _or_
+unfolding benchOf tried.does frontOf after judged wordsOf allBelow someBelow countBelow freshOf beginOf stepOf askOf validOf wordsTo lineStep landedAll zeros wordAt setWord offsetAt lengthAt sizeAt gathered wordIn withWord if_then_else_ _and_ _or_
 grown-judged = refl
 
 pub grown-logged : logFront (after (benchOf 1) grown) ≡ 1 ∷ 0 ∷ 1 ∷ 5 ∷ 5 ∷ 0 ∷ 0 ∷ 0 ∷ 2 ∷ 1 ∷ 1 ∷ 5 ∷ []
-unfolding benchOf tried.does frontOf after freshOf beginOf stepOf askOf validOf lineStep landedAll zeros wordAt setWord offsetAt lengthAt sizeAt gathered wordIn withWord if_then_else_ _and_ _or_
+unfolding benchOf tried.does frontOf after freshOf beginOf stepOf askOf validOf wordsTo lineStep landedAll zeros wordAt setWord offsetAt lengthAt sizeAt gathered wordIn withWord if_then_else_ _and_ _or_
 grown-logged = refl

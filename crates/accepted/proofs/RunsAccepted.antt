@@ -14,23 +14,25 @@ use Rattle.model.specs.declared.Task.{Task}
 use Rattle.model.proofs.Tasks.{number-gathered}
 use Rattle.model.specs.Tests.{_or_}
 use Rattle.model.specs.Answers.{entryOf, ends}
-use Rattle.model.specs.World.{World}
-use Rattle.model.specs.Calls.{freshOf, Call}
-use Rattle.model.specs.Run.{Played, played, after}
+use Rattle.model.specs.World.{World, tagBits}
+use Rattle.model.specs.Calls.{freshOf}
+use Rattle.model.specs.Run.{Played}
 use Rattle.model.specs.Window.{windowSize, windowWord}
-use Rattle.model.specs.Counts.{entryAt, isKind, someBelow, outWhole}
+use Rattle.model.specs.Counts.{entryAt, isKind, someBelow, outWhole, entriesIn}
 use Rattle.model.proofs.Tests.{and-both, or-cases, or-either}
 use Rattle.model.proofs.Below.{some-at}
-use Rattle.theorems.specs.Demand3.{At, Finishes, Stands, Demand3}
-use Rattle.order.specs.Order.{entries}
+use Rattle.theorems.specs.Demand3.{At, Finishes, Stands, FewPutsIn, Sound}
+use Rattle.order.specs.Order.{entries, logFront}
 use Rattle.theorems.proofs.Translate.{at-map}
 use Rattle.order.proofs.Entries.{AllCut, place, place-rises, earlier, count, entries-known}
-use Rattle.order.proofs.EndedPuts.{EndsPut, ended-puts-rise}
-use Rattle.order.proofs.FrontEntries.{entries-many}
-use Rattle.order.proofs.KeptEntries.{task-of, is-entry, wrote, hands-out, kept-entry}
-use Rattle.theorems.proofs.NothingLost.{demand3}
-use Rattle.order.proofs.LogFront.{log-is-answers}
-use Rattle.order.proofs.CutAnswers.{answers-cut, words-le}
+use Rattle.order.proofs.EndedPuts.{EndsPut, ended-rise, started-open}
+use Rattle.order.proofs.FrontEntries.{many-in}
+use Rattle.order.proofs.KeptEntries.{task-of, is-entry, wrote, hands-out, kept-of}
+use Rattle.theorems.proofs.NothingLost.{sound-in}
+use Rattle.theorems.proofs.Company.{Turn, playedIn, afterIn, InCompany}
+use Rattle.theorems.proofs.Fresh.{Started, fresh-started, from-company}
+use Rattle.order.proofs.LogFront.{log-in}
+use Rattle.order.proofs.CutAnswers.{run-cut}
 use Rattle.judgement.specs.Judgement.{allBelow, known, numbered, rises, finishedAs, justified, listed, kept, accepts}
 use Rattle.judgement.proofs.All.{all-true}
 use Rattle.accepted.specs.Runs.{windowNumbers, stored, RunsAccepted}
@@ -55,11 +57,9 @@ window-number W (suc n) i h =
     (λ q. List·getD-append (windowNumbers W n) (windowWord W n 0 ∷ []) 0 i (omega (arith, q, window-long W n)) ∙ window-number W n i q)
     (eq-or-lt-of-le (let le : i ≤ n = omega arith in le))
 
-module _ (ω : ℕ) (W : World) (cs : List Call) (g : ω ≤ 4) (C : AllCut ω (played W cs)) (D : Demand3 W cs)
-    (R : (i j m n : ℕ) → i < j → At (played W cs) i (EndsPut m) → At (played W cs) j (EndsPut n) → m < n) where
-  abbrev T : List Played
-  T = played W cs
-
+-- the calls T of one queue left the world U
+module _ (ω : ℕ) (T : List Played) (U : World) (g : ω ≤ 4) (C : AllCut ω T) (D : Sound T U)
+    (R : (i j m n : ℕ) → i < j → At T i (EndsPut m) → At T j (EndsPut n) → m < n) where
   abbrev l : List ℕ
   l = entries ω T
 
@@ -91,15 +91,12 @@ module _ (ω : ℕ) (W : World) (cs : List Call) (g : ω ≤ 4) (C : AllCut ω (
           let (i, f, (s, (w, a), q)) = earlier ω T g C j k (Finishes t) (λ s (w, a). ap ends a) h (d .finished) in
           sym (some-at (finishedAs ω l j) j i f refl (is-entry ω l i 1 w t (q ∙ ap entryOf a)))
 
-  abbrev U : World
-  U = after W cs
-
   abbrev size : ℕ
   size = windowSize U
 
   -- a finished put is handed out, or stands in the window
   kept-all : allBelow (kept ω l (count T) (stored U) size) (count T) ≡ true
-  kept-all = all-true (kept ω l (count T) (stored U) size) (count T) (λ j h. only-if (isKind ω l 1 j) _ (λ e. or-either _ _ (go j (kept-entry ω W cs g C D j e))))
+  kept-all = all-true (kept ω l (count T) (stored U) size) (count T) (λ j h. only-if (isKind ω l 1 j) _ (λ e. or-either _ _ (go j (kept-of ω T U g C D j e))))
     where
       go : (j : ℕ) → (someBelow (outWhole ω l (entryAt ω l j .task)) (count T) ≡ true) ⊎ Stands U (entryAt ω l j .task)
           → (someBelow (outWhole ω l (entryAt ω l j .task)) (count T) ≡ true) ⊎ (someBelow (listed (stored U) (entryAt ω l j .task .number)) size ≡ true)
@@ -111,11 +108,17 @@ module _ (ω : ℕ) (W : World) (cs : List Call) (g : ω ≤ 4) (C : AllCut ω (
   all-accepted : accepts ω l (count T) (stored U) size ≡ true
   all-accepted = and-both _ _ known-all (and-both _ _ rises-all (and-both _ _ justified-all kept-all))
 
+-- in company, and alone
+pub accepted-in : (ts : List Turn) (U : World) → Started U → InCompany U ts → FewPutsIn (U .bench .kind) (tagBits (U .bench)) (playedIn U ts)
+    → let X = afterIn U ts in accepts (U .bench .words) (logFront X) (entriesIn X) (stored X) (windowSize X) ≡ true
+accepted-in ts U F C f =
+    let X = afterIn U ts in
+    subst₂ (λ (l : List ℕ) (n : ℕ). accepts (U .bench .words) l n (stored X) (windowSize X) ≡ true) (sym (log-in ts U F)) (many-in ts U F C)
+    (all-accepted (U .bench .words) (playedIn U ts) X (F .whole .words .1) (run-cut _ ts U refl (F .whole) C) (sound-in ts U F C f) (ended-rise ts U (F .whole) C (started-open U F)))
+
 pub runs-accepted : RunsAccepted
-runs-accepted s m l e cs f =
-    subst₂ (λ (l : List ℕ) (n : ℕ). accepts (W .bench .words) l n (stored (after W cs)) (windowSize (after W cs)) ≡ true)
-    (sym (log-is-answers s m l e cs)) (entries-many s m l e cs)
-    (all-accepted (W .bench .words) W cs (words-le s m l e) (answers-cut s m l e cs) (demand3 s m l e cs f) (ended-puts-rise s m l e cs))
-  where
-    W : World
-    W = freshOf s m l .world
+runs-accepted s m l e =
+    let U = freshOf s m l .world in
+    from-company
+    (λ (T : List Played) (X : World). FewPutsIn (U .bench .kind) (tagBits (U .bench)) T → accepts (U .bench .words) (logFront X) (entriesIn X) (stored X) (windowSize X) ≡ true)
+    s m l e (λ ts C. accepted-in ts U (fresh-started s m l e) C)

@@ -3,6 +3,7 @@ use mathlib.Core.Path.{_≡_}
 use mathlib.Core.List.{List}
 use Prim.Native.Nat.{ℕ, _-_, _*_, _≤_}
 use lib.ListN.{length}
+use Rattle.model.specs.World.{World}
 use Rattle.model.specs.Calls.{Call}
 use Rattle.model.specs.Run.{after}
 use Rattle.model.specs.Counts.{countsOf}
@@ -16,11 +17,13 @@ use Rattle.accepted.specs.Runs.{stored}
 abbrev pub Encodes : List ℕ → List ℕ → Type 0
 Encodes bytes l = (length bytes ≡ 4 * length l) × (wordsOf bytes ≡ l)
 
--- For every list from a fresh bench under demand 3's premise, where the log's front is not too long for the judge: accepted, with the hand-outs
--- that `T` counts, and for repeats those less the different numbers
+-- The world W, of a queue with v payload words, where its log's front is not too long for the judge: accepted, with the hand-outs that `T`
+-- counts, and for repeats those less the different numbers
+abbrev pub JudgedAs : ℕ → World → Type 0
+JudgedAs v W =
+    (log list : List ℕ) → Encodes log (logFront W) → Encodes list (stored W) → length log ≤ 65536
+    → judged v log list ≡ Accepted (countsOf W .handouts) (countsOf W .handouts - countsOf W .different)
+
+-- For every list from a fresh bench under demand 3's premise
 abbrev pub RunsJudged : Type 0
-RunsJudged =
-    FromFresh
-    (λ W. (cs : List Call) → FewPuts W cs
-    → (log list : List ℕ) → Encodes log (logFront (after W cs)) → Encodes list (stored (after W cs)) → length log ≤ 65536
-    → judged (W .bench .words) log list ≡ Accepted (countsOf (after W cs) .handouts) (countsOf (after W cs) .handouts - countsOf (after W cs) .different))
+RunsJudged = FromFresh (λ W. (cs : List Call) → FewPuts W cs → JudgedAs (W .bench .words) (after W cs))

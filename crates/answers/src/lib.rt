@@ -39,6 +39,8 @@ pub fn number_of(why: Refusal) -> u32
         Refusal::NoSpace => 20,
         Refusal::AskStands => 21,
         Refusal::NoAsk => 22,
+        Refusal::ShortQuota => 23,
+        Refusal::NoSuchQueue => 24,
     }
 }
 

@@ -5,43 +5,45 @@ ghost use mathlib.Core.Path.{_≡_};
 ghost use Prim.Native.Nat.{_+_, _≤_, _<_};
 ghost use lib.ListN.{length};
 use model::Payload;
+use model::Setup;
 use text::Value;
 
-// What a bench is asked for: to be made anew, a call made so many times (operation, worker and payload as `plays` has them), or to
-// show its log's front, what is shared or a worker's restarts.
+// A call: operation, worker and payload as `plays` has them.
+pub struct Call {
+    pub operation: u32,
+    pub worker: u32,
+    pub payload: Payload,
+}
+
+// What a bench or a queue is asked for: a call made so many times, or to show its log's front, what is shared or a worker's restarts.
 pub enum Request {
     Front,
     State,
-    Who {
-        worker: u32,
-    },
-    Fresh {
-        kind: u32,
-        width: u32,
-        size: u32,
-        workers: u32,
-        words: u32,
-        delayed: bool,
-    },
-    Calls {
-        operation: u32,
-        worker: u32,
-        payload: Payload,
-        times: u32,
-    },
+    Who { worker: u32 },
+    Calls { call: Call, times: u32 },
 }
 
-// What a line says, if it has a form.
+// How many words a queue may have: the whole store where the line does not say.
+pub enum Quota {
+    Whole,
+    Words { words: u32 },
+}
+
+// What a line says, if it has a form. A call is of the bench alone, or of the queue that the line names.
 pub enum ListLine {
     Bad,
     Memory { store: u32, log: u32 },
+    Fresh { setup: Setup },
+    Make { setup: Setup, quota: Quota },
     Asks { asked: Request },
+    AsksOf { queue: u32, asked: Request },
 }
 
 enum Key {
     Other,
     Memory,
     Fresh,
+    Make,
     Step,
     Drop,
     Drain,
@@ -55,10 +57,10 @@ enum Key {
 // The numbers of a line. The count is one more than a line may have where there are more, or where a word is no number.
 struct Values {
     count: usize,
-    v: [u32; 6],
+    v: [u32; 7],
 }
 
-const MANY: usize = 7;
+const MANY: usize = 8;
 
 // The longest line of an answer: H and six numbers. A number with the space before it. Both have room for numbers of 64 bits.
 pub const ANSWER: usize = 128;
@@ -66,7 +68,7 @@ pub const ANSWER: usize = 128;
 pub const WORD: usize = 21;
 
 // A longer line has no form.
-pub const LINE: usize = 64;
+pub const LINE: usize = 75;
 
 // Where the line that starts at `at` ends: at a newline, or with the buffer.
 pub fn line_end(buf: &[u8], at: usize) -> usize
@@ -104,6 +106,9 @@ fn keyword(word: &[u8]) -> Key {
     }
     if text::same(word, b"fresh") {
         return Key::Fresh;
+    }
+    if text::same(word, b"make") {
+        return Key::Make;
     }
     if text::same(word, b"step") {
         return Key::Step;
@@ -154,10 +159,10 @@ fn numbers(line: &[u8], end: usize) -> Values
     requires { ⌜ end ≤ length (now line) ⌝ }
 {
     let mut at = end;
-    let mut v = [0u32; 6];
+    let mut v = [0u32; 7];
     let mut n = 0;
     while at < line.len() {
-        if n == 6 {
+        if n == 7 {
             return Values { count: MANY, v };
         }
         let from = at + 1;
@@ -173,7 +178,7 @@ fn numbers(line: &[u8], end: usize) -> Values
 }
 
 // The keyword with as many numbers as it takes, those with a range within it.
-fn form(key: Key, count: usize, v: [u32; 6]) -> ListLine {
+fn form(key: Key, count: usize, v: [u32; 7]) -> ListLine {
     match key {
         Key::Other => ListLine::Bad,
         Key::Memory => {
@@ -201,29 +206,14 @@ fn form(key: Key, count: usize, v: [u32; 6]) -> ListLine {
                     return ListLine::Bad;
                 }
             }
-            ListLine::Asks {
-                asked: Request::Fresh {
-                    kind: v[0],
-                    width: v[1],
-                    size: v[2],
-                    workers: v[3],
-                    words: v[4],
-                    delayed: v[5] == 1,
-                },
-            }
+            ListLine::Fresh { setup: setup_of(v) }
         }
+        Key::Make => made(count, v),
         Key::Step => {
             if count != 2 {
                 return ListLine::Bad;
             }
-            ListLine::Asks {
-                asked: Request::Calls {
-                    operation: 0,
-                    worker: v[0],
-                    payload: payload_of(0, 0, 0, 0),
-                    times: v[1],
-                },
-            }
+            calls(0, v[0], payload_of(0, 0, 0, 0), v[1])
         }
         Key::Drop => of_worker(4, count, v[0]),
         Key::Ask => of_worker(7, count, v[0]),
@@ -232,14 +222,7 @@ fn form(key: Key, count: usize, v: [u32; 6]) -> ListLine {
             if count != 0 {
                 return ListLine::Bad;
             }
-            ListLine::Asks {
-                asked: Request::Calls {
-                    operation: 5,
-                    worker: 0,
-                    payload: payload_of(0, 0, 0, 0),
-                    times: 1,
-                },
-            }
+            calls(5, 0, payload_of(0, 0, 0, 0), 1)
         }
         Key::Who => {
             if count != 1 {
@@ -268,6 +251,38 @@ fn form(key: Key, count: usize, v: [u32; 6]) -> ListLine {
     }
 }
 
+// The first six: kind, tag width, size of the first array, workers, payload words, and 1 with delayed stores.
+fn setup_of(v: [u32; 7]) -> Setup {
+    Setup {
+        kind: v[0],
+        width: v[1],
+        size: v[2],
+        crew: v[3],
+        words: v[4],
+        delayed: v[5] == 1,
+    }
+}
+
+// A queue has the same six, and a quota if there is a seventh.
+fn made(count: usize, v: [u32; 7]) -> ListLine {
+    if 1 < v[5] {
+        return ListLine::Bad;
+    }
+    if count == 6 {
+        return ListLine::Make {
+            setup: setup_of(v),
+            quota: Quota::Whole,
+        };
+    }
+    if count != 7 {
+        return ListLine::Bad;
+    }
+    ListLine::Make {
+        setup: setup_of(v),
+        quota: Quota::Words { words: v[6] },
+    }
+}
+
 fn payload_of(first: u32, second: u32, third: u32, fourth: u32) -> Payload {
     Payload {
         first,
@@ -277,19 +292,23 @@ fn payload_of(first: u32, second: u32, third: u32, fourth: u32) -> Payload {
     }
 }
 
+fn calls(operation: u32, worker: u32, payload: Payload, times: u32) -> ListLine {
+    let call = Call {
+        operation,
+        worker,
+        payload,
+    };
+    ListLine::Asks {
+        asked: Request::Calls { call, times },
+    }
+}
+
 // A call that names a worker and nothing else.
 fn of_worker(operation: u32, count: usize, worker: u32) -> ListLine {
     if count != 1 {
         return ListLine::Bad;
     }
-    ListLine::Asks {
-        asked: Request::Calls {
-            operation,
-            worker,
-            payload: payload_of(0, 0, 0, 0),
-            times: 1,
-        },
-    }
+    calls(operation, worker, payload_of(0, 0, 0, 0), 1)
 }
 
 // What follows `begin`: a worker, an operation, and a put's payload.
@@ -317,7 +336,7 @@ fn begin(line: &[u8], end: usize) -> ListLine
 }
 
 // A put has one to four words; those that it has not are 0.
-fn begun(operation: u32, worker: u32, count: usize, v: [u32; 6]) -> ListLine {
+fn begun(operation: u32, worker: u32, count: usize, v: [u32; 7]) -> ListLine {
     if operation == 0 {
         return ListLine::Bad;
     }
@@ -333,17 +352,11 @@ fn begun(operation: u32, worker: u32, count: usize, v: [u32; 6]) -> ListLine {
     if most < count {
         return ListLine::Bad;
     }
-    ListLine::Asks {
-        asked: Request::Calls {
-            operation,
-            worker,
-            payload: payload_of(v[0], v[1], v[2], v[3]),
-            times: 1,
-        },
-    }
+    calls(operation, worker, payload_of(v[0], v[1], v[2], v[3]), 1)
 }
 
-pub fn parse(line: &[u8]) -> ListLine {
+// A line that names no queue.
+fn unnumbered(line: &[u8]) -> ListLine {
     let end = first_end(line);
     if text::same(&line[..end], b"begin") {
         return begin(line, end);
@@ -353,6 +366,28 @@ pub fn parse(line: &[u8]) -> ListLine {
     let count = behind.count;
     let v = behind.v;
     form(key, count, v)
+}
+
+// What stands behind a queue's number.
+fn of_queue(queue: u32, line: ListLine) -> ListLine {
+    let ListLine::Asks { asked } = line else {
+        return ListLine::Bad;
+    };
+    ListLine::AsksOf { queue, asked }
+}
+
+// A line that begins with a number is of that queue.
+pub fn parse(line: &[u8]) -> ListLine {
+    let end = first_end(line);
+    let Value::Of(queue) = text::number(&line[..end]) else {
+        return unnumbered(line);
+    };
+    if end == line.len() {
+        return ListLine::Bad;
+    }
+    let from = end + 1;
+    let asked = unnumbered(&line[from..]);
+    of_queue(queue, asked)
 }
 
 fn bare(out: &mut [u8], at: usize, letter: u8) -> usize

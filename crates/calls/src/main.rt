@@ -1,17 +1,21 @@
-// Plays a list of library calls from standard input through the public face, and prints their answers. The form of both is in
-// docs/CALLS.md. A line that is not of the form is told on standard error, and ends the program; what was played before is printed.
+// Plays a list of library calls from standard input through the public face, a bench's or a yard's, and prints their answers. The
+// form of both is in docs/CALLS.md. A line that is not of the form is told on standard error, and ends the program; what was played
+// before is printed.
 // Uses `queues`, `plays`, `call_text` and `model`, of the kit `io`, `libc` and `os`. It is a program, and no crate uses it.
 ghost use mathlib.Core.Path.{_≡_};
 ghost use Prim.Native.Nat.{_≤_, _<_, min};
 ghost use lib.ListN.{length};
+use alone::After;
 use call_text::ListLine;
-use call_text::Request;
 use libc::STDIN_FILENO;
-use model::Payload;
 use output::Text;
 use queues::Bench;
+use queues::Yard;
+use yard::Left;
 
+mod alone;
 mod output;
+mod yard;
 
 // What the buffer holds: so many bytes to play, none if there is nothing left to do, and whether nothing comes after them.
 struct Input {
@@ -19,18 +23,21 @@ struct Input {
     last: bool,
 }
 
-// The bench that is played, on the first words of the store and of the log; whether their numbers were read.
+// What a list is about: a bench alone or the queues of a yard. The line behind `memory` says which.
+enum About {
+    Nothing,
+    Memory,
+    Bench,
+    Yard,
+}
+
+// What is played, on the first words of the store and of each log.
 struct Game {
-    begun: bool,
+    about: About,
     store: usize,
     log: usize,
     bench: Bench,
-}
-
-// What a call left.
-struct After {
-    bench: Bench,
-    text: Text,
+    yard: Yard,
 }
 
 // What a line left, and whether to go on: it had a form, stood where it may, and its text could be written.
@@ -99,139 +106,7 @@ fn read_more(buf: &mut [u8], have: usize) -> Input
     }
 }
 
-// A call, again and again.
-fn fill_calls(calls: &mut [u32], operation: u32, worker: u32, payload: Payload) {
-    let mut at = 0;
-    while plays::CALL <= calls.len() - at {
-        calls[at] = operation;
-        calls[at + 1] = worker;
-        calls[at + 2] = payload.first;
-        calls[at + 3] = payload.second;
-        calls[at + 4] = payload.third;
-        calls[at + 5] = payload.fourth;
-        at += plays::CALL;
-    }
-}
-
-// Makes up to 32 calls.
-fn make_some(
-    bench: Bench,
-    calls: &[u32],
-    store: &mut [u32],
-    log: &mut [u32],
-    text: Text,
-    out: &mut [u8],
-) -> After
-    requires { ⌜ (text .end ≤ length (now out)) × (128 ≤ length (now out)) ⌝ }
-    ensures { λ r. ⌜ r .text .end ≤ length (now (out .exit)) ⌝ }
-{
-    let mut answers = [0u32; 224];
-    let run = plays::play(bench, calls, store, log, &mut answers);
-    let made = run.made * plays::ANSWER;
-    let next = run.bench;
-    let state = next.state;
-    let shown = output::show_answers(text, state.words, &answers[..made], out);
-    After {
-        bench: next,
-        text: shown,
-    }
-}
-
-// Makes a call so many times, of which `calls` holds 32: memory does not grow with their number.
-fn make_calls(
-    bench: Bench,
-    calls: &[u32],
-    times: u32,
-    store: &mut [u32],
-    log: &mut [u32],
-    text: Text,
-    out: &mut [u8],
-) -> After
-    requires { ⌜ (text .end ≤ length (now out)) × (128 ≤ length (now out)) ⌝ }
-    requires { ⌜ 192 ≤ length (now calls) ⌝ }
-    ensures { λ r. ⌜ r .text .end ≤ length (now (out .exit)) ⌝ }
-{
-    let mut made = After { bench, text };
-    let mut left = times as usize;
-    while 0 < left {
-        let n = least(left, 32);
-        let words = n * plays::CALL;
-        made = make_some(made.bench, &calls[..words], store, log, made.text, out);
-        let shown = made.text;
-        if !shown.good {
-            return made;
-        }
-        left -= n;
-    }
-    made
-}
-
-// Asks the bench that is played, on the words that it is lent.
-fn ask(
-    bench: Bench,
-    asked: Request,
-    store: &mut [u32],
-    log: &mut [u32],
-    text: Text,
-    out: &mut [u8],
-) -> After
-    requires { ⌜ (text .end ≤ length (now out)) × (128 ≤ length (now out)) ⌝ }
-    ensures { λ r. ⌜ r .text .end ≤ length (now (out .exit)) ⌝ }
-{
-    match asked {
-        Request::Front => {
-            let shown = output::show_front(text, bench, log, out);
-            After { bench, text: shown }
-        }
-        Request::Who { worker } => {
-            let tally = bench.who(worker, store, log);
-            let shown = output::show_tally(text, worker, tally, out);
-            After { bench, text: shown }
-        }
-        Request::State => {
-            let shown = output::show_state(text, bench.state, store, out);
-            After { bench, text: shown }
-        }
-        Request::Fresh {
-            kind,
-            width,
-            size,
-            workers,
-            words,
-            delayed,
-        } => {
-            let setup = model::Setup {
-                kind,
-                width,
-                size,
-                crew: workers,
-                words,
-                delayed,
-            };
-            let made = Bench::fresh(setup, store);
-            let answer = made.answer;
-            let said = plays::words_of(answer);
-            let shown = output::show_answers(text, words, &said, out);
-            let next = made.bench;
-            After {
-                bench: next,
-                text: shown,
-            }
-        }
-        Request::Calls {
-            operation,
-            worker,
-            payload,
-            times,
-        } => {
-            let mut calls = [0u32; 192];
-            fill_calls(&mut calls, operation, worker, payload);
-            make_calls(bench, &calls, times, store, log, text, out)
-        }
-    }
-}
-
-// What word 0 of the store and of the log holds at the start; each further word holds one more. So a word that nobody wrote shows
+// What word 0 of the store and of a log holds at the start; each further word holds one more. So a word that nobody wrote shows
 // where it stands.
 const STORE: u32 = 3000000000;
 
@@ -247,6 +122,49 @@ fn number_words(words: &mut [u32], first: u32) {
     }
 }
 
+// The places of the four logs: each queue has its own. A bench alone has the first.
+const LOG_PLACE: usize = 20000;
+
+fn number_logs(logs: &mut [u32], words: usize)
+    requires { ⌜ (80000 ≤ length (now logs)) × (words ≤ 20000) ⌝ }
+{
+    let mut queue = 0;
+    while queue < 4 {
+        let from = queue * LOG_PLACE;
+        let to = from + words;
+        number_words(&mut logs[from..to], LOG);
+        queue += 1;
+    }
+}
+
+// Whether `memory` may stand here, a line of a bench alone, and a line of a yard, whose first makes a queue.
+fn is_first(about: About) -> bool {
+    match about {
+        About::Nothing => true,
+        About::Memory => false,
+        About::Bench => false,
+        About::Yard => false,
+    }
+}
+
+fn is_alone(about: About) -> bool {
+    match about {
+        About::Nothing => false,
+        About::Memory => true,
+        About::Bench => true,
+        About::Yard => false,
+    }
+}
+
+fn is_yard(about: About, makes: bool) -> bool {
+    match about {
+        About::Nothing => false,
+        About::Memory => makes,
+        About::Bench => false,
+        About::Yard => true,
+    }
+}
+
 // A line that has no form, or is out of place.
 fn stopped(game: Game, text: Text) -> Turn
     ensures { λ r. ⌜ r .text .end ≡ text .end ⌝ }
@@ -258,73 +176,145 @@ fn stopped(game: Game, text: Text) -> Turn
     }
 }
 
+// The list goes on with the bench that a line left, or with the yard.
+fn with_bench(game: Game, after: After) -> Turn
+    ensures { λ r. ⌜ r .text .end ≡ after .text .end ⌝ }
+{
+    let bench = after.bench;
+    let yard = game.yard;
+    let text = after.text;
+    let next = Game {
+        about: About::Bench,
+        store: game.store,
+        log: game.log,
+        bench,
+        yard,
+    };
+    Turn {
+        game: next,
+        text,
+        goes: text.good,
+    }
+}
+
+fn with_yard(game: Game, left: Left) -> Turn
+    ensures { λ r. ⌜ r .text .end ≡ left .text .end ⌝ }
+{
+    let bench = game.bench;
+    let yard = left.yard;
+    let text = left.text;
+    let next = Game {
+        about: About::Yard,
+        store: game.store,
+        log: game.log,
+        bench,
+        yard,
+    };
+    Turn {
+        game: next,
+        text,
+        goes: text.good,
+    }
+}
+
+// The memory that is lent.
+fn lend(game: Game, words: u32, each: u32, store: &mut [u32], logs: &mut [u32]) -> Game
+    requires { ⌜ 80000 ≤ length (now logs) ⌝ }
+{
+    let s = least(words as usize, store.len());
+    let l = least(each as usize, LOG_PLACE);
+    number_words(&mut store[..s], STORE);
+    number_logs(logs, l);
+    let bench = game.bench;
+    let yard = game.yard;
+    Game {
+        about: About::Memory,
+        store: s,
+        log: l,
+        bench,
+        yard,
+    }
+}
+
 // Plays a line: `memory` is the first, and no other is.
 fn play_line(
     game: Game,
     line: ListLine,
     store: &mut [u32],
-    log: &mut [u32],
+    logs: &mut [u32],
     text: Text,
     out: &mut [u8],
 ) -> Turn
     requires { ⌜ (text .end ≤ length (now out)) × (128 ≤ length (now out)) ⌝ }
+    requires { ⌜ 80000 ≤ length (now logs) ⌝ }
     ensures { λ r. ⌜ r .text .end ≤ length (now (out .exit)) ⌝ }
 {
+    let about = game.about;
+    let s = least(game.store, store.len());
+    let l = least(game.log, LOG_PLACE);
     match line {
         ListLine::Bad => stopped(game, text),
         ListLine::Memory {
             store: words,
-            log: length,
+            log: each,
         } => {
-            if game.begun {
+            if !is_first(about) {
                 return stopped(game, text);
             }
-            let s = least(words as usize, store.len());
-            let l = least(length as usize, log.len());
-            number_words(&mut store[..s], STORE);
-            number_words(&mut log[..l], LOG);
-            let bench = game.bench;
-            let next = Game {
-                begun: true,
-                store: s,
-                log: l,
-                bench,
-            };
+            let next = lend(game, words, each, store, logs);
             Turn {
                 game: next,
                 text,
                 goes: true,
             }
         }
-        ListLine::Asks { asked } => {
-            if !game.begun {
+        ListLine::Fresh { setup } => {
+            if !is_alone(about) {
                 return stopped(game, text);
             }
-            let s = least(game.store, store.len());
-            let l = least(game.log, log.len());
-            let bench = game.bench;
-            let made = ask(bench, asked, &mut store[..s], &mut log[..l], text, out);
-            let after = made.bench;
-            let shown = made.text;
-            let next = Game {
-                begun: true,
-                store: s,
-                log: l,
-                bench: after,
-            };
-            let goes = shown.good;
-            Turn {
-                game: next,
-                text: shown,
-                goes,
+            let after = alone::fresh(setup, &mut store[..s], text, out);
+            with_bench(game, after)
+        }
+        ListLine::Asks { asked } => {
+            if !is_alone(about) {
+                return stopped(game, text);
             }
+            let bench = game.bench;
+            let after = alone::ask(bench, asked, &mut store[..s], &mut logs[..l], text, out);
+            with_bench(game, after)
+        }
+        ListLine::Make { setup, quota } => {
+            if !is_yard(about, true) {
+                return stopped(game, text);
+            }
+            let yard = game.yard;
+            let left = yard::make(yard, setup, quota, &mut store[..s], text, out);
+            with_yard(game, left)
+        }
+        ListLine::AsksOf { queue, asked } => {
+            if !is_yard(about, false) {
+                return stopped(game, text);
+            }
+            let from = least(queue as usize, 3) * LOG_PLACE;
+            let to = from + l;
+            let yard = game.yard;
+            let left = yard::ask(
+                yard,
+                queue,
+                asked,
+                &mut store[..s],
+                &mut logs[from..to],
+                text,
+                out,
+            );
+            with_yard(game, left)
         }
     }
 }
 
 // Plays the lines that end in the buffer. A line without an end that is longer than any of the form has none.
-fn play_lines(game: Game, buf: &[u8], store: &mut [u32], log: &mut [u32], out: &mut [u8]) -> Lines
-    requires { ⌜ 128 ≤ length (now out) ⌝ }
+fn play_lines(game: Game, buf: &[u8], store: &mut [u32], logs: &mut [u32], out: &mut [u8]) -> Lines
+    requires { ⌜ (128 ≤ length (now out)) × (80000 ≤ length (now logs)) ⌝ }
     ensures { λ r. ⌜ (r .text .end ≤ length (now (out .exit))) × (r .used ≤ length (now (buf .entry))) ⌝ }
 {
     let mut current = game;
@@ -343,7 +333,7 @@ fn play_lines(game: Game, buf: &[u8], store: &mut [u32], log: &mut [u32], out: &
         }
         let line = call_text::parse(&buf[used..end]);
         used = end + 1;
-        let turn = play_line(current, line, store, log, text, out);
+        let turn = play_line(current, line, store, logs, text, out);
         current = turn.game;
         text = turn.text;
         if !turn.goes {
@@ -366,7 +356,7 @@ fn play_lines(game: Game, buf: &[u8], store: &mut [u32], log: &mut [u32], out: &
 // Moves what is left of the buffer's first n bytes, a line that has begun, to the front, and answers how much it is.
 fn carry(buf: &mut [u8], from: usize, n: usize) -> usize
     requires { ⌜ (from ≤ n) × (n ≤ length (now buf)) ⌝ }
-    ensures { λ r. ⌜ r ≤ 64 ⌝ }
+    ensures { λ r. ⌜ r ≤ 75 ⌝ }
 {
     let k = least(n - from, call_text::LINE);
     let mut i = 0;
@@ -383,11 +373,11 @@ fn play_some(
     have: usize,
     buf: &mut [u8],
     store: &mut [u32],
-    log: &mut [u32],
+    logs: &mut [u32],
     out: &mut [u8],
 ) -> Next
-    requires { ⌜ (have < length (now buf)) × (128 ≤ length (now out)) ⌝ }
-    ensures { λ r. ⌜ r .have ≤ 64 ⌝ }
+    requires { ⌜ (have < length (now buf)) × (128 ≤ length (now out)) × (80000 ≤ length (now logs)) ⌝ }
+    ensures { λ r. ⌜ r .have ≤ 75 ⌝ }
 {
     let input = read_more(buf, have);
     let n = input.bytes;
@@ -398,7 +388,7 @@ fn play_some(
             goes: false,
         };
     }
-    let consumed = play_lines(game, &buf[..n], store, log, out);
+    let consumed = play_lines(game, &buf[..n], store, logs, out);
     let goes = output::report(consumed.text, consumed.goes, out);
     let next = consumed.game;
     let kept = carry(buf, consumed.used, n);
@@ -409,7 +399,7 @@ fn play_some(
     }
 }
 
-// Before the first line: a refused fresh, which makes no bench.
+// Before the first line: a refused fresh, which makes no bench, and a yard without queues.
 fn unbegun(store: &mut [u32]) -> Game {
     let nothing = model::Setup {
         kind: 0,
@@ -421,16 +411,18 @@ fn unbegun(store: &mut [u32]) -> Game {
     };
     let none = Bench::fresh(nothing, store);
     let bench = none.bench;
+    let yard = Yard::bare();
     Game {
-        begun: false,
+        about: About::Nothing,
         store: 0,
         log: 0,
         bench,
+        yard,
     }
 }
 
-fn run(buf: &mut [u8], store: &mut [u32], log: &mut [u32], out: &mut [u8])
-    requires { ⌜ (64 < length (now buf)) × (128 ≤ length (now out)) ⌝ }
+fn run(buf: &mut [u8], store: &mut [u32], logs: &mut [u32], out: &mut [u8])
+    requires { ⌜ (75 < length (now buf)) × (128 ≤ length (now out)) × (80000 ≤ length (now logs)) ⌝ }
 {
     let game = unbegun(store);
     let mut next = Next {
@@ -441,7 +433,7 @@ fn run(buf: &mut [u8], store: &mut [u32], log: &mut [u32], out: &mut [u8])
     let mut turns = u64::MAX;
     while turns > 0 {
         turns -= 1;
-        next = play_some(next.game, next.have, buf, store, log, out);
+        next = play_some(next.game, next.have, buf, store, logs, out);
         if !next.goes {
             return;
         }
@@ -450,8 +442,8 @@ fn run(buf: &mut [u8], store: &mut [u32], log: &mut [u32], out: &mut [u8])
 
 fn main() {
     let mut store = [0u32; 10300];
-    let mut log = [0u32; 20000];
+    let mut logs = [0u32; 80000];
     let mut buf = [0u8; 65536];
     let mut out = [0u8; 65536];
-    run(&mut buf, &mut store, &mut log, &mut out);
+    run(&mut buf, &mut store, &mut logs, &mut out);
 }

@@ -5,10 +5,10 @@ ghost use lib.ListN.{length};
 use libc::STDERR_FILENO;
 use libc::STDOUT_FILENO;
 use model::Anchor;
+use model::Answer;
 use model::Queue;
 use model::Store;
 use model::Tally;
-use queues::Bench;
 
 // Where the text ends that waits in the output, and whether every write so far could be made.
 pub struct Text {
@@ -88,6 +88,24 @@ pub fn show_answers(text: Text, words: u32, answers: &[u32], out: &mut [u8]) -> 
     shown
 }
 
+// The line of an answer.
+pub fn show_reply(text: Text, words: u32, answer: Answer, out: &mut [u8]) -> Text
+    requires { ⌜ (text .end ≤ length (now out)) × (128 ≤ length (now out)) ⌝ }
+    ensures { λ r. ⌜ r .end ≤ length (now (out .exit)) ⌝ }
+{
+    let said = plays::words_of(answer);
+    show_answer(text, words, &said, out)
+}
+
+// The line of a refusal by its number.
+pub fn show_refusal(text: Text, number: u32, out: &mut [u8]) -> Text
+    requires { ⌜ (text .end ≤ length (now out)) × (128 ≤ length (now out)) ⌝ }
+    ensures { λ r. ⌜ r .end ≤ length (now (out .exit)) ⌝ }
+{
+    let refused = [0, 3, number, 0, 0, 0, 0];
+    show_answer(text, 1, &refused, out)
+}
+
 // Numbers of a line of many.
 pub fn show_words(text: Text, words: &[u32], out: &mut [u8]) -> Text
     requires { ⌜ (text .end ≤ length (now out)) × (128 ≤ length (now out)) ⌝ }
@@ -121,19 +139,17 @@ pub fn show_tally(text: Text, worker: u32, tally: Tally, out: &mut [u8]) -> Text
                 good: free.good,
             }
         }
-        Tally::Refused { why } => {
-            let refused = [0, 3, queues::number_of(why), 0, 0, 0, 0];
-            show_answer(text, 1, &refused, out)
-        }
+        Tally::Refused { why } => show_refusal(text, queues::number_of(why), out),
     }
 }
 
-pub fn show_front(text: Text, bench: Bench, log: &[u32], out: &mut [u8]) -> Text
+// The written front of a log.
+pub fn show_front(text: Text, front: &[u32], out: &mut [u8]) -> Text
     requires { ⌜ (text .end ≤ length (now out)) × (128 ≤ length (now out)) ⌝ }
     ensures { λ r. ⌜ r .end ≤ length (now (out .exit)) ⌝ }
 {
     let mut shown = show_byte(text, b'L', out);
-    shown = show_words(shown, bench.front(log), out);
+    shown = show_words(shown, front, out);
     show_byte(shown, b'\n', out)
 }
 
@@ -275,8 +291,7 @@ pub fn show_state(text: Text, state: model::Bench, store: &[u32], out: &mut [u8]
     ensures { λ r. ⌜ r .end ≤ length (now (out .exit)) ⌝ }
 {
     if state.crew == 0 {
-        let foreign = [0, 3, 12, 0, 0, 0, 0];
-        return show_answer(text, 1, &foreign, out);
+        return show_refusal(text, 12, out);
     }
     let mut shown = show_byte(text, b'S', out);
     shown = show_shared(shown, state, out);

@@ -13,11 +13,11 @@ use Rattle.model.specs.declared.Task.{Task}
 use Rattle.model.specs.Tasks.{gathered}
 use Rattle.model.specs.Memory.{wordAt, offsetAt, lengthAt, sizeAt, nowhere}
 use Rattle.model.specs.Figures.{slot}
-use Rattle.model.specs.Stores.{Shared, landedAll}
-use Rattle.model.specs.World.{World, memory, ownersView}
+use Rattle.model.specs.Stores.{Shared}
 use Rattle.model.specs.Window.{tasks, windowIndex, windowSize}
 use Rattle.model.specs.Calls.{lent}
 use Rattle.model.specs.Counts.{someBelow, standsAt}
+use Rattle.model.proofs.Landing.{reads-memory}
 use Rattle.model.proofs.Tasks.{same-words}
 use Rattle.handouts.specs.Starts.{Starts}
 use Rattle.handouts.proofs.Starts.{from-start}
@@ -40,11 +40,6 @@ task-is κ v a g m i x s r e f h S =
     ∙ from-start m (v + 1) s r (g .offset + k) h S
     ∙ ap (λ (n : ℕ). getD m n 0) (let z : (v + 1) * s + (g .offset + k) ≡ g .offset + (v + 1) * s + k = omega arith in z)
     ∙ ap (λ (n : ℕ). getD m (g .offset + (v + 1) * n + k) 0) q)
-
--- where no store waits the owner reads memory
-pub reads-memory : (W : World) → W .bench .waiting .count ≡ 0 → ownersView W ≡ memory W
-unfolding landedAll
-reads-memory W e = rw e
 
 -- the current array's pair is all that the window asks of the directory
 pub stands-is : (b : Bench) (m : List ℕ) (t : Task) (g : Region) (n : ℕ) → b .waiting .count ≡ 0 → g ≡ getD (b .queue .arrays) (b .queue .published - 1) nowhere → n ≡ tasks (b .kind) (b .queue .anchor) →

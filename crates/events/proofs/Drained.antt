@@ -2,26 +2,26 @@
 use mathlib.Core.Bool.{true}
 use mathlib.Core.List.{List, [], _∷_}
 use mathlib.Core.Path.{_≡_, sym, ap, subst, _∙_}
-use Prim.Native.Nat.{ℕ, _<_}
+use Prim.Native.Nat.{ℕ, _≤_, _<_}
 use native.Mathlib.Omega.{arith}
 use lib.ListN.{length}
 use Rattle.model.specs.declared.Queue.{Queue}
 use Rattle.model.specs.declared.Store.{Store}
 use Rattle.model.specs.declared.Waiting.{Waiting}
-use Rattle.model.specs.Stores.{shared, landed, oldest, oneLess}
-use Rattle.model.specs.World.{World, remembered, memory}
-use Rattle.model.specs.Limits.{validOf}
+use Rattle.model.specs.Stores.{shared, landed, oldest, oneLess, taken}
+use Rattle.model.specs.World.{World, remembered, memory, ownersView}
+use Rattle.model.specs.Limits.{benchOk}
 use Rattle.model.specs.Calls.{drained}
 use Rattle.waiting.specs.Places.{notesOk, Placed}
 use Rattle.waiting.proofs.Line.{note-at, one-note, placed-at}
 use Rattle.limits.proofs.Waits.{waits-noted, waits-placed}
 
-module _ (W : World) (v : validOf W ≡ true) (some : 0 < W .bench .waiting .count) (eight : length (W .bench .waiting .stores) ≡ 8) where
+module _ (W : World) (v : benchOk (W .bench) (W .bench .queue) (ownersView W .queue) ≡ true) (fits : taken (W .bench .queue) ≤ length (W .store)) (some : 0 < W .bench .waiting .count) (eight : length (W .bench .waiting .stores) ≡ 8) where
   pub oldest-placed : {s : Store} → s ≡ oldest (W .bench .waiting) → Placed (W .bench .words) (W .bench .queue) (length (W .store)) s
   oldest-placed e =
       subst (Placed (W .bench .words) (W .bench .queue) (length (W .store))) (sym e)
       (placed-at (W .bench .words) (W .bench .queue) (length (W .store)) (W .bench .waiting .stores) 0 (W .bench .waiting .count) some
-      (omega (arith, eight)) (waits-placed W v))
+      (omega (arith, eight)) (waits-placed W v fits))
 
   pub oldest-noted : {s : Store} → s ≡ oldest (W .bench .waiting) → notesOk (s ∷ []) ≡ true
   oldest-noted e =

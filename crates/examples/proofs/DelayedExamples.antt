@@ -8,7 +8,7 @@ use native.Mathlib.Omega.{arith}
 use lib.ListN.{replicate}
 use Rattle.model.specs.declared.Operation.the-variants.{Put, Take, Steal}
 use Rattle.model.specs.Tests.{if_then_else_, _and_, _or_}
-use Rattle.model.specs.Memory.{zeros, wordAt, setWord, offsetAt, lengthAt, sizeAt}
+use Rattle.model.specs.Memory.{zeros, wordAt, setWord, offsetAt, lengthAt, sizeAt, wordsTo}
 use Rattle.model.specs.Tasks.{wordIn, withWord, gathered}
 use Rattle.model.proofs.Runs.{one}
 use Rattle.model.specs.Figures.{anchor}
@@ -35,7 +35,7 @@ unseen = does (begin 0 (Put (one 65))) ++ begin 1 Steal ∷ step 1 ∷ step 1 �
 
 -- the thief is answered EMPTY at place 8, the put's task stands in the window, and it was not handed out
 pub put-unseen : At (played delayed unseen) 8 (Empties 1) × Stands (after delayed unseen) (short 1 65) × (anyOut (short 1 65) (played delayed unseen) ≡ false)
-unfolding delayed unseen does anyOut isOut played after freshOf beginOf stepOf drainOf validOf lineStep landedAll zeros wordAt setWord offsetAt lengthAt sizeAt gathered wordIn withWord if_then_else_ _and_ _or_
+unfolding delayed unseen does anyOut isOut played after freshOf beginOf stepOf drainOf validOf wordsTo lineStep landedAll zeros wordAt setWord offsetAt lengthAt sizeAt gathered wordIn withWord if_then_else_ _and_ _or_
 put-unseen = (refl, (0, omega arith, refl), refl)
 
 -- its store is the last of three: the third drain brings it to memory
@@ -43,7 +43,7 @@ unfoldable pub drainedPut : List Call
 drainedPut = does (begin 0 (Put (one 65))) ++ replicate 3 drain ++ begin 1 Steal ∷ []
 
 pub three-drains : DrainedBy (played delayed drainedPut) 5 9 × (DrainedBy (played delayed drainedPut) 5 8 → ⊥)
-unfolding delayed drainedPut does played after freshOf beginOf stepOf drainOf validOf lineStep landedAll zeros wordAt setWord offsetAt lengthAt sizeAt gathered wordIn withWord if_then_else_ _and_ _or_
+unfolding delayed drainedPut does played after freshOf beginOf stepOf drainOf validOf wordsTo lineStep landedAll zeros wordAt setWord offsetAt lengthAt sizeAt gathered wordIn withWord if_then_else_ _and_ _or_
 three-drains = (omega arith, λ h. omega arith)
 
 -- A TAG OF ONE BIT: put 1 is drained; a take, put 2, a take and put 3 fill the line; the thief's line 1 at place 34 reads put 1's
@@ -55,7 +55,7 @@ wrapped =
 
 -- two puts are drained between, and put 3 is lost
 pub wrapped-loses : Loses delayed wrapped 2
-unfolding delayed wrapped does anyOut isOut anyStart startsAttempt isStep played after freshOf beginOf stepOf drainOf validOf lineStep landedAll zeros wordAt setWord offsetAt lengthAt sizeAt gathered wordIn withWord if_then_else_ _and_ _or_
+unfolding delayed wrapped does anyOut isOut anyStart startsAttempt isStep played after freshOf beginOf stepOf drainOf validOf wordsTo lineStep landedAll zeros wordAt setWord offsetAt lengthAt sizeAt gathered wordIn withWord if_then_else_ _and_ _or_
 wrapped-loses =
     record {
       thief = 1;
@@ -79,5 +79,5 @@ wrapped-loses =
 
 -- though none finishes there: a premise by finished puts would be false
 pub none-finishes : finished (between 34 47 (played delayed wrapped)) ≡ 0
-unfolding delayed wrapped does played after freshOf beginOf stepOf drainOf validOf lineStep landedAll zeros wordAt setWord offsetAt lengthAt sizeAt gathered wordIn withWord if_then_else_ _and_ _or_
+unfolding delayed wrapped does played after freshOf beginOf stepOf drainOf validOf wordsTo lineStep landedAll zeros wordAt setWord offsetAt lengthAt sizeAt gathered wordIn withWord if_then_else_ _and_ _or_
 none-finishes = refl

@@ -17,7 +17,7 @@ use Rattle.model.specs.declared.Answer.{Answer}
 use Rattle.model.specs.declared.Answer.the-variants.{Accepted, Numbered, GoesOn, Finished, HandedOut, Empty, Full, Grown, Refused}
 use Rattle.model.proofs.Tests.{and-both, or-false}
 use Rattle.model.specs.Tests.{if_then_else_, _and_, _or_}
-use Rattle.model.specs.Memory.{zeros, wordAt, setWord, offsetAt, lengthAt, sizeAt}
+use Rattle.model.specs.Memory.{zeros, wordAt, setWord, offsetAt, lengthAt, sizeAt, wordsTo}
 use Rattle.model.specs.Tasks.{payload, task, wordIn, withWord, gathered, firstWords, sameTask}
 use Rattle.model.proofs.Tasks.{task-same}
 use Rattle.model.proofs.Runs.{one}
@@ -131,7 +131,7 @@ benchOf k = freshOf (setup k 1 2 2 1) (replicate 12 0) (replicate 64 0) .world
 
 -- P1: the thief's line 1 is at place 7, its compare at place 36; 2 = 2^1 puts finish between, and put 3 is lost
 pub p1-loses : Loses (bench 1 2) p1 2
-unfolding bench p1 does anyOut isOut anyStart startsAttempt isStep played after freshOf beginOf stepOf validOf lineStep landedAll zeros wordAt setWord offsetAt lengthAt sizeAt gathered wordIn withWord if_then_else_ _and_ _or_
+unfolding bench p1 does anyOut isOut anyStart startsAttempt isStep played after freshOf beginOf stepOf validOf wordsTo lineStep landedAll zeros wordAt setWord offsetAt lengthAt sizeAt gathered wordIn withWord if_then_else_ _and_ _or_
 p1-loses =
     record {
       thief = 1;
@@ -154,17 +154,17 @@ p1-loses =
     }
 
 pub p1-breaks-premise : FewPuts (bench 1 2) p1 → ⊥
-unfolding p1-loses bench p1 does played freshOf beginOf stepOf validOf lineStep landedAll zeros wordAt setWord offsetAt lengthAt sizeAt gathered wordIn withWord if_then_else_ _and_ _or_
+unfolding p1-loses bench p1 does played freshOf beginOf stepOf validOf wordsTo lineStep landedAll zeros wordAt setWord offsetAt lengthAt sizeAt gathered wordIn withWord if_then_else_ _and_ _or_
 p1-breaks-premise f = let z : 2 < 2 = f 1 7 36 (p1-loses .compares) (p1-loses .attempt) (omega arith) in omega arith
 
 -- P2: with a tag of 2 bits the compare fails, and put 3 stands in the window
 pub p2-stands : Stands (after (bench 2 2) p1) (short 3 67)
-unfolding bench p1 does after freshOf beginOf stepOf validOf lineStep landedAll zeros wordAt setWord offsetAt lengthAt sizeAt gathered wordIn withWord if_then_else_ _and_ _or_
+unfolding bench p1 does after freshOf beginOf stepOf validOf wordsTo lineStep landedAll zeros wordAt setWord offsetAt lengthAt sizeAt gathered wordIn withWord if_then_else_ _and_ _or_
 p2-stands = (0, omega arith, refl)
 
 -- P2 keeps the premise: three puts finish in all, and it takes four to break it
 p2-puts : puts (played (bench 2 2) p1) ≡ 3
-unfolding bench p1 does played freshOf beginOf stepOf validOf lineStep landedAll zeros wordAt setWord offsetAt lengthAt sizeAt gathered wordIn withWord if_then_else_ _and_ _or_
+unfolding bench p1 does played freshOf beginOf stepOf validOf wordsTo lineStep landedAll zeros wordAt setWord offsetAt lengthAt sizeAt gathered wordIn withWord if_then_else_ _and_ _or_
 p2-puts = refl
 
 p2-few : (d : ℕ) → d ≤ 3 → Few (bench 2 2 .bench .kind) (tagBits (bench 2 2 .bench)) d
@@ -198,11 +198,11 @@ mixed =
 
 -- KEPT speaks of all words: number 3 is handed out at place 61, put 3's task nowhere
 pub three-out : At (played (bench 1 3) mixed) 61 (λ s. s .answer ≡ HandedOut 2 (short 3 69))
-unfolding bench mixed does played freshOf beginOf stepOf validOf lineStep landedAll zeros wordAt setWord offsetAt lengthAt sizeAt gathered wordIn withWord if_then_else_ _and_ _or_
+unfolding bench mixed does played freshOf beginOf stepOf validOf wordsTo lineStep landedAll zeros wordAt setWord offsetAt lengthAt sizeAt gathered wordIn withWord if_then_else_ _and_ _or_
 three-out = refl
 
 pub not-kept : Demand3 (bench 1 3) mixed → ⊥
-unfolding bench mixed does anyOut isOut played after freshOf beginOf stepOf validOf lineStep landedAll zeros wordAt setWord offsetAt lengthAt sizeAt gathered wordIn withWord if_then_else_ _and_ _or_
+unfolding bench mixed does anyOut isOut played after freshOf beginOf stepOf validOf wordsTo lineStep landedAll zeros wordAt setWord offsetAt lengthAt sizeAt gathered wordIn withWord if_then_else_ _and_ _or_
 not-kept D = go (D .kept 30 35 (short 3 67) (record { begun = (3, one 67, refl, refl, refl); later = omega arith; finished = (0, refl) }))
   where
     go : ((k : ℕ) × Out (played (bench 1 3) mixed) k (short 3 67)) ⊎ Stands (after (bench 1 3) mixed) (short 3 67) → ⊥
@@ -216,7 +216,7 @@ payload-is n x p′ p e q = let z : one x ≡ p = cc in ap (λ (y : Payload). y 
 
 -- BELONGS speaks of all words: the task 3, 69 has the number of one put and the payload of another
 pub not-belongs : Demand3 (bench 1 3) mixed → ⊥
-unfolding bench mixed does played freshOf beginOf stepOf validOf lineStep landedAll zeros wordAt setWord offsetAt lengthAt sizeAt gathered wordIn withWord if_then_else_ _and_ _or_
+unfolding bench mixed does played freshOf beginOf stepOf validOf wordsTo lineStep landedAll zeros wordAt setWord offsetAt lengthAt sizeAt gathered wordIn withWord if_then_else_ _and_ _or_
 not-belongs D =
     let F = D .belongs 61 (short 3 69) (2, refl) in
     let same = D .numbers 30 (F .0) (short 3 67) (short 3 69) (3, one 67, refl, refl, refl) (F .3 .begun) refl in
@@ -228,7 +228,7 @@ unfoldable pub p1-take : List Call
 p1-take = p1 ++ begin 0 Take ∷ step 0 ∷ step 0 ∷ []
 
 pub false-empty : Demand3 (bench 1 2) p1-take → ⊥
-unfolding bench p1-take p1 does anyOut isOut played freshOf beginOf stepOf validOf lineStep landedAll zeros wordAt setWord offsetAt lengthAt sizeAt gathered wordIn withWord if_then_else_ _and_ _or_
+unfolding bench p1-take p1 does anyOut isOut played freshOf beginOf stepOf validOf wordsTo lineStep landedAll zeros wordAt setWord offsetAt lengthAt sizeAt gathered wordIn withWord if_then_else_ _and_ _or_
 false-empty D = go (D .none-left 39 0 refl)
   where
     T : List Played
@@ -260,7 +260,7 @@ unfoldable pub bench2 : World
 bench2 = freshOf (setup 1 1 2 3 2) (replicate 18 0) (replicate 64 0) .world
 
 pub cut-stands : Stands (after bench2 (does2 (begin 0 (Put (payload 65 1 8 9))))) (task 1 (payload 65 1 0 0))
-unfolding bench2 does2 played after freshOf beginOf stepOf validOf lineStep landedAll zeros wordAt setWord offsetAt lengthAt sizeAt gathered wordIn withWord if_then_else_ _and_ _or_
+unfolding bench2 does2 played after freshOf beginOf stepOf validOf wordsTo lineStep landedAll zeros wordAt setWord offsetAt lengthAt sizeAt gathered wordIn withWord if_then_else_ _and_ _or_
 cut-stands = (0, omega arith, refl)
 
 -- as above, and thief 2 has read put 3's first payload word too: it is that of put 5, and the second is not
@@ -273,11 +273,11 @@ mixed2 =
 
 -- KEPT speaks of the last word too: number 3 and its first payload word are handed out at place 71, put 3's task nowhere
 pub most-out : At (played bench2 mixed2) 71 (λ s. s .answer ≡ HandedOut 2 (task 3 (payload 65 5 0 0)))
-unfolding bench2 mixed2 does2 played after freshOf beginOf stepOf validOf lineStep landedAll zeros wordAt setWord offsetAt lengthAt sizeAt gathered wordIn withWord if_then_else_ _and_ _or_
+unfolding bench2 mixed2 does2 played after freshOf beginOf stepOf validOf wordsTo lineStep landedAll zeros wordAt setWord offsetAt lengthAt sizeAt gathered wordIn withWord if_then_else_ _and_ _or_
 most-out = refl
 
 pub not-kept2 : Demand3 bench2 mixed2 → ⊥
-unfolding bench2 mixed2 does2 anyOut isOut played after freshOf beginOf stepOf validOf lineStep landedAll zeros wordAt setWord offsetAt lengthAt sizeAt gathered wordIn withWord if_then_else_ _and_ _or_
+unfolding bench2 mixed2 does2 anyOut isOut played after freshOf beginOf stepOf validOf wordsTo lineStep landedAll zeros wordAt setWord offsetAt lengthAt sizeAt gathered wordIn withWord if_then_else_ _and_ _or_
 not-kept2 D = go (D .kept 35 41 third (record { begun = (3, payload 65 3 0 0, refl, refl, refl); later = omega arith; finished = (0, refl) }))
   where
     third : Task

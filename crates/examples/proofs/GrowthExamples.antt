@@ -6,7 +6,7 @@ use lib.ListN.{replicate}
 use Rattle.model.specs.declared.Operation.the-variants.{Put, Take, Steal, Commit}
 use Rattle.model.specs.declared.Answer.the-variants.{Grown}
 use Rattle.model.specs.Tests.{if_then_else_, _and_, _or_}
-use Rattle.model.specs.Memory.{zeros, wordAt, setWord, offsetAt, lengthAt, sizeAt}
+use Rattle.model.specs.Memory.{zeros, wordAt, setWord, offsetAt, lengthAt, sizeAt, wordsTo}
 use Rattle.model.specs.Tasks.{noTask, wordIn, withWord, gathered}
 use Rattle.model.proofs.Runs.{one}
 use Rattle.model.specs.Stores.{landedAll}
@@ -32,7 +32,7 @@ grown =
 pub grown-keeps :
     At (played (bench 1 2) grown) 24 (λ s. s .answer ≡ Grown 0) × Out (played (bench 1 2) grown) 25 (short 2 66) × Stands (after (bench 1 2) grown) (short 1 65)
     × Stands (after (bench 1 2) grown) (short 3 67) × (windowSize (after (bench 1 2) grown) ≡ 2)
-unfolding bench grown does played after freshOf beginOf stepOf askOf validOf lineStep landedAll zeros wordAt setWord offsetAt lengthAt sizeAt gathered wordIn withWord if_then_else_ _and_ _or_
+unfolding bench grown does played after freshOf beginOf stepOf askOf validOf wordsTo lineStep landedAll zeros wordAt setWord offsetAt lengthAt sizeAt gathered wordIn withWord if_then_else_ _and_ _or_
 grown-keeps = (refl, (1, refl), (0, omega arith, refl), (1, omega arith, refl), refl)
 
 -- A FIFO with put 2 in its window, and behind it the slot of put 1, which was taken; the same after a commit
@@ -46,5 +46,5 @@ larger = taken ++ ask 0 ∷ tried.does 0 Commit 4
 pub behind-the-window :
     (windowTask (after (benchOf 2) taken) 0 ≡ short 2 66) × (windowTask (after (benchOf 2) larger) 0 ≡ short 2 66)
     × (windowTask (after (benchOf 2) taken) 1 ≡ short 1 65) × (windowTask (after (benchOf 2) larger) 1 ≡ noTask)
-unfolding benchOf taken larger tried.does after freshOf beginOf stepOf askOf validOf lineStep landedAll zeros wordAt setWord offsetAt lengthAt sizeAt gathered wordIn withWord if_then_else_ _and_ _or_
+unfolding benchOf taken larger tried.does after freshOf beginOf stepOf askOf validOf wordsTo lineStep landedAll zeros wordAt setWord offsetAt lengthAt sizeAt gathered wordIn withWord if_then_else_ _and_ _or_
 behind-the-window = (refl, refl, refl, refl)

@@ -9,7 +9,7 @@ use lib.ListN.{replicate}
 use Rattle.model.specs.declared.Operation.the-variants.{Put, Steal}
 use Rattle.model.specs.declared.Answer.the-variants.{Accepted, GoesOn, HandedOut}
 use Rattle.model.specs.Tests.{if_then_else_, _and_, _or_}
-use Rattle.model.specs.Memory.{zeros, wordAt, setWord, offsetAt, lengthAt, sizeAt}
+use Rattle.model.specs.Memory.{zeros, wordAt, setWord, offsetAt, lengthAt, sizeAt, wordsTo}
 use Rattle.model.specs.Tasks.{wordIn, withWord, gathered}
 use Rattle.model.proofs.Runs.{one}
 use Rattle.model.specs.Stores.{landedAll}
@@ -37,28 +37,28 @@ restarts k cs = restartsOf (after (benchOf k) cs .bench .restarts) 1
 
 -- the same calls: with a tag the compare succeeds and put 3 is lost; linked, it fails and none is
 pub lifo-loses : (lost 1 p1 ≡ 1) × (restarts 1 p1 ≡ 0)
-unfolding countsOf someBelow countBelow benchOf p1 does after freshOf beginOf stepOf validOf lineStep landedAll zeros wordAt setWord offsetAt lengthAt sizeAt gathered wordIn withWord if_then_else_ _and_ _or_
+unfolding countsOf someBelow countBelow benchOf p1 does after freshOf beginOf stepOf validOf wordsTo lineStep landedAll zeros wordAt setWord offsetAt lengthAt sizeAt gathered wordIn withWord if_then_else_ _and_ _or_
 lifo-loses = (refl, refl)
 
 pub linked-lifo-keeps : (lost 4 p1 ≡ 0) × (restarts 4 p1 ≡ 1)
-unfolding countsOf someBelow countBelow benchOf p1 does after freshOf beginOf stepOf validOf lineStep landedAll zeros wordAt setWord offsetAt lengthAt sizeAt gathered wordIn withWord if_then_else_ _and_ _or_
+unfolding countsOf someBelow countBelow benchOf p1 does after freshOf beginOf stepOf validOf wordsTo lineStep landedAll zeros wordAt setWord offsetAt lengthAt sizeAt gathered wordIn withWord if_then_else_ _and_ _or_
 linked-lifo-keeps = (refl, refl)
 
 pub deque-loses : (lost 3 p1-deque ≡ 1) × (restarts 3 p1-deque ≡ 0)
-unfolding countsOf someBelow countBelow p1-deque benchOf p1 does after freshOf beginOf stepOf validOf lineStep landedAll zeros wordAt setWord offsetAt lengthAt sizeAt gathered wordIn withWord if_then_else_ _and_ _or_
+unfolding countsOf someBelow countBelow p1-deque benchOf p1 does after freshOf beginOf stepOf validOf wordsTo lineStep landedAll zeros wordAt setWord offsetAt lengthAt sizeAt gathered wordIn withWord if_then_else_ _and_ _or_
 deque-loses = (refl, refl)
 
 pub linked-deque-keeps : (lost 5 p1-deque ≡ 0) × (restarts 5 p1-deque ≡ 1)
-unfolding countsOf someBelow countBelow p1-deque benchOf p1 does after freshOf beginOf stepOf validOf lineStep landedAll zeros wordAt setWord offsetAt lengthAt sizeAt gathered wordIn withWord if_then_else_ _and_ _or_
+unfolding countsOf someBelow countBelow p1-deque benchOf p1 does after freshOf beginOf stepOf validOf wordsTo lineStep landedAll zeros wordAt setWord offsetAt lengthAt sizeAt gathered wordIn withWord if_then_else_ _and_ _or_
 linked-deque-keeps = (refl, refl)
 
 -- put 3 stands in the window, though as many puts finish between the thief's line 1 and its compare as lose it with a tag
 pub linked-stands : Stands (after (benchOf 4) p1) (short 3 67)
-unfolding benchOf p1 does after freshOf beginOf stepOf validOf lineStep landedAll zeros wordAt setWord offsetAt lengthAt sizeAt gathered wordIn withWord if_then_else_ _and_ _or_
+unfolding benchOf p1 does after freshOf beginOf stepOf validOf wordsTo lineStep landedAll zeros wordAt setWord offsetAt lengthAt sizeAt gathered wordIn withWord if_then_else_ _and_ _or_
 linked-stands = (0, omega arith, refl)
 
 pub linked-puts : puts (between 7 36 (played (benchOf 4) p1)) ≡ 2
-unfolding played benchOf p1 does after freshOf beginOf stepOf validOf lineStep landedAll zeros wordAt setWord offsetAt lengthAt sizeAt gathered wordIn withWord if_then_else_ _and_ _or_
+unfolding played benchOf p1 does after freshOf beginOf stepOf validOf wordsTo lineStep landedAll zeros wordAt setWord offsetAt lengthAt sizeAt gathered wordIn withWord if_then_else_ _and_ _or_
 linked-puts = refl
 
 linked-accepted : freshOf (setup 4 1 2 2 1) (replicate 12 0) (replicate 64 0) .answer ≡ Accepted
@@ -83,14 +83,14 @@ unfoldable pub alone : List Call
 alone = does (begin 0 (Put (one 65))) ++ does (begin 1 Steal)
 
 pub link-kept : At (played (benchOf 4) (alone ++ step 1 ∷ [])) 12 (λ s. s .answer ≡ HandedOut 1 (short 1 65))
-unfolding alone played benchOf p1 does after freshOf beginOf stepOf validOf lineStep landedAll zeros wordAt setWord offsetAt lengthAt sizeAt gathered wordIn withWord if_then_else_ _and_ _or_
+unfolding alone played benchOf p1 does after freshOf beginOf stepOf validOf wordsTo lineStep landedAll zeros wordAt setWord offsetAt lengthAt sizeAt gathered wordIn withWord if_then_else_ _and_ _or_
 link-kept = refl
 
 -- its link fails for no reason: so does the compare, and the task stands
 pub link-dropped : At (played (benchOf 4) (alone ++ dropLink 1 ∷ step 1 ∷ [])) 13 (λ s. s .answer ≡ GoesOn)
-unfolding alone played dropLinkOf benchOf p1 does after freshOf beginOf stepOf validOf lineStep landedAll zeros wordAt setWord offsetAt lengthAt sizeAt gathered wordIn withWord if_then_else_ _and_ _or_
+unfolding alone played dropLinkOf benchOf p1 does after freshOf beginOf stepOf validOf wordsTo lineStep landedAll zeros wordAt setWord offsetAt lengthAt sizeAt gathered wordIn withWord if_then_else_ _and_ _or_
 link-dropped = refl
 
 pub dropped-stands : Stands (after (benchOf 4) (alone ++ dropLink 1 ∷ step 1 ∷ [])) (short 1 65) × (restarts 4 (alone ++ dropLink 1 ∷ step 1 ∷ []) ≡ 1)
-unfolding alone dropLinkOf benchOf p1 does after freshOf beginOf stepOf validOf lineStep landedAll zeros wordAt setWord offsetAt lengthAt sizeAt gathered wordIn withWord if_then_else_ _and_ _or_
+unfolding alone dropLinkOf benchOf p1 does after freshOf beginOf stepOf validOf wordsTo lineStep landedAll zeros wordAt setWord offsetAt lengthAt sizeAt gathered wordIn withWord if_then_else_ _and_ _or_
 dropped-stands = ((0, omega arith, refl), refl)

@@ -10,7 +10,7 @@ use Rattle.model.specs.declared.Operation.{Operation}
 use Rattle.model.specs.declared.Operation.the-variants.{Put, Take, Steal}
 use Rattle.model.specs.declared.Answer.the-variants.{Accepted}
 use Rattle.model.specs.Tests.{if_then_else_, _and_, _or_}
-use Rattle.model.specs.Memory.{zeros, wordAt, setWord, offsetAt, lengthAt, sizeAt}
+use Rattle.model.specs.Memory.{zeros, wordAt, setWord, offsetAt, lengthAt, sizeAt, wordsTo}
 use Rattle.model.specs.Tasks.{payload, wordIn, withWord, gathered}
 use Rattle.model.proofs.Runs.{one}
 use Rattle.model.specs.Stores.{landedAll}
@@ -50,15 +50,15 @@ unfoldable pub lowered : List Call
 lowered = stale ++ replicate 3 (step 0) ++ does 1 Steal 7 ++ does 0 (Put (one 7)) 6 ++ does 0 Take 6
 
 pub head-goes-back : (after (bench 2) stale .bench .queue .anchor .head ≡ 2) × (after (bench 2) (stale ++ replicate 3 (step 0)) .bench .queue .anchor .head ≡ 1)
-unfolding stale does bench after freshOf beginOf stepOf validOf lineStep landedAll zeros wordAt setWord offsetAt lengthAt sizeAt gathered wordIn withWord if_then_else_ _and_ _or_
+unfolding stale does bench after freshOf beginOf stepOf validOf wordsTo lineStep landedAll zeros wordAt setWord offsetAt lengthAt sizeAt gathered wordIn withWord if_then_else_ _and_ _or_
 head-goes-back = (refl, refl)
 
 pub all-hand-outs : numbers (λ l j. isKind 1 l 2 j) (front 2 lowered) 8 ≡ 1 ∷ 2 ∷ 1 ∷ 2 ∷ 3 ∷ []
-unfolding lowered stale does bench front numbers after frontOf freshOf beginOf stepOf validOf lineStep landedAll zeros wordAt setWord offsetAt lengthAt sizeAt gathered wordIn withWord if_then_else_ _and_ _or_
+unfolding lowered stale does bench front numbers after frontOf freshOf beginOf stepOf validOf wordsTo lineStep landedAll zeros wordAt setWord offsetAt lengthAt sizeAt gathered wordIn withWord if_then_else_ _and_ _or_
 all-hand-outs = refl
 
 pub first-hand-outs : numbers (outFirst 1) (front 2 lowered) 8 ≡ 1 ∷ 2 ∷ 3 ∷ []
-unfolding lowered stale does bench front numbers after frontOf someBelow freshOf beginOf stepOf validOf lineStep landedAll zeros wordAt setWord offsetAt lengthAt sizeAt gathered wordIn withWord if_then_else_ _and_ _or_
+unfolding lowered stale does bench front numbers after frontOf someBelow freshOf beginOf stepOf validOf wordsTo lineStep landedAll zeros wordAt setWord offsetAt lengthAt sizeAt gathered wordIn withWord if_then_else_ _and_ _or_
 first-hand-outs = refl
 
 -- two puts and two takes: LIFO and double-ended hand out put 2 first
@@ -66,11 +66,11 @@ unfoldable pub twice : List Call
 twice = does 0 (Put (one 5)) 5 ++ does 0 (Put (one 6)) 5 ++ does 0 Take 5 ++ does 0 Take 5
 
 pub lifo-is-not : LogInOrder 1 (front 1 twice) → ⊥
-unfolding twice does bench front after frontOf someBelow freshOf beginOf stepOf validOf lineStep landedAll zeros wordAt setWord offsetAt lengthAt sizeAt gathered wordIn withWord if_then_else_ _and_ _or_
+unfolding twice does bench front after frontOf someBelow freshOf beginOf stepOf validOf wordsTo lineStep landedAll zeros wordAt setWord offsetAt lengthAt sizeAt gathered wordIn withWord if_then_else_ _and_ _or_
 lifo-is-not f = let z : 2 < 1 = f 2 3 (omega arith) refl refl in omega arith
 
 pub deque-is-not : LogInOrder 1 (front 3 twice) → ⊥
-unfolding twice does bench front after frontOf someBelow freshOf beginOf stepOf validOf lineStep landedAll zeros wordAt setWord offsetAt lengthAt sizeAt gathered wordIn withWord if_then_else_ _and_ _or_
+unfolding twice does bench front after frontOf someBelow freshOf beginOf stepOf validOf wordsTo lineStep landedAll zeros wordAt setWord offsetAt lengthAt sizeAt gathered wordIn withWord if_then_else_ _and_ _or_
 deque-is-not f = let z : 2 < 1 = f 2 3 (omega arith) refl refl in omega arith
 
 -- nor are the answers
@@ -94,5 +94,5 @@ deque-answers-are-not = answers-are-not 3 refl deque-is-not
 pub wide-front :
     logFront (after (freshOf (setup 3 1 1 1 3) (replicate 4 0) (replicate 40 9) .world) (does 0 (Put (payload 5 6 7 8)) 7 ++ does 0 Take 7))
     ≡ 1 ∷ 0 ∷ 1 ∷ 5 ∷ 6 ∷ 7 ∷ 2 ∷ 0 ∷ 1 ∷ 5 ∷ 6 ∷ 7 ∷ []
-unfolding does after frontOf freshOf beginOf stepOf validOf lineStep landedAll zeros wordAt setWord offsetAt lengthAt sizeAt gathered wordIn withWord if_then_else_ _and_ _or_
+unfolding does after frontOf freshOf beginOf stepOf validOf wordsTo lineStep landedAll zeros wordAt setWord offsetAt lengthAt sizeAt gathered wordIn withWord if_then_else_ _and_ _or_
 wide-front = refl

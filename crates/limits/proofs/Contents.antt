@@ -22,14 +22,13 @@ use Rattle.limits.specs.Parts.{waitsOk}
 use Rattle.limits.proofs.Directory.{shifted}
 
 -- the frame's tests, and the rest x
-pub regroup : (k w v c d l x : Bool) → (k and w and v and c and d and l and x) ≡ ((k and w and v and c and d and l) and x)
+pub regroup : (k w v c d x : Bool) → (k and w and v and c and d and x) ≡ ((k and w and v and c and d) and x)
 unfolding _and_
-regroup false w v c d l x = refl
-regroup true false v c d l x = refl
-regroup true true false c d l x = refl
-regroup true true true false d l x = refl
-regroup true true true true false l x = refl
-regroup true true true true true l x = refl
+regroup false w v c d x = refl
+regroup true false v c d x = refl
+regroup true true false c d x = refl
+regroup true true true false d x = refl
+regroup true true true true d x = refl
 
 -- memory's anchor a, the owner's p, the numbers n, the line's length w, its stores s, and the rest x
 pub stands-not : (a p n w s x : Bool) → (a and n and x) ≡ false → (a and p and n and (w and s) and x) ≡ false

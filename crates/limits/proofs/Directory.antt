@@ -7,14 +7,13 @@ use Prim.Native.Nat.{ℕ, zero, suc, _+_, _-_, _*_, _^_, _%_, _≤_, _<_}
 use native.Mathlib.Nat.{mod-eq-of-lt, eq-or-lt-of-le}
 use native.Mathlib.Omega.{arith}
 use lib.Dec.{eqb}
-use lib.ListN.{length, getD}
+use lib.ListN.{getD}
 use borrow.Author.Tests.{eqb-true, ltb-true, leb-true}
 use Rattle.model.specs.declared.Line.{Line}
 use Rattle.model.specs.declared.Region.{Region}
 use Rattle.model.specs.declared.Queue.{Queue}
 use Rattle.model.specs.Tests.{if_then_else_, _and_}
 use Rattle.model.specs.Memory.{nowhere, offsetAt, lengthAt, sizeAt}
-use Rattle.model.specs.Stores.{taken}
 use Rattle.model.specs.Limits.{tidy, directoryOk}
 use Rattle.ranges.specs.Doubles.{Doubled}
 use Rattle.limits.specs.Parts.{tasksIn, startsOk, followsOk}
@@ -30,30 +29,27 @@ reaches true c p e = let h : c ≡ p + 1 = eqb-true _ _ e in omega arith
 reaches false c p e = let h : c ≡ p = eqb-true _ _ e in omega arith
 
 -- the directory's parts
-pub record Ordered (v : ℕ) (q : Queue) (p : ℕ) (m : List ℕ) : Type 0 where
+pub record Ordered (v : ℕ) (q : Queue) (p : ℕ) : Type 0 where
   pub some : 0 < q .published
   pub few : q .published ≤ p
   pub claimed : p ≤ q .claimed
   pub listed : q .claimed ≤ 11
   pub tidied : tidy v (q .arrays) (q .claimed) ≡ true
-  pub fits : taken q ≤ length m
   pub kept : q .initial ≡ sizeAt v (q .arrays) 0
 
-pub ordered : (v : ℕ) (q : Queue) (p : ℕ) (m : List ℕ) (o : Line) → directoryOk v q p m o ≡ true → Ordered v q p m
-ordered v q p m o e =
+pub ordered : (v : ℕ) (q : Queue) (p : ℕ) (o : Line) → directoryOk v q p o ≡ true → Ordered v q p
+ordered v q p o e =
     let e1 = and-right _ _ e in
     let e2 = and-right _ _ e1 in
     let e3 = and-right _ _ e2 in
     let e4 = and-right _ _ e3 in
-    let e5 = and-right _ _ e4 in
     record {
       some = ltb-true _ _ (and-left _ _ e);
       few = leb-true _ _ (and-left _ _ e1);
       claimed = reaches _ _ _ (and-left _ _ e3);
       listed = leb-true _ _ (and-left _ _ e2);
       tidied = and-left _ _ e4;
-      fits = leb-true _ _ (and-left _ _ e5);
-      kept = eqb-true _ _ (and-right _ _ e5);
+      kept = eqb-true _ _ (and-right _ _ e4);
     }
 
 module _ (v : ℕ) (l : List Region) where
@@ -96,8 +92,8 @@ pub kept : (v : ℕ) (q : Queue) → eqb (q .initial) (tasksIn v (getD (q .array
 unfolding lengthAt sizeAt
 kept v q e = e
 
-pub doubled : (v : ℕ) (q : Queue) (p : ℕ) (m : List ℕ) → Ordered v q p m → Doubled v (q .arrays) (q .claimed) (q .initial)
-doubled v q p m O k h =
+pub doubled : (v : ℕ) (q : Queue) (p : ℕ) → Ordered v q p → Doubled v (q .arrays) (q .claimed) (q .initial)
+doubled v q p O k h =
     let u = tidy-front v (q .arrays) (q .claimed) k (O .tidied) h in
     let d = tidy-kept v (q .arrays) (q .initial) k (O .kept) u in
     (d, subst (λ (x : ℕ). x ≤ 1024) d (size-le (tidy-size v (q .arrays) k u)))

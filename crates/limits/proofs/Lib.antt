@@ -10,3 +10,5 @@ pub mod Contents
 pub mod Asides
 pub mod Current
 pub mod Whole
+pub mod Taken
+pub mod Alone

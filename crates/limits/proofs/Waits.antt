@@ -14,15 +14,17 @@ use Rattle.model.specs.declared.Store.the-variants.{StoreWord, StoreNote, Store
 use Rattle.model.specs.declared.Region.{Region}
 use Rattle.model.specs.Tests.{if_then_else_, _and_}
 use Rattle.model.specs.Memory.{offsetAt, lengthAt, sizeAt}
-use Rattle.model.specs.Stores.{inLine}
+use Rattle.model.specs.Stores.{inLine, taken}
 use Rattle.model.specs.World.{World, memory, ownersView, tagBits, lineAt}
-use Rattle.model.specs.Limits.{directoryOk, storeOk, storesOk, waitingOk, tidy, validOf}
+use Rattle.model.specs.Limits.{directoryOk, storeOk, storesOk, waitingOk, tidy, benchOk}
 use Rattle.model.proofs.Tests.{and-left, and-right, and-both}
 use Rattle.model.proofs.Directory.{size-le, tidy-front, tidy-long, tidy-size}
+use Rattle.model.proofs.Alone.{directory-of}
 use Rattle.slots.proofs.Places.{in-array}
 use Rattle.waiting.specs.Places.{noteOk, notesOk, Placed, AllPlaced}
 use Rattle.waiting.proofs.Words.{arrays-stay, claimed-stays}
-use Rattle.limits.specs.Parts.{lineHeld}
+use Rattle.limits.specs.Parts.{lineHeld, Laid}
+use Rattle.limits.proofs.Bounds.{bounds-of}
 use Rattle.limits.proofs.Directory.{Ordered, ordered, ends-before}
 
 -- eight with the mode, none without it
@@ -51,7 +53,7 @@ notes-in κ w v p (s ∷ l) h e =
     (notes-in κ w v p l h (and-right (storeOk κ w v p s) (storesOk κ w v p l) e))
 
 -- words; the owner reads p, and memory's directory is q's
-module _ (κ : Kind) (w v : ℕ) (q p : Queue) (m : List ℕ) (O : Ordered v q (p .published) m) (arrays : p .arrays ≡ q .arrays) (claimed : p .claimed ≡ q .claimed) where
+module _ (κ : Kind) (w v : ℕ) (q p : Queue) (m : List ℕ) (fits : taken q ≤ length m) (O : Ordered v q (p .published)) (arrays : p .arrays ≡ q .arrays) (claimed : p .claimed ≡ q .claimed) where
   placed : (s : Store) → storeOk κ w v p s ≡ true → Placed v q (length m) s
   placed (StoreWord k t j x) e =
       let e1 = and-right _ _ e in
@@ -63,7 +65,7 @@ module _ (κ : Kind) (w v : ℕ) (q p : Queue) (m : List ℕ) (O : Ordered v q (
       let last : q .claimed ≡ suc (q .claimed - 1) = omega (arith, here) in
       let end : offsetAt (q .arrays) k + lengthAt (q .arrays) k ≤ offsetAt (q .arrays) (q .claimed - 1) + lengthAt (q .arrays) (q .claimed - 1) =
       ends-before v (q .arrays) (q .claimed - 1) k (subst (λ (n : ℕ). tidy v (q .arrays) n ≡ true) last (O .tidied)) (omega (arith, here)) in
-      let inside : offsetAt (q .arrays) k + (v + 1) * sizeAt v (q .arrays) k ≤ length m = omega (arith, end, O .fits, tidy-long v (q .arrays) k front) in (
+      let inside : offsetAt (q .arrays) k + (v + 1) * sizeAt v (q .arrays) k ≤ length m = omega (arith, end, fits, tidy-long v (q .arrays) k front) in (
         omega (arith, here, O .listed),
         omega (arith, t-in, size-le (tidy-size v (q .arrays) k front)),
         j-in,
@@ -81,17 +83,27 @@ module _ (κ : Kind) (w v : ℕ) (q p : Queue) (m : List ℕ) (O : Ordered v q (
       (placed s (and-left (storeOk κ w v p s) (storesOk κ w v p l) e), all-placed l (and-right (storeOk κ w v p s) (storesOk κ w v p l) e))
 
 -- the limits of the directory and of the waiting line
-module _ (W : World) (v : validOf W ≡ true) where
-  pub directory : directoryOk (W .bench .words) (W .bench .queue) (ownersView W .queue .published) (W .store) (lineAt (W .bench .workers) 0) ≡ true
-  unfolding validOf
-  directory = and-left _ _ (and-right _ _ (and-right _ _ (and-right _ _ (and-right _ _ v))))
+module _ (W : World) (v : benchOk (W .bench) (W .bench .queue) (ownersView W .queue) ≡ true) where
+  pub directory : directoryOk (W .bench .words) (W .bench .queue) (ownersView W .queue .published) (lineAt (W .bench .workers) 0) ≡ true
+  directory = directory-of (W .bench) (W .bench .queue) (ownersView W .queue) v
 
   line : waitingOk (W .bench .kind) (tagBits (W .bench)) (W .bench .words) (ownersView W .queue) (W .bench .delayed) (W .bench .waiting) ≡ true
-  unfolding validOf
-  line = and-left _ _ (and-right _ _ (and-right _ _ (and-right _ _ (and-right _ _ (and-right _ _ (and-right _ _ (and-right _ _ (and-right _ _ (and-right _ _ v)))))))))
+  line = and-left _ _ (and-right _ _ (and-right _ _ (and-right _ _ (and-right _ _ (and-right _ _ (and-right _ _ (and-right _ _ (and-right _ _ v))))))))
 
-  pub in-order : Ordered (W .bench .words) (W .bench .queue) (ownersView W .queue .published) (W .store)
-  in-order = ordered (W .bench .words) (W .bench .queue) (ownersView W .queue .published) (W .store) (lineAt (W .bench .workers) 0) directory
+  pub in-order : Ordered (W .bench .words) (W .bench .queue) (ownersView W .queue .published)
+  in-order = ordered (W .bench .words) (W .bench .queue) (ownersView W .queue .published) (lineAt (W .bench .workers) 0) directory
+
+  -- so the words that the arrays take can be told from two of them
+  pub laid : Laid (W .bench .queue)
+  laid =
+      let O = in-order in
+      record {
+        words = W .bench .words;
+        few = bounds-of W v .wide .1;
+        some = omega (arith, O .some, O .few, O .claimed);
+        listed = O .listed;
+        tidied = O .tidied;
+      }
 
   pub waits-few : W .bench .waiting .count ≤ 8
   waits-few = at-most (W .bench .delayed) (W .bench .waiting .count) (and-left _ _ line)
@@ -105,9 +117,10 @@ module _ (W : World) (v : validOf W ≡ true) where
   pub line-held : lineHeld (W .bench .delayed) (W .bench .waiting) ≡ true
   line-held = and-both _ _ (and-left _ _ line) waits-noted
 
-  pub waits-placed : AllPlaced (W .bench .words) (W .bench .queue) (length (W .store)) (inLine (W .bench .waiting))
-  waits-placed =
-      all-placed (W .bench .kind) (tagBits (W .bench)) (W .bench .words) (W .bench .queue) (ownersView W .queue) (W .store) in-order
+  -- in a store that has the arrays
+  pub waits-placed : taken (W .bench .queue) ≤ length (W .store) → AllPlaced (W .bench .words) (W .bench .queue) (length (W .store)) (inLine (W .bench .waiting))
+  waits-placed fits =
+      all-placed (W .bench .kind) (tagBits (W .bench)) (W .bench .words) (W .bench .queue) (ownersView W .queue) (W .store) fits in-order
       (arrays-stay (W .bench .words) (memory W) (inLine (W .bench .waiting)))
       (claimed-stays (W .bench .words) (memory W) (inLine (W .bench .waiting)))
       (inLine (W .bench .waiting)) (and-right _ _ line)

@@ -2,9 +2,8 @@
 use mathlib.Core.Bool.{Bool, true}
 use mathlib.Core.List.{List}
 use mathlib.Core.Path.{_≡_}
-use Prim.Native.Nat.{ℕ, zero, suc, _+_, _*_, _/_}
+use Prim.Native.Nat.{ℕ, zero, suc, _+_, _*_, _/_, _≤_, _<_}
 use lib.Dec.{eqb, ltb, leb}
-use lib.ListN.{length}
 use Rattle.model.specs.declared.Kind.{Kind}
 use Rattle.model.specs.declared.Line.{Line}
 use Rattle.model.specs.declared.Queue.{Queue}
@@ -26,6 +25,7 @@ use Rattle.model.specs.Limits.{
   anchorOk,
   numberOk,
   storesOk,
+  tidy,
   asideOk,
   linksOk,
   ownerOk,
@@ -44,12 +44,12 @@ tasksIn v p = p .length / (v + 1)
 
 -- the directory's first pair
 abbrev pub startsOk : ℕ → Region → Bool
-startsOk v p = eqb (p .offset) 0 and eqb (p .length) ((v + 1) * tasksIn v p) and isSize 10 (tasksIn v p)
+startsOk v p = eqb (p .length) ((v + 1) * tasksIn v p) and isSize 10 (tasksIn v p)
 
 -- a pair, and the one behind it
 abbrev pub followsOk : ℕ → Region → Region → Bool
 followsOk v p n =
-    eqb (n .offset) (p .offset + p .length) and eqb (n .length) (2 * p .length) and leb (2 * tasksIn v p) 1024
+    leb (p .offset + p .length) (n .offset) and eqb (n .length) (2 * p .length) and leb (2 * tasksIn v p) 1024
 
 -- worker i at line l, in a crew of n; thieves read q, the owner p
 abbrev pub memberOk : Kind → ℕ → ℕ → Queue → Queue → ℕ → ℕ → Line → Bool
@@ -65,14 +65,14 @@ workersOk κ w v q p n l (suc k) = ownerOk κ w v p (lineAt l 0) and thievesOk �
 abbrev pub lineHeld : Bool → Waiting → Bool
 lineHeld d l = leb (l .count) (if d then 8 else 0) and notesOk (inLine l)
 
--- the limits on fresh's numbers, on the directory, of which the owner reads n arrays as published, and on the lent memory
-abbrev pub frameOk : Bench → ℕ → List ℕ → List ℕ → Bool
-frameOk b n m l =
+-- the limits on fresh's numbers, and on the directory, of which the owner reads n arrays as published
+abbrev pub frameOk : Bench → ℕ → Bool
+frameOk b n =
     kindOk (b .kind) (b .queue .linked)
     and widthOk (b .width)
     and wordsOk (b .words)
     and crewOk (b .crew)
-    and directoryOk (b .words) (b .queue) n m (lineAt (b .workers) 0) and leb (b .written) (length l)
+    and directoryOk (b .words) (b .queue) n (lineAt (b .workers) 0)
 
 -- the limits that follow those, where the owner reads p: those of what it reads and stores,
 -- and the others
@@ -81,13 +81,21 @@ waitsOk b p =
     anchorOk (b .kind) (tagBits b) (size (b .words) p) (p .anchor)
     and storesOk (b .kind) (tagBits b) (b .words) p (inLine (b .waiting))
 
-abbrev pub contentsOk : Bench → Queue → List ℕ → Bool
-contentsOk b p m =
+abbrev pub contentsOk : Bench → Queue → Bool
+contentsOk b p =
     anchorOk (b .kind) (tagBits b) (size (b .words) (b .queue)) (b .queue .anchor)
     and numberOk (b .used)
-    and asideOk (b .words) p m (lineAt (b .workers) 0) (b .aside)
+    and asideOk (b .words) p (lineAt (b .workers) 0) (b .aside)
     and linksOk (b .kind) (b .queue) (b .workers) 8
     and workersOk (b .kind) (tagBits b) (b .words) (b .queue) p (b .crew) (b .workers) 8
+
+-- a directory in order, of tasks of at most 4 payload words: some of its 11 places are claimed, and tidy
+pub record Laid (q : Queue) : Type 0 where
+  pub words : ℕ
+  pub few : words ≤ 4
+  pub some : 0 < q .claimed
+  pub listed : q .claimed ≤ 11
+  pub tidied : tidy words (q .arrays) (q .claimed) ≡ true
 
 -- R tells of the queue q what a line's limits ask; tasks have v payload words, and f is the first array's size
 abbrev pub Reached : Reach → ℕ → ℕ → Queue → Type 0

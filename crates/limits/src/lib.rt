@@ -2,24 +2,24 @@
 // the definitions take for no foreign ones. A foreign state holds any 32-bit values, so each limit is
 // tested before a later test counts on it, and a sum of two free values is worked out in 64 bits. The owner's lines and waiting
 // stores are held to the queue as it reads it; where none waits that is memory's, and nothing is looked at twice.
-// Uses `model`, `anchors`, `stages`, `admission`, `ranges` and `waiting`. It is used by `opening`, `events` and `queues`, and
-// by proofs of `owner` and `listing`.
+// The limits on one queue, wherever its arrays lie, are apart from those on a queue that has the store for itself.
+// Uses `model`, `anchors`, `slots`, `stages`, `admission`, `ranges` and `waiting`. It is used by `opening`, `events`, `plots` and `queues`,
+// and by proofs of `owner`, `steps` and `listing`.
 ghost use mathlib.Core.Path.{_≡_};
 ghost use mathlib.Core.Bool.{true, false};
 ghost use mathlib.Core.List.{List};
-ghost use Prim.Native.Nat.{ℕ, _+_, _*_, _≤_, _<_};
-ghost use lib.Dec.{eqb, ltb, leb};
-ghost use lib.ListN.{length, getD};
+ghost use Prim.Native.Nat.{ℕ, _+_, _-_, _*_, _≤_, _<_};
+ghost use lib.Dec.{eqb, ltb};
 ghost use Rattle.model.specs.declared.Queue.{Queue};
 ghost use Rattle.model.specs.Tests.{if_then_else_, _and_};
-ghost use Rattle.model.specs.Memory.{nowhere, sizeAt};
+ghost use Rattle.model.specs.Memory.{sizeAt};
 ghost use Rattle.model.specs.Lines.{size};
-ghost use Rattle.model.specs.World.{isIdle, isExpanding};
-ghost use Rattle.model.specs.Stores.{shared, landedAll, inLine, taken};
-ghost use Rattle.model.specs.Limits.{tidy, directoryOk, kindOk, linkOk, linksOk, asideOk, validOf};
+ghost use Rattle.model.specs.World.{ownersView, lineAt, isIdle, isExpanding};
+ghost use Rattle.model.specs.Stores.{shared, landedAll, inLine, wordsTaken};
+ghost use Rattle.model.specs.Limits.{tidy, directoryOk, kindOk, linkOk, linksOk, asideOk, benchOk, aloneOk, validOf};
 ghost use Rattle.model.specs.Calls.{lent};
 ghost use Rattle.ranges.specs.Doubles.{Doubled};
-ghost use Rattle.limits.specs.Parts.{tasksIn, startsOk, followsOk, memberOk, workersOk, lineHeld, frameOk, waitsOk, contentsOk, Reached, Scoped, Seen};
+ghost use Rattle.limits.specs.Parts.{tasksIn, startsOk, followsOk, memberOk, workersOk, lineHeld, frameOk, waitsOk, contentsOk, Laid, Reached, Scoped, Seen};
 use model::Anchor;
 use model::Bench;
 use model::Kind;
@@ -28,15 +28,12 @@ use model::Queue;
 use model::Region;
 use model::Worker;
 
-// The directory's first array starts the store, and has the size that the queue keeps: no length is divided for it.
+// The directory's first array has the size that the queue keeps: no length is divided for it.
 fn starts(words: u32, size: u32, first: Region) -> bool
     requires { ⌜ words ≤ 4 ⌝ }
     ensures { λ r. ⌜ r ≡ (startsOk words first and eqb size (tasksIn words first)) ⌝ }
 {
     let each = words as u64 + 1;
-    if first.offset != 0 {
-        return false;
-    }
     if first.length as u64 != each * size as u64 {
         return false;
     }
@@ -50,7 +47,7 @@ fn follows(words: u32, before: Region, next: Region) -> bool
 {
     let long = before.length as u64;
     let end = before.offset as u64 + long;
-    if next.offset as u64 != end {
+    if (next.offset as u64) < end {
         return false;
     }
     if next.length as u64 != 2 * long {
@@ -89,29 +86,6 @@ fn tidy(words: u32, queue: Queue) -> bool
     true
 }
 
-// A pair of the directory. The first is the commonest, and an index that is a constant copies only that pair.
-fn region_at(queue: Queue, place: u32) -> Region
-    requires { ⌜ place < 11 ⌝ }
-    ensures { λ r. ⌜ r ≡ getD (queue .arrays) place nowhere ⌝ }
-{
-    if place == 0 {
-        return queue.arrays[0];
-    }
-    let i = place as usize;
-    queue.arrays[i]
-}
-
-// The words that they take are in the store.
-fn fits(queue: Queue, store: &[u32]) -> bool
-    requires { ⌜ (0 < queue .claimed) × (queue .claimed ≤ 11) ⌝ }
-    ensures { λ r. ⌜ r ≡ leb (taken queue) (length (now (store .entry))) ⌝ }
-{
-    let place = queue.claimed - 1;
-    let last = region_at(queue, place);
-    let end = last.offset as usize + last.length as usize;
-    end <= store.len()
-}
-
 // An array is claimed and unpublished exactly while the owner expands.
 fn claims_ok(published: u32, claimed: u32, owner: Line) -> bool
     ensures { λ r. ⌜ r ≡ eqb claimed (if isExpanding owner then published + 1 else published) ⌝ }
@@ -124,9 +98,9 @@ fn claims_ok(published: u32, claimed: u32, owner: Line) -> bool
 }
 
 // The owner reads `seen` arrays as published.
-fn directory_ok(words: u32, queue: Queue, seen: u32, store: &[u32], owner: Line) -> bool
+fn directory_ok(words: u32, queue: Queue, seen: u32, owner: Line) -> bool
     requires { ⌜ words ≤ 4 ⌝ }
-    ensures { λ r. ⌜ r ≡ directoryOk words queue seen (now (store .entry)) owner ⌝ }
+    ensures { λ r. ⌜ r ≡ directoryOk words queue seen owner ⌝ }
 {
     let published = queue.published;
     let claimed = queue.claimed;
@@ -142,10 +116,7 @@ fn directory_ok(words: u32, queue: Queue, seen: u32, store: &[u32], owner: Line)
     if !claims_ok(seen, claimed, owner) {
         return false;
     }
-    if !tidy(words, queue) {
-        return false;
-    }
-    fits(queue, store)
+    tidy(words, queue)
 }
 
 // A worker that is not idle is at a line of its own operation: the owner's put or take, a thief's steal.
@@ -366,43 +337,40 @@ fn waits_ok(bench: Bench, view: View) -> bool
     good
 }
 
-// The words set aside, with the owner at line `owner` and a current array of `tasks` tasks, as it reads it: without an ask all but a
-// commit's X1 is in order.
-fn aside_ok(queue: Queue, tasks: u32, aside: u32, owner: Line, store: &[u32]) -> bool
-    requires { ⌜ (0 < queue .claimed) × (queue .claimed ≤ 11) ⌝ }
-    ensures { λ r. ⌜ ((v : ℕ) (p : Queue) → tasks ≡ size v p → p .arrays ≡ queue .arrays → p .claimed ≡ queue .claimed → r ≡ asideOk v p (now (store .entry)) owner aside) ⌝ }
+// The words set aside; the current array, as the owner reads it, has `tasks` tasks. Without an ask only a commit's X1 is out of
+// order.
+fn aside_ok(bench: Bench, tasks: u32) -> bool
+    requires { ⌜ (0 < bench .queue .claimed) × (bench .queue .claimed ≤ 11) ⌝ }
+    ensures { λ r. ⌜ ((p : Queue) → tasks ≡ size (bench .words) p → p .arrays ≡ bench .queue .arrays → p .claimed ≡ bench .queue .claimed → r ≡ asideOk (bench .words) p (lineAt (bench .workers) 0) (bench .aside)) ⌝ }
 {
-    let at = stages::stage(owner);
+    let own = bench.workers[0];
+    let line = own.line;
+    let aside = bench.aside;
+    let at = stages::stage(line);
     if aside == 0 {
         return at != 1;
     }
     if at == 2 {
         return false;
     }
-    let place = queue.claimed - 1;
-    let last = region_at(queue, place);
-    let long = last.length as usize;
-    let more = 2 * long;
-    if aside as usize != more {
+    let place = bench.queue.claimed - 1;
+    let last = slots::region_at(bench.queue, place);
+    let more = 2 * last.length as u64;
+    if aside as u64 != more {
         return false;
     }
-    if 512 < tasks {
-        return false;
-    }
-    let from = last.offset as usize + long;
-    let end = from + more;
-    end <= store.len()
+    2 * tasks as u64 <= 1024
 }
 
 // Memory's anchor, the numbers given out, the words set aside, the links and the workers, over a directory that is in order; the
 // owner reads `seen` arrays as published.
-fn contents_ok(bench: Bench, seen: u32, store: &[u32]) -> bool
+fn contents_ok(bench: Bench, seen: u32) -> bool
     requires { ⌜ (bench .width ≤ 16) × (bench .words ≤ 4) ⌝ }
     requires { ⌜ (0 < bench .queue .published) × (bench .queue .published ≤ seen) ⌝ }
     requires { ⌜ (seen ≤ bench .queue .claimed) × (bench .queue .claimed ≤ 11) ⌝ }
     requires { ⌜ Doubled (bench .words) (bench .queue .arrays) (bench .queue .claimed) (bench .queue .initial) ⌝ }
     requires { ⌜ 0 < bench .crew ⌝ }
-    ensures { λ r. ⌜ ((p : Queue) → p .published ≡ seen → p .arrays ≡ bench .queue .arrays → p .claimed ≡ bench .queue .claimed → r ≡ contentsOk bench p (now (store .entry))) ⌝ }
+    ensures { λ r. ⌜ ((p : Queue) → p .published ≡ seen → p .arrays ≡ bench .queue .arrays → p .claimed ≡ bench .queue .claimed → r ≡ contentsOk bench p) ⌝ }
 {
     let kind = bench.kind;
     let queue = bench.queue;
@@ -419,9 +387,7 @@ fn contents_ok(bench: Bench, seen: u32, store: &[u32]) -> bool
     }
     let last = seen - 1;
     let most = first << last;
-    let own = bench.workers[0];
-    let line = own.line;
-    if !aside_ok(queue, most, bench.aside, line, store) {
+    if !aside_ok(bench, most) {
         return false;
     }
     let memory = Reach {
@@ -446,16 +412,15 @@ fn kind_ok(kind: Kind, linked: bool) -> bool
     }
 }
 
-// The limits before those on what stands in the directory. They are a function of their own so that `valid` branches once for
+// The limits before those on what stands in the directory. They are a function of their own so that `bench_ok` branches once for
 // them: past many early returns a compiler takes the rest for rare, and copies the state for it.
-fn frame_ok(bench: Bench, view: View, store: &[u32], log: &[u32]) -> bool
-    ensures { λ r. ⌜ r ≡ (view .fine and frameOk bench (view .published) (now (store .entry)) (now (log .entry))) ⌝ }
+fn frame_ok(bench: Bench, view: View) -> bool
+    ensures { λ r. ⌜ r ≡ (view .fine and frameOk bench (view .published)) ⌝ }
 {
     let queue = bench.queue;
     let owner = bench.workers[0];
     let line = owner.line;
     let kind = bench.kind;
-    let written = bench.written as usize;
     if !view.fine {
         return false;
     }
@@ -471,25 +436,76 @@ fn frame_ok(bench: Bench, view: View, store: &[u32], log: &[u32]) -> bool
     if !admission::crew_ok(bench.crew) {
         return false;
     }
-    if !directory_ok(bench.words, queue, view.published, store, line) {
-        return false;
-    }
-    written <= log.len()
+    directory_ok(bench.words, queue, view.published, line)
 }
 
-// The state, with the lengths of its lent memory, is no foreign one.
-pub fn valid(bench: Bench, store: &[u32], log: &[u32]) -> bool
-    ensures { λ r. ⌜ r ≡ validOf (lent bench (now (store .entry)) (now (log .entry))) ⌝ }
+// The limits on one queue, wherever in a store its arrays lie. What the owner reads of the queue does not depend on the words of
+// the store.
+pub fn bench_ok(bench: Bench) -> bool
+    ensures { λ r. ⌜ ((m l : List ℕ) → r ≡ benchOk bench (bench .queue) (ownersView (lent bench m l) .queue)) ⌝ }
 {
     let view = owners_view(bench);
-    if !frame_ok(bench, view, store, log) {
+    if !frame_ok(bench, view) {
         return false;
     }
-    if !contents_ok(bench, view.published, store) {
+    if !contents_ok(bench, view.published) {
         return false;
     }
     if bench.waiting.count == 0 {
         return true;
     }
     waits_ok(bench, view)
+}
+
+// The words of arrays that each are twice the one before: a first one short of twice the last.
+fn all_words(first: Region, last: Region) -> u32
+    requires { ⌜ last .length ≤ 5120 ⌝ }
+    requires { ⌜ first .length ≤ 2 * last .length ⌝ }
+    ensures { λ r. ⌜ r ≡ 2 * last .length - first .length ⌝ }
+{
+    2 * last.length - first.length
+}
+
+// The words that the arrays of a directory in order take.
+pub fn words_taken(queue: Queue) -> u32
+    requires { ⌜ Laid queue ⌝ }
+    ensures { λ r. ⌜ r ≡ wordsTaken queue ⌝ }
+{
+    let place = queue.claimed - 1;
+    let first = queue.arrays[0];
+    let last = slots::region_at(queue, place);
+    all_words(first, last)
+}
+
+// A queue that has the store for itself: its arrays lie from word 0 on without a gap, so that the last ends where their words do;
+// and they fit the store's usable words, those set aside counted. The directory is looked at once for both: every look may copy it.
+pub fn alone_ok(bench: Bench, store: &[u32]) -> bool
+    requires { ⌜ Laid (bench .queue) ⌝ }
+    ensures { λ r. ⌜ r ≡ aloneOk bench (now (store .entry)) ⌝ }
+{
+    let queue = bench.queue;
+    let place = queue.claimed - 1;
+    let first = queue.arrays[0];
+    let last = slots::region_at(queue, place);
+    let words = all_words(first, last) as u64;
+    let end = last.offset as u64 + last.length as u64;
+    if words < end {
+        return false;
+    }
+    let all = words + bench.aside as u64;
+    all <= slots::usable(store) as u64
+}
+
+// The state, with the lengths of its lent memory, is no foreign one.
+pub fn valid(bench: Bench, store: &[u32], log: &[u32]) -> bool
+    ensures { λ r. ⌜ r ≡ validOf (lent bench (now (store .entry)) (now (log .entry))) ⌝ }
+{
+    let written = bench.written as usize;
+    if !bench_ok(bench) {
+        return false;
+    }
+    if log.len() < written {
+        return false;
+    }
+    alone_ok(bench, store)
 }

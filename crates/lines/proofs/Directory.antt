@@ -6,7 +6,6 @@ use mathlib.Core.List.{List}
 use Prim.Native.Nat.{ℕ, zero, suc, _+_, _-_, _*_, _^_, _≤_, _<_}
 use native.Mathlib.Omega.{arith}
 use native.Mathlib.Nat.{pow-succ', eq-or-lt-of-le}
-use lib.ListN.{length}
 use borrow.Author.Tests.{eqb-true, leb-true, ltb-true}
 use Rattle.model.specs.declared.Line.{Line}
 use Rattle.model.specs.declared.Region.{Region}
@@ -26,19 +25,17 @@ pub record Laid (v : ℕ) (l : List Region) (m k : ℕ) : Type 0 where
   pub large : 2 ^ k ≤ sizeAt v l k
   pub small : sizeAt v l k ≤ 1024
   pub long : lengthAt l k ≡ (v + 1) * sizeAt v l k
-  pub near : offsetAt l k ≤ lengthAt l k
   pub grows : sizeAt v l k ≤ sizeAt v l m
   pub ends : offsetAt l k + lengthAt l k ≤ offsetAt l m + lengthAt l m
 
 first : (v : ℕ) (l : List Region) → tidy v l 1 ≡ true → Laid v l 0 0
 first v l t =
-    let (o, S) = tidy-start v l t in
+    let S = tidy-start v l t in
     record {
       power = S;
       large = size-pos S;
       small = size-le S;
       long = tidy-long v l 0 t;
-      near = omega (arith, o);
       grows = omega arith;
       ends = omega arith;
     }
@@ -55,7 +52,6 @@ module _ (v : ℕ) (l : List Region) (m : ℕ) (t : tidy v l (suc (suc m)) ≡ t
         large = L .large;
         small = L .small;
         long = L .long;
-        near = L .near;
         grows = omega (arith, tidy-twice v l m t, L .grows);
         ends = omega (arith, next .place, L .ends);
       }
@@ -67,7 +63,6 @@ module _ (v : ℕ) (l : List Region) (m : ℕ) (t : tidy v l (suc (suc m)) ≡ t
         large = omega (arith, tidy-twice v l m t, L .large, pow-succ' 2 m);
         small = omega (arith, tidy-twice v l m t, next .small);
         long = tidy-long v l (suc m) t;
-        near = omega (arith, next .place, next .longer, L .near);
         grows = omega arith;
         ends = omega arith;
       }
@@ -98,20 +93,20 @@ grown true p = omega arith
 grown false p = omega arith
 
 -- q is the queue in memory, r as the worker reads it; p arrays are published for the owner, which is at line o
-module _ (v : ℕ) (q : Queue) (p : ℕ) (m : List ℕ) (o : Line) (t : directoryOk v q p m o ≡ true) where
+module _ (v : ℕ) (q : Queue) (p : ℕ) (o : Line) (t : directoryOk v q p o ≡ true) where
   pub told : q .claimed ≡ (if isExpanding o then p + 1 else p)
   told = eqb-true _ _ (and-left _ _ (and-right _ _ (and-right _ _ (and-right _ _ t))))
 
   pub in-memory : (0 < q .published) × (q .published ≤ p)
   in-memory = (ltb-true _ _ (and-left _ _ t), leb-true _ _ (and-left _ _ (and-right _ _ t)))
 
-  pub arrays-of : (r : Queue) → Same r q → 0 < r .published → r .published ≤ p → Arrays v r (length m)
-  arrays-of r S some few =
+  pub arrays-of : (n : ℕ) → taken q ≤ n → (r : Queue) → Same r q → 0 < r .published → r .published ≤ p → Arrays v r n
+  arrays-of n ends r S some few =
       let t2 = and-right _ _ (and-right _ _ t) in
       let t4 = and-right _ _ (and-right _ _ t2) in
       let tidied : tidy v (r .arrays) (r .claimed) ≡ true = rw (S .arrays, S .claimed) (and-left _ _ t4) in
-      let fits : taken r ≤ length m = rw (S .arrays, S .claimed) (leb-true _ _ (and-left _ _ (and-right _ _ t4))) in
-      let kept : r .initial ≡ sizeAt v (r .arrays) 0 = rw (S .arrays, S .initial) (eqb-true _ _ (and-right _ _ (and-right _ _ t4))) in
+      let fits : taken r ≤ n = rw (S .arrays, S .claimed) ends in
+      let kept : r .initial ≡ sizeAt v (r .arrays) 0 = rw (S .arrays, S .initial) (eqb-true _ _ (and-right _ _ t4)) in
       let b : r .published ≤ r .claimed = omega (arith, few, S .claimed, told, grown (isExpanding o) p) in
       let one : r .claimed ≡ suc (r .claimed - 1) = omega (arith, some, b) in
       let last = subst (λ (x : ℕ). tidy v (r .arrays) x ≡ true) one tidied in

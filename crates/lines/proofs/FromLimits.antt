@@ -1,4 +1,4 @@
--- The limits give what a line needs: in a valid state each worker of the crew can do its line, and what it reads and writes
+-- The limits give what a line needs: in a state within them each worker of the crew can do its line, and what it reads and writes
 -- lies in the store.
 use mathlib.Core.Bool.{Bool, true, false, not, true≢false}
 use mathlib.Core.Path.{_≡_, refl, sym, subst, _∙_}
@@ -40,12 +40,13 @@ use Rattle.model.specs.declared.Line.the-variants.{
   StealCompare,
 }
 use Rattle.model.specs.declared.Queue.{Queue}
+use Rattle.model.specs.declared.Room.{Room}
 use Rattle.model.specs.declared.Worker.{Worker}
 use Rattle.model.specs.declared.Bench.{Bench}
 use Rattle.model.specs.Tests.{if_then_else_, _and_, _or_}
 use Rattle.model.specs.Memory.{sizeAt}
 use Rattle.model.specs.Figures.{slot, putIndex, takeIndex, stealIndex}
-use Rattle.model.specs.Stores.{inLine}
+use Rattle.model.specs.Stores.{inLine, taken}
 use Rattle.model.specs.Lines.{size, holdsLink}
 use Rattle.model.specs.World.{World, memory, ownersView, viewOf, tagBits, lineAt, isPast1, isExpanding, isThiefs}
 use Rattle.model.specs.Limits.{
@@ -67,7 +68,7 @@ use Rattle.model.specs.Limits.{
   linksOk,
   thievesOk,
   waitingOk,
-  validOf,
+  Within,
 }
 use Rattle.figures.specs.Bounds.{Ordered}
 use Rattle.slots.specs.Bounds.{Wide, Inside}
@@ -78,11 +79,11 @@ use Rattle.lines.proofs.Views.{same-self, view-same}
 use Rattle.lines.proofs.Directory.{Laid, Arrays, told, in-memory, arrays-of}
 
 -- the limits' parts that bound a line: q is the queue in memory, p as the owner reads it
-pub record Limits (b : Bench) (q p : Queue) (m : List ℕ) : Type 0 where
+pub record Limits (b : Bench) (q p : Queue) : Type 0 where
   pub width : widthOk (b .width) ≡ true
   pub words : wordsOk (b .words) ≡ true
   pub crew : crewOk (b .crew) ≡ true
-  pub directory : directoryOk (b .words) q (p .published) m (lineAt (b .workers) 0) ≡ true
+  pub directory : directoryOk (b .words) q (p .published) (lineAt (b .workers) 0) ≡ true
   pub memory : anchorOk (b .kind) (tagBits b) (size (b .words) q) (q .anchor) ≡ true
   pub seen : anchorOk (b .kind) (tagBits b) (size (b .words) p) (p .anchor) ≡ true
   pub waiting : waitingOk (b .kind) (tagBits b) (b .words) p (b .delayed) (b .waiting) ≡ true
@@ -90,52 +91,51 @@ pub record Limits (b : Bench) (q p : Queue) (m : List ℕ) : Type 0 where
   pub owner : ownerOk (b .kind) (tagBits b) (b .words) p (lineAt (b .workers) 0) ≡ true
   pub thieves : thievesOk (b .kind) (tagBits b) (b .words) q (b .crew) (b .workers) 7 ≡ true
 
-pub limits-of : (W : World) → validOf W ≡ true → Limits (W .bench) (W .bench .queue) (ownersView W .queue) (W .store)
-unfolding validOf
+pub limits-of : {ρ : Room} (W : World) → Within ρ W → Limits (W .bench) (W .bench .queue) (ownersView W .queue)
 limits-of W v =
-    let v1 = and-right _ _ v in
+    let v1 = and-right _ _ (v .limits) in
     let v2 = and-right _ _ v1 in
     let v3 = and-right _ _ v2 in
     let v4 = and-right _ _ v3 in
-    let v6 = and-right _ _ (and-right _ _ v4) in
-    let v7 = and-right _ _ v6 in
-    let v9 = and-right _ _ (and-right _ _ v7) in
-    let v10 = and-right _ _ (and-right _ _ v9) in
+    let v5 = and-right _ _ v4 in
+    let v6 = and-right _ _ v5 in
+    let v8 = and-right _ _ (and-right _ _ v6) in
+    let v10 = and-right _ _ (and-right _ _ v8) in
     let v11 = and-right _ _ v10 in
     record {
       width = and-left _ _ v1;
       words = and-left _ _ v2;
       crew = and-left _ _ v3;
       directory = and-left _ _ v4;
-      memory = and-left _ _ v6;
-      seen = and-left _ _ v7;
-      waiting = and-left _ _ v9;
+      memory = and-left _ _ v5;
+      seen = and-left _ _ v6;
+      waiting = and-left _ _ v8;
       links = and-left _ _ v10;
       owner = and-left _ _ v11;
       thieves = and-right _ _ v11;
     }
 
 -- the anchor read, by the kind
-abbrev Within : Kind → ℕ → Anchor → Type 0
-Within Lifo z r = (r .head ≡ 0) × (r .count ≤ z)
-Within Fifo z r = (r .head ≤ r .count) × (r .count ≤ 65535)
-Within Deque z r = (r .head < 2048) × (r .count ≤ z)
+abbrev Spans : Kind → ℕ → Anchor → Type 0
+Spans Lifo z r = (r .head ≡ 0) × (r .count ≤ z)
+Spans Fifo z r = (r .head ≤ r .count) × (r .count ≤ 65535)
+Spans Deque z r = (r .head < 2048) × (r .count ≤ z)
 
-within : (κ : Kind) (w z : ℕ) (r : Anchor) → readOk κ w z r ≡ true → Within κ z r
-within Lifo w z r e = (eqb-true _ _ (and-left _ _ e), leb-true _ _ (and-left _ _ (and-right _ _ e)))
-within Fifo w z r e = (leb-true _ _ (and-left _ _ e), leb-true _ _ (and-left _ _ (and-right _ _ e)))
-within Deque w z r e = (ltb-true _ _ (and-left _ _ e), leb-true _ _ (and-left _ _ (and-right _ _ e)))
+spans : (κ : Kind) (w z : ℕ) (r : Anchor) → readOk κ w z r ≡ true → Spans κ z r
+spans Lifo w z r e = (eqb-true _ _ (and-left _ _ e), leb-true _ _ (and-left _ _ (and-right _ _ e)))
+spans Fifo w z r e = (leb-true _ _ (and-left _ _ e), leb-true _ _ (and-left _ _ (and-right _ _ e)))
+spans Deque w z r e = (ltb-true _ _ (and-left _ _ e), leb-true _ _ (and-left _ _ (and-right _ _ e)))
 
 -- the anchor now is one that could be read
-now-read : (κ : Kind) (w z : ℕ) (a : Anchor) → anchorOk κ w z a ≡ true → Within κ z a
-now-read κ w z a e = within κ w z a (and-left _ _ e)
+now-read : (κ : Kind) (w z : ℕ) (a : Anchor) → anchorOk κ w z a ≡ true → Spans κ z a
+now-read κ w z a e = spans κ w z a (and-left _ _ e)
 
-in-range : (κ : Kind) (z : ℕ) (r : Anchor) → z ≤ 1024 → Within κ z r → Range r
+in-range : (κ : Kind) (z : ℕ) (r : Anchor) → z ≤ 1024 → Spans κ z r → Range r
 in-range Lifo z r b e = omega (arith, b, e)
 in-range Fifo z r b e = omega (arith, b, e)
 in-range Deque z r b e = omega (arith, b, e)
 
-ordered : (κ : Kind) (z : ℕ) (a : Anchor) → Within κ z a → Ordered κ a
+ordered : (κ : Kind) (z : ℕ) (a : Anchor) → Spans κ z a → Ordered κ a
 unfolding Ordered
 ordered Lifo z a e = tt
 ordered Fifo z a e = e .0
@@ -147,7 +147,7 @@ put-slot Lifo z r b e = ltb-true _ _ e
 put-slot Fifo z r b e = mod-lt _ b
 put-slot Deque z r b e = mod-lt _ b
 
-take-slot : (κ : Kind) (z : ℕ) (r : Anchor) → 0 < z → Within κ z r → someOk κ r ≡ true → slot κ z (takeIndex κ r) < z
+take-slot : (κ : Kind) (z : ℕ) (r : Anchor) → 0 < z → Spans κ z r → someOk κ r ≡ true → slot κ z (takeIndex κ r) < z
 take-slot Lifo z r b e f = let g : 0 < r .count = ltb-true _ _ f in omega (arith, e, g)
 take-slot Fifo z r b e f = mod-lt _ b
 take-slot Deque z r b e f = mod-lt _ b
@@ -183,7 +183,7 @@ module _ (κ : Kind) (w v : ℕ) (q : Queue) (n : ℕ) (A : Arrays v q n) where
       (omega (arith, A .listed, h), omega (arith, pow-pos k, L .large), omega (arith, L .ends, L .long, A .fits))
 
   range : (r : Anchor) → readOk κ w (size v q) r ≡ true → Range r
-  range r e = in-range κ (size v q) r (here .small) (within κ w (size v q) r e)
+  range r e = in-range κ (size v q) r (here .small) (spans κ w (size v q) r e)
 
   lies : (k i : ℕ) → k < q .claimed → slot κ (sizeAt v (q .arrays) k) i < sizeAt v (q .arrays) k → Lies κ v q n k i
   lies k i h s = let t = there k h in let L = A .stands k h in let (e, few, z) = L .power in (t .0, ((A .doubled k h, L .small), (e, z), s), t .2)
@@ -201,7 +201,7 @@ module _ (κ : Kind) (w v : ℕ) (q : Queue) (n : ℕ) (A : Arrays v q n) where
       → Range r × (someOk κ r ≡ true) × Lies κ v q n (q .published - 1) (takeIndex κ r)
   take-ready r e f =
       let h : q .published - 1 < q .claimed = omega (arith, A .some, A .behind) in
-      (range r e, f, lies _ _ h (take-slot κ (size v q) r (there _ h .1) (within κ w (size v q) r e) f))
+      (range r e, f, lies _ _ h (take-slot κ (size v q) r (there _ h .1) (spans κ w (size v q) r e) f))
 
   steal-ready : (r : Anchor) (k : ℕ) → readOk κ w (size v q) r ≡ true → someOk κ r ≡ true → placeOk κ v q r k ≡ true
       → Range r × (someOk κ r ≡ true) × Lies κ v q n k (stealIndex κ r)
@@ -302,65 +302,68 @@ link-of κ q l (suc k) i t h e = go (eq-or-lt-of-le h) (λ j. link-of κ q l k i
         held y = let z : linkOk κ q (lineAt l i) ≡ true = rw e at y in (and-left _ _ z, and-left _ _ (and-right _ _ z))
     go (inr j) f = f (omega (arith, j))
 
--- of a valid state: the anchor and the directory, as worker i reads them
-module _ (W : World) (v : validOf W ≡ true) where
-  anchored : (i : ℕ) → Within (W .bench .kind) (size (W .bench .words) (viewOf W i .queue)) (viewOf W i .queue .anchor)
+-- of a state within the limits: the anchor and the directory, as worker i reads them
+module _ {ρ : Room} (W : World) (v : Within ρ W) where
+  anchored : (i : ℕ) → Spans (W .bench .kind) (size (W .bench .words) (viewOf W i .queue)) (viewOf W i .queue .anchor)
   anchored zero = now-read (W .bench .kind) (tagBits (W .bench)) _ _ (limits-of W v .seen)
   anchored (suc i) = now-read (W .bench .kind) (tagBits (W .bench)) _ _ (limits-of W v .memory)
 
-  abbrev directory : directoryOk (W .bench .words) (W .bench .queue) (ownersView W .queue .published) (W .store) (lineAt (W .bench .workers) 0) ≡ true
+  abbrev directory : directoryOk (W .bench .words) (W .bench .queue) (ownersView W .queue .published) (lineAt (W .bench .workers) 0) ≡ true
   directory = limits-of W v .directory
 
   abbrev shared-directory : (0 < W .bench .queue .published) × (W .bench .queue .published ≤ ownersView W .queue .published)
-  shared-directory = in-memory (W .bench .words) (W .bench .queue) (ownersView W .queue .published) (W .store) (lineAt (W .bench .workers) 0) directory
+  shared-directory = in-memory (W .bench .words) (W .bench .queue) (ownersView W .queue .published) (lineAt (W .bench .workers) 0) directory
+
+  ends : taken (W .bench .queue) ≤ length (W .store)
+  ends = omega (arith, v .behind, v .inside)
 
   arrayed : (i : ℕ) → Arrays (W .bench .words) (viewOf W i .queue) (length (W .store))
   arrayed zero =
       let (some, few) = shared-directory in
-      arrays-of (W .bench .words) (W .bench .queue) (ownersView W .queue .published) (W .store) (lineAt (W .bench .workers) 0) directory (ownersView W .queue) (view-same (W .bench .words) (memory W) (inLine (W .bench .waiting)))
+      arrays-of (W .bench .words) (W .bench .queue) (ownersView W .queue .published) (lineAt (W .bench .workers) 0) directory (length (W .store)) ends (ownersView W .queue) (view-same (W .bench .words) (memory W) (inLine (W .bench .waiting)))
       (omega (arith, some, few)) (omega arith)
-  arrayed (suc i) = let (some, few) = shared-directory in arrays-of (W .bench .words) (W .bench .queue) (ownersView W .queue .published) (W .store) (lineAt (W .bench .workers) 0) directory (W .bench .queue) (same-self (W .bench .queue)) some few
+  arrayed (suc i) = let (some, few) = shared-directory in arrays-of (W .bench .words) (W .bench .queue) (ownersView W .queue .published) (lineAt (W .bench .workers) 0) directory (length (W .store)) ends (W .bench .queue) (same-self (W .bench .queue)) some few
 
   -- what every line needs
-  pub narrow-of-valid : W .bench .width ≤ 16
-  narrow-of-valid = leb-true _ _ (and-right _ _ (limits-of W v .width))
+  pub narrow-within : W .bench .width ≤ 16
+  narrow-within = leb-true _ _ (and-right _ _ (limits-of W v .width))
 
-  pub crew-of-valid : (0 < W .bench .crew) × (W .bench .crew ≤ 8)
-  crew-of-valid = (ltb-true _ _ (and-left _ _ (limits-of W v .crew)), leb-true _ _ (and-right _ _ (limits-of W v .crew)))
+  pub crew-within : (0 < W .bench .crew) × (W .bench .crew ≤ 8)
+  crew-within = (ltb-true _ _ (and-left _ _ (limits-of W v .crew)), leb-true _ _ (and-right _ _ (limits-of W v .crew)))
 
   -- the waiting line has eight places, and without the mode none waits
-  pub few-of-valid : W .bench .waiting .count ≤ 8
+  pub few-within : W .bench .waiting .count ≤ 8
   unfolding if_then_else_
-  few-of-valid = by (W .bench .delayed) (leb-true _ _ (and-left _ _ (limits-of W v .waiting)))
+  few-within = by (W .bench .delayed) (leb-true _ _ (and-left _ _ (limits-of W v .waiting)))
     where
       by : (d : Bool) → W .bench .waiting .count ≤ (if d then 8 else 0) → W .bench .waiting .count ≤ 8
       by true h = h
       by false h = omega (arith, h)
 
-  pub none-of-valid : W .bench .delayed ≡ false → W .bench .waiting .count ≡ 0
-  none-of-valid e =
+  pub none-within : W .bench .delayed ≡ false → W .bench .waiting .count ≡ 0
+  none-within e =
       let h : W .bench .waiting .count ≤ (if W .bench .delayed then 8 else 0) = leb-true _ _ (and-left _ _ (limits-of W v .waiting)) in
       let n : _≡_ {A = ℕ} (if W .bench .delayed then 8 else 0) 0 = if-false 8 e in omega (arith, h, n)
 
   -- a link is held in a linked queue, past line 1 of a steal
-  pub link-of-valid : (i : ℕ) → i < 8 → holdsLink (W .bench .queue) i ≡ true
+  pub link-within : (i : ℕ) → i < 8 → holdsLink (W .bench .queue) i ≡ true
       → (W .bench .queue .linked ≡ true) × (isPast1 (lineAt (W .bench .workers) i) ≡ true)
-  link-of-valid i h e = link-of (W .bench .kind) (W .bench .queue) (W .bench .workers) 8 i (limits-of W v .links) h e
+  link-within i h e = link-of (W .bench .kind) (W .bench .queue) (W .bench .workers) 8 i (limits-of W v .links) h e
 
-  pub wide-of-valid : Wide (W .bench .words)
-  wide-of-valid = (ltb-true _ _ (and-left _ _ (limits-of W v .words)), leb-true _ _ (and-right _ _ (limits-of W v .words)))
+  pub wide-within : Wide (W .bench .words)
+  wide-within = (ltb-true _ _ (and-left _ _ (limits-of W v .words)), leb-true _ _ (and-right _ _ (limits-of W v .words)))
 
-  pub ground-of-valid : (i : ℕ) → Ground (W .bench .words) (viewOf W i .queue) (length (W .store))
-  ground-of-valid i =
+  pub ground-within : (i : ℕ) → Ground (W .bench .words) (viewOf W i .queue) (length (W .store))
+  ground-within i =
       let b = W .bench in
       let q = viewOf W i .queue in
       let A = arrayed i in
       let h = here (b .kind) (tagBits b) (b .words) q (length (W .store)) A in
       let r = in-range (b .kind) (size (b .words) q) (q .anchor) (h .small) (anchored i) in
-      let most = most-words (b .words) (size (b .words) q) (wide-of-valid .1) (h .small) in
+      let most = most-words (b .words) (size (b .words) q) (wide-within .1) (h .small) in
       let brief : len q ≤ 5120 = omega (arith, h .long, most) in
       record {
-        wide = wide-of-valid;
+        wide = wide-within;
         some = A .some;
         listed = omega (arith, A .behind, A .listed);
         head = r .0;
@@ -368,7 +371,6 @@ module _ (W : World) (v : validOf W ≡ true) where
         small = h .small;
         doubled = A .doubled (q .published - 1) (omega (arith, A .some, A .behind));
         brief = brief;
-        near = omega (arith, h .near, brief);
         inside = omega (arith, h .ends, A .fits);
       }
 
@@ -378,18 +380,18 @@ module _ (W : World) (v : validOf W ≡ true) where
       × (isThiefs (lineAt (W .bench .workers) i) ≡ false → Told (viewOf W i .queue) (lineAt (W .bench .workers) i))
   line-ok zero c =
       let S = view-same (W .bench .words) (memory W) (inLine (W .bench .waiting)) in
-      (and-right _ _ (limits-of W v .owner), λ x. S .claimed ∙ told (W .bench .words) (W .bench .queue) (ownersView W .queue .published) (W .store) (lineAt (W .bench .workers) 0) directory)
+      (and-right _ _ (limits-of W v .owner), λ x. S .claimed ∙ told (W .bench .words) (W .bench .queue) (ownersView W .queue .published) (lineAt (W .bench .workers) 0) directory)
   line-ok (suc i) c =
       let b = W .bench in
-      let n = crew-of-valid .1 in
+      let n = crew-within .1 in
       let s = limits-of W v .thieves in
       let t = thief-of (b .kind) (tagBits b) (b .words) (b .queue) (b .crew) (b .workers) 7 i s (omega (arith, n, c)) c in
       (and-right _ _ t, λ x. absurd (true≢false (sym (and-left _ _ t) ∙ x)))
 
   -- what the line of worker i needs
-  pub ready-of-valid : (i : ℕ) → i < W .bench .crew
+  pub ready-within : (i : ℕ) → i < W .bench .crew
       → Ready (W .bench .kind) (W .bench .words) (viewOf W i .queue) (length (W .store)) (lineAt (W .bench .workers) i)
-  ready-of-valid i c =
+  ready-within i c =
       let b = W .bench in
       let q = viewOf W i .queue in
       ready (b .kind) (tagBits b) (b .words) q (length (W .store)) (arrayed i) (lineAt (b .workers) i)

@@ -1,13 +1,11 @@
 -- What the owner reads: its waiting stores leave the directory's pairs as they are, and without the mode none waits.
-use mathlib.Core.Path.{_≡_, refl, ap, _∙_}
+use mathlib.Core.Path.{_≡_, refl, _∙_}
 use mathlib.Core.List.{List, [], _∷_}
 use Prim.Native.Nat.{ℕ}
 use Rattle.model.specs.declared.Store.{Store}
 use Rattle.model.specs.declared.Store.the-variants.{StoreWord, StoreNote, StorePut, StoreOut, StoreHead, StoreTail}
-use Rattle.model.specs.declared.Waiting.{Waiting}
 use Rattle.model.specs.declared.Queue.{Queue}
-use Rattle.model.specs.Stores.{Shared, landed, landedAll, inLine}
-use Rattle.model.specs.World.{World, memory, ownersView}
+use Rattle.model.specs.Stores.{Shared, landed, landedAll}
 
 -- two queues with one directory, as far as it is claimed
 pub record Same (p q : Queue) : Type 0 where
@@ -40,11 +38,3 @@ pub view-same : (v : ℕ) (S : Shared) (l : List Store) → Same (landedAll v S 
 unfolding landedAll
 view-same v S [] = same-self (S .queue)
 view-same v S (s ∷ l) = same-on (view-same v (landed v S s) l) (landed-same v S s)
-
--- where none waits the owner reads memory
-pub none-in-line : (s : Waiting) → s .count ≡ 0 → inLine s ≡ []
-none-in-line s e = rw e
-
-pub reads-memory : (W : World) → W .bench .waiting .count ≡ 0 → ownersView W ≡ memory W
-unfolding landedAll
-reads-memory W e = ap (landedAll (W .bench .words) (memory W)) (none-in-line (W .bench .waiting) e)

@@ -34,13 +34,14 @@ use Rattle.model.specs.declared.Line.the-variants.{
   StealCompare,
 }
 use Rattle.model.specs.declared.Queue.{Queue}
+use Rattle.model.specs.declared.Room.{Room}
 use Rattle.model.specs.declared.Answer.{Answer}
 use Rattle.model.specs.declared.Answer.the-variants.{GoesOn}
 use Rattle.model.specs.Tasks.{wordIn}
 use Rattle.model.specs.Memory.{offsetAt, lengthAt}
 use Rattle.model.specs.Answers.{ends}
 use Rattle.model.specs.Figures.{putIndex, takeIndex, stealIndex}
-use Rattle.model.specs.Stores.{taken, nextLength}
+use Rattle.model.specs.Stores.{nextLength}
 use Rattle.model.specs.Lines.{Effect, size}
 use Rattle.model.specs.Limits.{someOk}
 use Rattle.figures.specs.Bounds.{Ordered}
@@ -83,9 +84,20 @@ answerBy (Claims a z) = GoesOn
 answerBy (Stops x) = x
 answerBy (Ends s x) = x
 
--- the action is what the line does
-pub record Does (v : ℕ) (E : Effect) (d : Action) : Type 0 where
+-- an array that it claims lies at the room's next free word
+unfoldable pub PlacedIn : Room → Action → Type 0
+PlacedIn ρ Nothing = Unit {0}
+PlacedIn ρ Fails = Unit {0}
+PlacedIn ρ (Stores s) = Unit {0}
+PlacedIn ρ (Copies k t u) = Unit {0}
+PlacedIn ρ (Claims a z) = a ≡ ρ .next
+PlacedIn ρ (Stops x) = Unit {0}
+PlacedIn ρ (Ends s x) = Unit {0}
+
+-- the action is what the line does, where X1 finds the room ρ
+pub record Does (ρ : Room) (v : ℕ) (E : Effect) (d : Action) : Type 0 where
   pub claims : claimsBy d ≡ E .claims
+  pub place : PlacedIn ρ d
   pub stores : storesBy v d ≡ E .stores
   pub answer : answerBy d ≡ E .answer
 
@@ -109,9 +121,8 @@ Lands v q n (StoreOut a) = ⊥
 Lands v q n (StoreHead h) = ⊥
 Lands v q n (StoreTail t) = ⊥
 
--- a claimed range is the one that X1 claims, it lies in a store of n words, and its pair in the directory
+-- a claimed range is as long as X1's, it lies in a store of n words, and its pair in the directory
 pub record Claimable (q : Queue) (n a z : ℕ) : Type 0 where
-  pub from : a ≡ taken q
   pub long : z ≡ nextLength q
   pub inside : a + z ≤ n
   pub listed : q .claimed < 11
@@ -152,7 +163,6 @@ pub record Ground (v : ℕ) (q : Queue) (n : ℕ) : Type 0 where
   pub small : size v q ≤ 1024
   pub doubled : size v q ≡ q .initial * 2 ^ (q .published - 1)
   pub brief : len q ≤ 5120
-  pub near : off q ≤ 10235
   pub inside : off q + len q ≤ n
 
 -- an anchor read, in range

@@ -4,11 +4,12 @@
 ghost use mathlib.Core.Path.{_≡_};
 ghost use mathlib.Core.Bool.{true, false, not};
 ghost use mathlib.Core.List.{List, [], _∷_};
-ghost use Prim.Native.Nat.{ℕ, _-_, _*_, _^_, _≤_, _<_};
+ghost use Prim.Native.Nat.{ℕ, _+_, _-_, _*_, _^_, _≤_, _<_};
 ghost use lib.ListN.{length};
 ghost use Rattle.model.specs.declared.Line.{Line};
 ghost use Rattle.model.specs.declared.Line.the-variants.{TakeWord, StealWord};
 ghost use Rattle.model.specs.declared.Queue.{Queue};
+ghost use Rattle.model.specs.declared.Room.{Room};
 ghost use Rattle.model.specs.declared.Store.{Store};
 ghost use Rattle.model.specs.declared.Store.the-variants.{StoreNote};
 ghost use Rattle.model.specs.Tasks.{noTask};
@@ -22,6 +23,7 @@ use model::Growth;
 use model::Kind;
 use model::Line;
 use model::Queue;
+use model::Room;
 use model::Store;
 use model::Task;
 
@@ -72,7 +74,7 @@ fn past_empty(kind: Kind, read: Anchor, next: Line) -> Line
 
 // The test for EMPTY: the operation ends, or nothing.
 fn stop_empty(kind: Kind, worker: u32, read: Anchor) -> Action
-    ensures { λ r. ⌜ ((v : ℕ) (l : Line) → Does v (unlessEmpty kind worker read l) r) ⌝ }
+    ensures { λ r. ⌜ ((ρ : Room) (v : ℕ) (l : Line) → Does ρ v (unlessEmpty kind worker read l) r) ⌝ }
     ensures { λ r. ⌜ ((v : ℕ) (q : Queue) (n : ℕ) → Doable v q n r) ⌝ }
     ensures { λ r. ⌜ failsBy r ≡ false ⌝ }
 {
@@ -116,7 +118,7 @@ fn past_compare(kind: Kind, queue: Queue, worker: u32, read: Anchor) -> Line
 fn compare(kind: Kind, queue: Queue, worker: u32, read: Anchor, next: u32, task: Task) -> Action
     requires { ⌜ Range read ⌝ }
     requires { ⌜ someOk kind read ≡ true ⌝ }
-    ensures { λ r. ⌜ ((v : ℕ) → Does v (compares kind queue worker read next task) r) ⌝ }
+    ensures { λ r. ⌜ ((ρ : Room) (v : ℕ) → Does ρ v (compares kind queue worker read next task) r) ⌝ }
     ensures { λ r. ⌜ ((v n : ℕ) → Doable v queue n r) ⌝ }
     ensures { λ r. ⌜ failsBy r ≡ not (succeeds kind queue worker read) ⌝ }
 {
@@ -142,35 +144,34 @@ fn task_for(why: Growth) -> Task
 }
 
 // X1: to X2, or idle.
-fn past_claim(queue: Queue, store: &[u32], why: Growth) -> Line
+fn past_claim(room: Room, queue: Queue, why: Growth) -> Line
     requires { ⌜ (0 < queue .published) × (queue .published ≤ 11) ⌝ }
     requires { ⌜ queue .initial * 2 ^ (queue .published - 1) ≤ 1024 ⌝ }
     requires { ⌜ Small queue (queue .published - 1) ⌝ }
     requires { ⌜ queue .claimed ≡ queue .published ⌝ }
-    ensures { λ r. ⌜ ((v i : ℕ) → Sized v queue (queue .published - 1) → r ≡ grows v queue (now (store .entry)) i why .line) ⌝ }
+    ensures { λ r. ⌜ ((v i : ℕ) → Sized v queue (queue .published - 1) → r ≡ grows room v queue i why .line) ⌝ }
 {
-    let room = slots::has_room(queue, store);
-    if room { Line::Note { why } } else { Line::Idle }
+    let fits = slots::has_room(queue, room.left);
+    if fits { Line::Note { why } } else { Line::Idle }
 }
 
-// X1: an array twice as long as the current one, behind it; where that does not fit, FULL.
-fn claim(queue: Queue, store: &[u32], worker: u32, why: Growth) -> Action
+// X1: an array twice as long as the current one, at the next free word; where that does not fit, FULL.
+fn claim(room: Room, queue: Queue, worker: u32, why: Growth) -> Action
     requires { ⌜ (0 < queue .published) × (queue .published ≤ 11) ⌝ }
     requires { ⌜ queue .initial * 2 ^ (queue .published - 1) ≤ 1024 ⌝ }
     requires { ⌜ Small queue (queue .published - 1) ⌝ }
     requires { ⌜ queue .claimed ≡ queue .published ⌝ }
-    ensures { λ r. ⌜ ((v : ℕ) → Sized v queue (queue .published - 1) → Does v (grows v queue (now (store .entry)) worker why) r) ⌝ }
-    ensures { λ r. ⌜ ((v : ℕ) → Sized v queue (queue .published - 1) → Free v queue → Doable v queue (length (now (store .entry))) r) ⌝ }
+    ensures { λ r. ⌜ ((v : ℕ) → Sized v queue (queue .published - 1) → Does room v (grows room v queue worker why) r) ⌝ }
+    ensures { λ r. ⌜ ((v n : ℕ) → Sized v queue (queue .published - 1) → Free v queue → room .next + room .left ≤ n → Doable v queue n r) ⌝ }
     ensures { λ r. ⌜ failsBy r ≡ false ⌝ }
 {
-    let room = slots::has_room(queue, store);
-    if room {
+    let fits = slots::has_room(queue, room.left);
+    if fits {
         let here = queue.published - 1;
         let at = here as usize;
-        let from = slots::end_of(queue, at);
         let more = slots::twice_as_long(queue, at);
         Action::Claims {
-            offset: from,
+            offset: room.next,
             length: more,
         }
     } else {
@@ -193,7 +194,7 @@ fn past_publish(why: Growth) -> Line
 
 // X4: the note of the claimed array, which ends a commit.
 fn publish(queue: Queue, worker: u32, why: Growth) -> Action
-    ensures { λ r. ⌜ ((v : ℕ) → Does v (publishes (StoreNote (queue .published) ∷ []) worker why) r) ⌝ }
+    ensures { λ r. ⌜ ((ρ : Room) (v : ℕ) → Does ρ v (publishes (StoreNote (queue .published) ∷ []) worker why) r) ⌝ }
     ensures { λ r. ⌜ ((v n : ℕ) → Doable v queue n r) ⌝ }
     ensures { λ r. ⌜ failsBy r ≡ false ⌝ }
 {
@@ -209,9 +210,10 @@ fn publish(queue: Queue, worker: u32, why: Growth) -> Action
     }
 }
 
-// The line that a worker comes to by doing `line`; idle, where it ends the operation. Beside each case: its number in figures 1
-// and 3, then in figure 2.
+// The line that a worker comes to by doing `line`; idle, where it ends the operation. X1 finds `room`. Beside each case: its
+// number in figures 1 and 3, then in figure 2.
 pub fn next_line(
+    room: Room,
     kind: Kind,
     words: u32,
     queue: Queue,
@@ -221,7 +223,7 @@ pub fn next_line(
 ) -> Line
     requires { ⌜ Ground words queue (length (now store)) ⌝ }
     requires { ⌜ Ready kind words queue (length (now store)) line ⌝ }
-    ensures { λ r. ⌜ ((w : ℕ) → r ≡ lineStep kind w words queue (now (store .entry)) worker line .line) ⌝ }
+    ensures { λ r. ⌜ ((w : ℕ) → r ≡ lineStep room kind w words queue (now (store .entry)) worker line .line) ⌝ }
 {
     let anchor = queue.anchor;
     let here = queue.published - 1;
@@ -245,7 +247,7 @@ pub fn next_line(
         // put 4; 5
         Line::PutFinish { task: _, read: _ } => Line::Idle,
         // X1
-        Line::Claim { why } => past_claim(queue, store, why),
+        Line::Claim { why } => past_claim(room, queue, why),
         // X2
         Line::Note { why } => {
             let size = slots::size_at(queue, at);
@@ -319,6 +321,7 @@ pub fn next_line(
 
 // What worker `worker` does by `line` beside coming to the next one. Most lines only read.
 pub fn decide(
+    room: Room,
     kind: Kind,
     width: u32,
     words: u32,
@@ -328,9 +331,10 @@ pub fn decide(
     line: Line,
 ) -> Action
     requires { ⌜ width ≤ 16 ⌝ }
+    requires { ⌜ room .next + room .left ≤ length (now store) ⌝ }
     requires { ⌜ Ground words queue (length (now store)) ⌝ }
     requires { ⌜ Ready kind words queue (length (now store)) line ⌝ }
-    ensures { λ r. ⌜ Does words (lineStep kind width words queue (now (store .entry)) worker line) r ⌝ }
+    ensures { λ r. ⌜ Does room words (lineStep room kind width words queue (now (store .entry)) worker line) r ⌝ }
     ensures { λ r. ⌜ Doable words queue (length (now (store .entry))) r ⌝ }
     ensures { λ r. ⌜ failsBy r ≡ failsCompare kind queue worker line ⌝ }
 {
@@ -363,7 +367,7 @@ pub fn decide(
             }
         }
         // X1
-        Line::Claim { why } => claim(queue, store, worker, why),
+        Line::Claim { why } => claim(room, queue, worker, why),
         Line::Note { why: _ } => Action::Nothing,
         // X3
         Line::Copy {

@@ -16,7 +16,7 @@ use Rattle.model.specs.Limits.{validOf}
 use Rattle.model.specs.Calls.{freshOf, setup, Call, callOf, begin, step, stepOf}
 use Rattle.model.specs.Listing.{Program, waiting, playing, ended, Response, isRefused, opened, respond, stepsOf}
 use Rattle.theorems.proofs.Reached.{reached-fresh, reached-call, reached-valid}
-use Rattle.theorems.proofs.SoundRun.{call-like}
+use Rattle.theorems.proofs.SoundRun.{lone-like}
 use Rattle.listing.specs.Consuming.{Live, Reachable}
 use Rattle.replies.proofs.Ways.{either, never}
 
@@ -46,7 +46,7 @@ live-fresh k w c n v m l e = record {
 }
 
 pub live-call : {W : World} → Live W → (c : Call) → Live (callOf W c .world)
-live-call {W} r c = record { reached = reached-call (r .reached) c; prompt = call-like W c .delayed ∙ r .prompt }
+live-call {W} r c = record { reached = reached-call (r .reached) c; prompt = lone-like W c .delayed ∙ r .prompt }
 
 pub live-valid : {W : World} → Live W → validOf W ≡ true
 live-valid r = reached-valid (r .reached)

@@ -7,6 +7,7 @@ use mathlib.Core.List.{List, [], _++_}
 use lib.ListN.{length, take, drop}
 use Rattle.model.specs.declared.Line.{Line}
 use Rattle.model.specs.declared.Bench.{Bench}
+use Rattle.model.specs.declared.Room.{Room}
 use Rattle.model.specs.declared.Refusal.{Refusal}
 use Rattle.model.specs.declared.Refusal.the-variants.{WaitingFull}
 use Rattle.model.specs.declared.Command.{Command}
@@ -16,12 +17,13 @@ use Rattle.model.specs.declared.Answer.the-variants.{Refused}
 use Rattle.model.specs.Tests.{if_then_else_}
 use Rattle.model.specs.Stores.{Shared}
 use Rattle.model.specs.Lines.{lineStep}
-use Rattle.model.specs.World.{World, Outcome, tagBits, lineAt}
-use Rattle.model.specs.Limits.{validOf}
+use Rattle.model.specs.World.{World, Outcome, roomAlone, tagBits, lineAt}
+use Rattle.model.specs.Limits.{validOf, Within}
 use Rattle.model.specs.Calls.{lent, step, nextEffect, stepIn, stepOf}
 use Rattle.model.specs.Listing.{Program, playing, printed, isRefused, respond, stepsOf, Response}
 use Rattle.state.specs.declared.Stop.the-variants.{Why}
 use Rattle.model.proofs.Tests.{if-true}
+use Rattle.model.proofs.Alone.{within-alone}
 use Rattle.theorems.proofs.NeverForeign.{effect-answers}
 use Rattle.machine.specs.declared.Made.{Made}
 use Rattle.machine.specs.Steps.{benchOf, AtOnce, movedBy}
@@ -129,36 +131,41 @@ valid-of s m l r v = live-valid (reached-of s m l v r)
 
 -- a worker's stores land at once, and none waits
 pub once-of : (b : Bench) (w : ℕ) (m l : List ℕ) (i : ℕ) → Live (lent b (take w m) l) → AtOnce (b .delayed) (b .waiting) i
-once-of b w m l i r = at-once (lent b (take w m) l) i (live-valid r) (λ e. r .prompt)
+once-of b w m l i r = at-once (lent b (take w m) l) i (within-alone (lent b (take w m) l) (live-valid r)) (λ e. r .prompt)
 
 pub none-of : (s : Session) (m l : List ℕ) → Reachable (programOf s m l) → s .live ≡ true → s .bench .waiting .count ≡ 0
 none-of s m l r v = once-of (s .bench) (s .long) m l 0 (reached-of s m l v r) .none refl .1
 
 pub crew-of : (s : Session) (m l : List ℕ) → Reachable (programOf s m l) → s .live ≡ true → s .bench .crew ≤ 8
-crew-of s m l r v = bounds-of (worldOf s m l) (valid-of s m l r v) .crew
+crew-of s m l r v = bounds-of (worldOf s m l) (within-alone (worldOf s m l) (valid-of s m l r v) .limits) .crew
 
 pub valid-front : (b : Bench) (w n : ℕ) (m l : List ℕ) → n ≡ min w (length m) → Live (lent b (take w m) l) → validOf (lent b (take n m) l) ≡ true
 valid-front b w n m l e r = subst (λ (x : List ℕ). validOf (lent b x l) ≡ true) (sym (lent-front w n m e)) (live-valid r)
 
+pub within-front : {ρ : Room} (b : Bench) (w n : ℕ) (m l : List ℕ) → n ≡ min w (length m) → Live (lent b (take w m) l) → ρ ≡ roomAlone (lent b (take n m) l)
+    → Within ρ (lent b (take n m) l)
+within-front b w n m l e r q = subst (λ (ρ : Room). Within ρ (lent b (take n m) l)) (sym q) (within-alone (lent b (take n m) l) (valid-front b w n m l e r))
+
 -- a step on the words that were lent, p as it leaves them
-pub stepped-front : (b : Bench) (w n : ℕ) (m l p l′ : List ℕ) (i k : ℕ) (x : Line) (d : Made) → n ≡ min w (length m) → length p ≡ length (take n m)
-    → Live (lent b (take w m) l) → movedBy b k x d p l′ ≡ stepIn (lent b (take n m) l) i
+pub stepped-front : {ρ : Room} (b : Bench) (w n : ℕ) (m l p l′ : List ℕ) (i k : ℕ) (x : Line) (d : Made) → n ≡ min w (length m) → length p ≡ length (take n m)
+    → Live (lent b (take w m) l) → ρ ≡ roomAlone (lent b (take n m) l) → movedBy b k x d p l′ ≡ stepIn ρ (lent b (take n m) l) i
     → movedBy b k x d (take w (p ++ drop n m)) l′ ≡ stepOf (lent b (take w m) l) i
 unfolding stepOf
-stepped-front b w n m l p l′ i k x d e f r o =
-    ap (λ (y : List ℕ). movedBy b k x d y l′) (given-back w n m e p f) ∙ o ∙ ap (λ (y : List ℕ). stepIn (lent b y l) i) (lent-front w n m e)
+stepped-front b w n m l p l′ i k x d e f r q o =
+    ap (λ (y : List ℕ). movedBy b k x d y l′) (given-back w n m e p f) ∙ o
+    ∙ ap (λ (ρ : Room). stepIn ρ (lent b (take n m) l) i) q ∙ ap (λ (y : List ℕ). stepIn (roomAlone (lent b y l)) (lent b y l) i) (lent-front w n m e)
     ∙ sym (if-true _ (live-valid r))
 
 -- no line of a worker whose stores land at once answers a refusal: a state in which nothing waits has the same line
-line-sound : (b : Bench) (m l : List ℕ) (i : ℕ) → AtOnce (b .delayed) (b .waiting) i → isRefused (nextEffect (lent b m l) i .answer) ≡ false
-line-sound b m l zero once =
-    ap (λ (S : Shared). isRefused (lineStep (b .kind) (tagBits b) (b .words) (S .queue) (S .store) 0 (lineAt (b .workers) 0) .answer))
+line-sound : (ρ : Room) (b : Bench) (m l : List ℕ) (i : ℕ) → AtOnce (b .delayed) (b .waiting) i → isRefused (nextEffect ρ (lent b m l) i .answer) ≡ false
+line-sound ρ b m l zero once =
+    ap (λ (S : Shared). isRefused (lineStep ρ (b .kind) (tagBits b) (b .words) (S .queue) (S .store) 0 (lineAt (b .workers) 0) .answer))
     (sees-memory (lent b m l) 0 once)
-    ∙ effect-answers
+    ∙ effect-answers ρ
     (lent (benchOf (b .kind) (b .width) (b .words) (b .crew) (b .queue) (b .written) (b .delayed) (record { stores = []; count = 0 }) (b .aside) (b .used) (b .restarts) (b .workers))
     m l)
     0
-line-sound b m l (suc i) once = effect-answers (lent b m l) (suc i)
+line-sound ρ b m l (suc i) once = effect-answers ρ (lent b m l) (suc i)
 
 -- so the listing's steps are not refused 18
 pub not-full : (b : Bench) (w : ℕ) (m l : List ℕ) (i : ℕ) → Live (lent b (take w m) l) → (o : Outcome) → o ≡ stepOf (lent b (take w m) l) i
@@ -166,7 +173,8 @@ pub not-full : (b : Bench) (w : ℕ) (m l : List ℕ) (i : ℕ) → Live (lent b
 unfolding stepOf
 not-full b w m l i r o e f =
     let once : AtOnce (b .delayed) (b .waiting) i = once-of b w m l i r in
-    never-full b i (take w m) l once (line-sound b (take w m) l i once)
+    let ρ = roomAlone (lent b (take w m) l) in
+    never-full ρ b i (take w m) l once (line-sound ρ b (take w m) l i once)
     (f ∙ ap (λ (x : Outcome). x .answer) (e ∙ if-true _ (live-valid r)))
 
 -- consuming stops between two lines, the program not being over

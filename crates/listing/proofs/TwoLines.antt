@@ -16,7 +16,8 @@ use Rattle.model.specs.declared.Answer.the-variants.{Accepted, Numbered, GoesOn
 use Rattle.model.specs.Tests.{if_then_else_}
 use Rattle.model.specs.Answers.{ends}
 use Rattle.model.specs.Lines.{Effect}
-use Rattle.model.specs.World.{World, Outcome, lineAt, isIdle, resting, refuse}
+use Rattle.model.specs.declared.Room.{Room}
+use Rattle.model.specs.World.{World, Outcome, roomAlone, lineAt, isIdle, resting, refuse}
 use Rattle.model.specs.Limits.{validOf}
 use Rattle.model.specs.Calls.{stepOf, stepped, commit, noRoom, crowded, nextEffect}
 use Rattle.model.specs.Listing.{Print, printed, printedBy, isRefused, response, showing, stepsOf}
@@ -56,8 +57,8 @@ quiet v (Refused r) e f = never e
 abbrev Went : ℕ → Outcome → Type 0
 Went i d = isRefused (d .answer) ≡ false → (printedBy d ≡ []) ⊎ (isIdle (lineAt (d .world .bench .workers) i) ≡ true)
 
-went-stepped : (W : World) (i : ℕ) (E : Effect) → Rests E → Went i (stepped W i E)
-went-stepped W i E r e = go (ends (E .answer)) refl
+went-stepped : (ρ : Room) (W : World) (i : ℕ) (E : Effect) → Rests E → Went i (stepped ρ W i E)
+went-stepped ρ W i E r e = go (ends (E .answer)) refl
   where
     go : (b : Bool) → ends (E .answer) ≡ b → (printed (W .bench .words) (E .answer) ≡ []) ⊎ (isIdle (lineAt (set (W .bench .workers) i (record { line = E .line })) i) ≡ true)
     go true h = inr (set-idle (W .bench .workers) i (E .line) (r h))
@@ -69,9 +70,9 @@ went W i =
     either (Went i) (validOf W) _ _
     (either (Went i) (ltb i (W .bench .crew)) _ _
     (either (Went i) (isIdle (lineAt (W .bench .workers) i)) _ _ (λ e. never e)
-    (either (Went i) (crowded W i (nextEffect W i)) _ _ (λ e. never e)
-    (either (Went i) (noRoom W (nextEffect W i)) _ _ (λ e. never e)
-    (went-stepped W i (nextEffect W i) (rests _ _ _ _ _ i (lineAt (W .bench .workers) i))))))
+    (either (Went i) (crowded W i (nextEffect (roomAlone W) W i)) _ _ (λ e. never e)
+    (either (Went i) (noRoom W (nextEffect (roomAlone W) W i)) _ _ (λ e. never e)
+    (went-stepped (roomAlone W) W i (nextEffect (roomAlone W) W i) (rests (roomAlone W) _ _ _ _ _ i (lineAt (W .bench .workers) i))))))
     (λ e. never e))
     (λ e. never e)
 
@@ -84,7 +85,7 @@ unfolding stepOf if_then_else_
 idle-refused W i e =
     either Refuses (validOf W) _ _
     (either Refuses (ltb i (W .bench .crew)) _ _
-    (ap (λ (b : Bool). isRefused ((if b then refuse W Rattle.model.specs.declared.Refusal.the-variants.IdleWorker else commit W i (nextEffect W i)) .answer)) e)
+    (ap (λ (b : Bool). isRefused ((if b then refuse W Rattle.model.specs.declared.Refusal.the-variants.IdleWorker else commit (roomAlone W) W i (nextEffect (roomAlone W) W i)) .answer)) e)
     refl)
     refl
 

@@ -8,6 +8,7 @@ use native.Mathlib.Omega.{arith}
 use lib.ListN.{set, take}
 use Rattle.model.specs.declared.Task.{Task}
 use Rattle.model.specs.declared.Queue.{Queue}
+use Rattle.model.specs.declared.Room.{Room}
 use Rattle.model.specs.declared.Store.{Store}
 use Rattle.model.specs.declared.Store.the-variants.{StoreWord, StoreNote, StorePut, StoreOut, StoreHead, StoreTail}
 use Rattle.model.specs.declared.Answer.{Answer}
@@ -77,8 +78,9 @@ pub copies-leave : (v : ℕ) (q : Queue) (m : List ℕ) (k t : ℕ) (u : Task) (
 copies-leave v q m k t u n = ap (λ (S : Shared). S .queue) (stores-write v q m k t u n)
 
 -- X1
-pub claims-land : (q : Queue) (m : List ℕ) (n a z : ℕ) → Claimable q n a z → claim (shared q m) ≡ shared (withArray q a z) (zeros m a z)
-claims-land q m n a z C = rw (C .from, C .long)
+pub claims-land : (ρ : Room) (q : Queue) (m : List ℕ) (n a z : ℕ) → a ≡ ρ .next → Claimable q n a z
+    → claim ρ (shared q m) ≡ shared (withArray q a z) (zeros m a z)
+claims-land ρ q m n a z e C = rw (e, C .long)
 
 -- a last line
 pub anchor-lands : (v : ℕ) (q : Queue) (m : List ℕ) (s : Store) → ofAnchor s ≡ true
@@ -100,11 +102,11 @@ last-keeps v q m (StoreOut a) h = refl
 last-keeps v q m (StoreHead a) h = refl
 last-keeps v q m (StoreTail a) h = refl
 
-pub ends-leave : {d : Action} {s : Store} {y : Answer} (v : ℕ) (q : Queue) (m : List ℕ) (n : ℕ) → d ≡ Ends s y → Doable v q n d
-    → m ≡ leftBy v (shared q m) d .store
+pub ends-leave : {d : Action} {s : Store} {y : Answer} (ρ : Room) (v : ℕ) (q : Queue) (m : List ℕ) (n : ℕ) → d ≡ Ends s y → Doable v q n d
+    → m ≡ leftBy ρ v (shared q m) d .store
 unfolding claimsBy storesBy landedAll Doable
-ends-leave {d} {s} {y} v q m n e h =
+ends-leave {d} {s} {y} ρ v q m n e h =
     let k = subst (Doable v q n) e h in
     sym
-    (ap (λ (x : Action). leftBy v (shared q m) x .store) e
+    (ap (λ (x : Action). leftBy ρ v (shared q m) x .store) e
     ∙ last-keeps v q m s (k .0))

@@ -1,19 +1,18 @@
 -- What carrying an action out comes to.
 use mathlib.Core.Bool.{Bool, true, false, not}
-use mathlib.Core.List.{List, [], _∷_, _++_}
+use mathlib.Core.List.{List, [], _∷_}
 use mathlib.Core.Path.{_≡_, refl, sym, ap, _∙_}
 use Prim.Native.Nat.{ℕ, zero, suc, _+_, _≤_}
-use native.Mathlib.Nat.{add-zero}
 use native.Mathlib.Omega.{arith}
 use lib.Dec.{leb, ltb}
-use lib.ListN.{length, getD, set, replicate, take, drop, take-append-drop}
+use lib.ListN.{length, getD, set}
 use borrow.Author.Tests.{leb-true, leb-false, ltb-false, lt-ltb, le-ltb}
 use Rattle.model.specs.declared.Anchor.{Anchor}
 use Rattle.model.specs.declared.Store.{Store}
 use Rattle.model.specs.declared.Store.the-variants.{StoreWord, StoreNote, StorePut, StoreOut, StoreHead, StoreTail}
 use Rattle.model.specs.declared.Line.{Line}
 use Rattle.model.specs.declared.Queue.{Queue}
-use Rattle.model.specs.declared.Pending.{Pending}
+use Rattle.model.specs.declared.Room.{Room}
 use Rattle.model.specs.declared.Waiting.{Waiting}
 use Rattle.model.specs.declared.Bench.{Bench}
 use Rattle.model.specs.declared.Answer.{Answer}
@@ -25,11 +24,12 @@ use Rattle.model.specs.Stores.{Shared, shared, anchored, publishing, landed, la
 use Rattle.model.specs.Lines.{Effect, goes, leftOf, holdsLink, failsCompare}
 use Rattle.model.specs.World.{World, Outcome, refuse, lineAt, isSteal1, isPast1}
 use Rattle.model.specs.Calls.{lent, raised, logFull, linkSet, relinked, restarted, joining, landing, stored, crowded, commit}
+use Rattle.model.proofs.Landing.{joined-none, none-held}
 use Rattle.model.proofs.Tests.{if-false, fails, and-false}
 use Rattle.anchors.specs.After.{afterStore, ofAnchor}
 use Rattle.lines.specs.declared.Action.{Action}
 use Rattle.lines.specs.declared.Action.the-variants as action
-use Rattle.lines.specs.Actions.{claimsBy, storesBy, answerBy, failsBy, Does, Lands, Concludes, Doable}
+use Rattle.lines.specs.Actions.{claimsBy, PlacedIn, storesBy, answerBy, failsBy, Does, Lands, Concludes, Doable}
 use Rattle.machine.specs.declared.Made.{Made}
 use Rattle.machine.specs.declared.Made.the-variants as made
 use Rattle.machine.specs.Steps.{benchOf, withArray, benchAfter, answerAfter, movedBy, leftBy, madeBy, concludedBy, actedBy, logAfter, Fits}
@@ -61,7 +61,7 @@ room-counts v k l e = by (ltb (length l) (k + entryLength v)) (ltb 4294967295 (k
     by false true f g = let z : _≡_ {A = ℕ} 0 1 = cc g in omega arith
     by false false f g = ltb-false _ _ f
 
--- a link written as it is; none is held behind a write of the anchor
+-- a link written as it is
 set-self : (l : List Bool) (i : ℕ) → set l i (getD l i false) ≡ l
 set-self [] i = refl
 set-self (x ∷ l) zero = refl
@@ -81,11 +81,6 @@ link-kept q i x e =
       links = l;
     })
     (set-self (q .links) i)
-
-pub none-held : (n k : ℕ) → getD (replicate n false) k false ≡ false
-none-held zero k = refl
-none-held (suc n) zero = refl
-none-held (suc n) (suc k) = none-held n k
 
 -- worker i came from one line to another: its link stays as it is, or its attempt is over
 module _ (q : Queue) (i : ℕ) (from to : Line) where
@@ -118,12 +113,6 @@ pub record Prompt (b : Bench) (i : ℕ) (E : Effect) : Type 0 where
   pub none : joining (b .delayed) i (E .stores) ≡ []
   pub all : landing (b .delayed) i (E .stores) ≡ E .stores
 
--- none joins: the line stays as it is
-pub joined-none : (s : Waiting) → joined s [] ≡ s
-joined-none s =
-    ap (λ (n : ℕ). record { stores = take (s .count) (s .stores) ++ drop n (s .stores); count = n }) (add-zero (s .count))
-    ∙ ap (λ (l : List Pending). record { stores = l; count = s .count }) (take-append-drop (s .count) (s .stores))
-
 -- a step of worker i that comes to the line x and answers a, committed with the counts n of restarts, the queue q, the waiting
 -- line s, o words set aside and the store m
 abbrev counted : World → ℕ → Line → Answer → List ℕ → Queue → Waiting → ℕ → List ℕ → Outcome
@@ -139,10 +128,10 @@ counted W i x a n q s o m =
       answer = a;
     }
 
-module _ (b : Bench) (i : ℕ) (from to : Line) (m l : List ℕ) (at : lineAt (b .workers) i ≡ from) where
+module _ (ρ : Room) (b : Bench) (i : ℕ) (from to : Line) (m l : List ℕ) (at : lineAt (b .workers) i ≡ from) where
   -- what the action leaves
   abbrev left : Action → Shared
-  left d = leftBy (b .words) (shared (b .queue) m) d
+  left d = leftBy ρ (b .words) (shared (b .queue) m) d
 
   -- the words set aside are gone exactly if the line claims
   abbrev unclaimed : Bool → ℕ
@@ -151,11 +140,11 @@ module _ (b : Bench) (i : ℕ) (from to : Line) (m l : List ℕ) (at : lineAt (b
   abbrev kept-aside : Action → ℕ
   kept-aside d = unclaimed (claimsBy d)
 
-  left-is : (E : Effect) (d : Action) → Does (b .words) E d → leftOf (b .words) (shared (b .queue) m) E ≡ left d
+  left-is : (E : Effect) (d : Action) → Does ρ (b .words) E d → leftOf ρ (b .words) (shared (b .queue) m) E ≡ left d
   left-is E d D =
       sym
-      (ap (λ (x : Bool). landedAll (b .words) (claimedBy x (shared (b .queue) m)) (storesBy (b .words) d)) (D .claims)
-      ∙ ap (landedAll (b .words) (claimedBy (E .claims) (shared (b .queue) m))) (D .stores))
+      (ap (λ (x : Bool). landedAll (b .words) (claimedBy ρ x (shared (b .queue) m)) (storesBy (b .words) d)) (D .claims)
+      ∙ ap (landedAll (b .words) (claimedBy ρ (E .claims) (shared (b .queue) m))) (D .stores))
 
   -- the line has room, as none joins it
   pub roomy : (E : Effect) → Prompt b i E → crowded (lent b m l) i E ≡ false
@@ -164,24 +153,24 @@ module _ (b : Bench) (i : ℕ) (from to : Line) (m l : List ℕ) (at : lineAt (b
       ∙ le-ltb 8 (b .waiting .count + 0) (let h = P .few in omega (arith, h))
 
   -- the line, by what it leaves of the shared words and answers
-  by-stores : (E : Effect) (d : Action) → Prompt b i E → Does (b .words) E d → E .line ≡ to
-      → commit (lent b m l) i E
+  by-stores : (E : Effect) (d : Action) → Prompt b i E → Does ρ (b .words) E d → E .line ≡ to
+      → commit ρ (lent b m l) i E
       ≡ counted (lent b m l) i to (answerBy d) (restarted (b .kind) (b .queue) i (lineAt (b .workers) i) (b .restarts)) (relinked (left d .queue) i (lineAt (b .workers) i) to) (b .waiting) (kept-aside d) (left d .store)
   by-stores E d P D e =
       let n = restarted (b .kind) (b .queue) i (lineAt (b .workers) i) (b .restarts) in
       if-false _ (roomy E P)
-      ∙ ap (λ (s : Waiting). counted (lent b m l) i (E .line) (E .answer) n (relinked (stored (lent b m l) i E .queue) i (lineAt (b .workers) i) (E .line)) s (unclaimed (E .claims)) (stored (lent b m l) i E .store))
+      ∙ ap (λ (s : Waiting). counted (lent b m l) i (E .line) (E .answer) n (relinked (stored ρ (lent b m l) i E .queue) i (lineAt (b .workers) i) (E .line)) s (unclaimed (E .claims)) (stored ρ (lent b m l) i E .store))
       (ap (joined (b .waiting)) (P .none) ∙ joined-none (b .waiting))
       ∙ ap (λ (S : Shared). counted (lent b m l) i (E .line) (E .answer) n (relinked (S .queue) i (lineAt (b .workers) i) (E .line)) (b .waiting) (unclaimed (E .claims)) (S .store))
-      (ap (landedAll (b .words) (claimedBy (E .claims) (shared (b .queue) m))) (P .all) ∙ left-is E d D)
+      (ap (landedAll (b .words) (claimedBy ρ (E .claims) (shared (b .queue) m))) (P .all) ∙ left-is E d D)
       ∙ ap (λ (a : Answer). counted (lent b m l) i (E .line) a n (relinked (left d .queue) i (lineAt (b .workers) i) (E .line)) (b .waiting) (unclaimed (E .claims)) (left d .store)) (sym (D .answer))
       ∙ ap (λ (x : Line). counted (lent b m l) i x (answerBy d) n (relinked (left d .queue) i (lineAt (b .workers) i) x) (b .waiting) (unclaimed (E .claims)) (left d .store)) e
       ∙ ap (λ (z : Bool). counted (lent b m l) i to (answerBy d) n (relinked (left d .queue) i (lineAt (b .workers) i) to) (b .waiting) (unclaimed z) (left d .store)) (sym (D .claims))
 
   -- the action counts a restart exactly if the compare fails
-  commits : (E : Effect) (d : Action) {p q : Queue} → Prompt b i E → Does (b .words) E d → E .line ≡ to → failsBy d ≡ failsCompare (b .kind) (b .queue) i from
+  commits : (E : Effect) (d : Action) {p q : Queue} → Prompt b i E → Does ρ (b .words) E d → E .line ≡ to → failsBy d ≡ failsCompare (b .kind) (b .queue) i from
       → left d .queue ≡ p → relinked p i from to ≡ q
-      → commit (lent b m l) i E ≡ counted (lent b m l) i to (answerBy d) (if failsBy d then raised (b .restarts) i else b .restarts) q (b .waiting) (kept-aside d) (left d .store)
+      → commit ρ (lent b m l) i E ≡ counted (lent b m l) i to (answerBy d) (if failsBy d then raised (b .restarts) i else b .restarts) q (b .waiting) (kept-aside d) (left d .store)
   commits E d {q = q} P D e f p g =
       by-stores E d P D e
       ∙ ap (λ (x : Bool). counted (lent b m l) i to (answerBy d) (if x then raised (b .restarts) i else b .restarts) (relinked (left d .queue) i (lineAt (b .workers) i) to) (b .waiting) (kept-aside d) (left d .store))
@@ -192,10 +181,10 @@ module _ (b : Bench) (i : ℕ) (from to : Line) (m l : List ℕ) (at : lineAt (b
   -- an action carried out is the line committed that it does
   module _ (E : Effect) (P : Prompt b i E) (e : E .line ≡ to) where
     -- a last line that stores the anchor
-    ended : (s : Store) (y : Answer) → Does (b .words) E (action.Ends s y) → ofAnchor s ≡ true → ends y ≡ true
+    ended : (s : Store) (y : Answer) → Does ρ (b .words) E (action.Ends s y) → ofAnchor s ≡ true → ends y ≡ true
         → failsBy (action.Ends s y) ≡ failsCompare (b .kind) (b .queue) i from → Leads (b .queue) i from to (action.Ends s y)
         → movedBy b i to (if logFull (b .words) l (b .written) then made.Refused LogFull else made.Ends (afterStore (b .queue .anchor) s) y) (left (action.Ends s y) .store) (logAfter (b .words) (b .written) l (action.Ends s y))
-        ≡ commit (lent b m l) i E
+        ≡ commit ρ (lent b m l) i E
     unfolding logAfter benchAfter answerAfter claimsBy storesBy landedAll answerBy failsBy if_then_else_ _and_
     ended s y D o h f L =
         ap (λ (x : List ℕ). movedBy b i to (if logFull (b .words) l (b .written) then made.Refused LogFull else made.Ends (afterStore (b .queue .anchor) s) y) x (logAfter (b .words) (b .written) l (action.Ends s y))) kept
@@ -220,10 +209,10 @@ module _ (b : Bench) (i : ℕ) (from to : Line) (m l : List ℕ) (at : lineAt (b
         full true q = rw (h, q)
         full false q = rw (h, q)
 
-    pub acted : (d : Action) (n : ℕ) → Does (b .words) E d → Doable (b .words) (b .queue) n d
+    pub acted : (d : Action) (n : ℕ) → Does ρ (b .words) E d → Doable (b .words) (b .queue) n d
         → failsBy d ≡ failsCompare (b .kind) (b .queue) i from → Leads (b .queue) i from to d
-        → movedBy b i to (actedBy (b .words) (b .written) l (b .queue) d) (left d .store) (logAfter (b .words) (b .written) l d) ≡ commit (lent b m l) i E
-    unfolding actedBy madeBy concludedBy logAfter benchAfter answerAfter claimsBy storesBy landedAll answerBy failsBy Doable Lands Concludes if_then_else_ _and_
+        → movedBy b i to (actedBy (b .words) (b .written) l (b .queue) d) (left d .store) (logAfter (b .words) (b .written) l d) ≡ commit ρ (lent b m l) i E
+    unfolding actedBy madeBy concludedBy logAfter benchAfter answerAfter claimsBy PlacedIn storesBy landedAll answerBy failsBy Doable Lands Concludes if_then_else_ _and_
     acted action.Nothing n D h f L = sym (commits E action.Nothing P D e f refl (relink (b .queue) i from to (L .plain) (λ e. L .stays (L .held e) refl refl)))
     acted action.Fails n D h f L = sym (commits E action.Fails P D e f refl (relink (b .queue) i from to (L .plain) (L .fails refl)))
     acted (action.Stores (StoreWord k t j x)) n D h f L =
@@ -242,7 +231,7 @@ module _ (b : Bench) (i : ℕ) (from to : Line) (m l : List ℕ) (at : lineAt (b
         (relink (b .queue) i from to (L .plain) (λ e. L .stays (L .held e) refl refl)))
     acted (action.Claims a z) n D h f L =
         sym
-        (commits E (action.Claims a z) P D e f (ap (λ (S : Shared). S .queue) (claims-land (b .queue) m n a z h))
+        (commits E (action.Claims a z) P D e f (ap (λ (S : Shared). S .queue) (claims-land ρ (b .queue) m n a z (D .place) h))
         (relink (withArray (b .queue) a z) i from to (L .plain) (λ e. L .stays (L .held e) refl refl)))
     acted (action.Stops y) n D h f L = sym (commits E (action.Stops y) P D e f refl (unlink (b .queue) i from to (L .rests h)) ∙ full (logFull (b .words) l (b .written)) refl)
       where
@@ -270,9 +259,9 @@ module _ (b : Bench) (i : ℕ) (from to : Line) (m l : List ℕ) (at : lineAt (b
 
   -- and the line that links
   pub linked-line : Prompt b i (goes to) → (b .queue .linked and isSteal1 from) ≡ true → failsCompare (b .kind) (b .queue) i from ≡ false → isPast1 to ≡ true
-      → movedBy b i to made.Links m l ≡ commit (lent b m l) i (goes to)
-  unfolding benchAfter answerAfter claimsBy storesBy answerBy failsBy landedAll if_then_else_ _and_
-  linked-line P e f p = sym (commits (goes to) action.Nothing P (record { claims = refl; stores = refl; answer = refl }) refl (sym f) refl (link (b .queue) i from to e p))
+      → movedBy b i to made.Links m l ≡ commit ρ (lent b m l) i (goes to)
+  unfolding benchAfter answerAfter claimsBy PlacedIn storesBy answerBy failsBy landedAll if_then_else_ _and_
+  linked-line P e f p = sym (commits (goes to) action.Nothing P (record { claims = refl; place = tt; stores = refl; answer = refl }) refl (sym f) refl (link (b .queue) i from to e p))
 
 -- what ends an operation fits where its entry is logged
 logged-fits : (v : ℕ) (q : Queue) (k : ℕ) (l : List ℕ) (d : Made) → (k + entryLength v ≤ 4294967295 → Fits v q k d) → Fits v q k (if logFull v l k then made.Refused LogFull else d)

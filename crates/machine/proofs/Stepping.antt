@@ -15,6 +15,7 @@ use Rattle.model.specs.declared.Line.{Line}
 use Rattle.model.specs.declared.Line.the-variants.{Idle, StealRead}
 use Rattle.model.specs.declared.Bench.{Bench}
 use Rattle.model.specs.declared.Queue.{Queue}
+use Rattle.model.specs.declared.Room.{Room}
 use Rattle.model.specs.declared.Refusal.{Refusal}
 use Rattle.model.specs.declared.Refusal.the-variants.{NoSuchWorker, IdleWorker, LogFull, WaitingFull}
 use Rattle.model.specs.declared.Answer.{Answer}
@@ -24,15 +25,15 @@ use Rattle.model.specs.Listing.{isRefused}
 use Rattle.model.specs.Tests.{_and_}
 use Rattle.model.specs.Lines.{Effect, goes, holdsLink, lineStep, failsCompare}
 use Rattle.model.specs.Stores.{Shared, shared}
-use Rattle.model.specs.Limits.{validOf}
+use Rattle.model.specs.Limits.{Within}
 use Rattle.model.specs.World.{World, Outcome, refuse, memory, viewOf, tagBits, lineAt, isIdle, isSteal1, isPast1}
 use Rattle.model.specs.Calls.{lent, raised, joining, landing, noRoom, stepped, commit, nextEffect, stepIn}
 use Rattle.model.proofs.Tests.{if-true, if-false, and-right}
 use Rattle.model.proofs.Attempts.{rests, stays, starts, only-first, idle-not, wins}
 use Rattle.lines.specs.declared.Action.{Action}
 use Rattle.lines.specs.Actions.{answerBy, failsBy, Does, Doable, Ground, Ready}
-use Rattle.lines.proofs.Views.{reads-memory}
-use Rattle.lines.proofs.FromLimits.{narrow-of-valid, crew-of-valid, few-of-valid, none-of-valid, ground-of-valid, ready-of-valid, link-of-valid}
+use Rattle.model.proofs.Landing.{reads-memory}
+use Rattle.lines.proofs.FromLimits.{narrow-within, crew-within, few-within, none-within, ground-within, ready-within, link-within}
 use Rattle.state.specs.declared.Returned.{Returned}
 use Rattle.state.specs.Outcomes.{returned}
 use Rattle.machine.specs.declared.Made.{Made}
@@ -43,8 +44,8 @@ use Rattle.machine.proofs.Made.{the-type}
 use Rattle.machine.proofs.Moves.{Leads, Prompt, roomy, acted, linked-line}
 
 -- in a state within the limits the stores of a thief land at once, and without the mode the owner's do
-pub at-once : (W : World) (i : ℕ) → validOf W ≡ true → (i ≡ 0 → W .bench .delayed ≡ false) → AtOnce (W .bench .delayed) (W .bench .waiting) i
-at-once W i v f = record { few = few-of-valid W v; none = λ e. (f e, none-of-valid W v (f e)) }
+pub at-once : {ρ : Room} (W : World) (i : ℕ) → Within ρ W → (i ≡ 0 → W .bench .delayed ≡ false) → AtOnce (W .bench .delayed) (W .bench .waiting) i
+at-once W i v f = record { few = few-within W v; none = λ e. (f e, none-within W v (f e)) }
 
 none-join : (d : Bool) (i : ℕ) (s : List Store) → (i ≡ 0 → d ≡ false) → joining d i s ≡ []
 none-join true zero s f = absurd (true≢false (f refl))
@@ -69,20 +70,21 @@ sees-memory W zero A = reads-memory W (A .none refl .1)
 sees-memory W (suc i) A = refl
 
 -- it can be stepped; k is the place of worker i's record, if there is such a worker
-pub steppable : (W : World) (i k : ℕ) → validOf W ≡ true → AtOnce (W .bench .delayed) (W .bench .waiting) i → (i < 8 → k ≡ i)
-    → Steppable (W .bench .kind) (W .bench .width) (W .bench .words) (W .bench .crew) (W .bench .queue) (length (W .store)) i (lineAt (W .bench .workers) k)
+pub steppable : {ρ : Room} (W : World) (i k : ℕ) → Within ρ W → AtOnce (W .bench .delayed) (W .bench .waiting) i → (i < 8 → k ≡ i)
+    → Steppable ρ (W .bench .kind) (W .bench .width) (W .bench .words) (W .bench .crew) (W .bench .queue) (length (W .store)) i (lineAt (W .bench .workers) k)
 steppable W i k v once at = record {
-  narrow = narrow-of-valid W v;
-  crew = crew-of-valid W v .1;
-  ground = subst (λ (S : Shared). Ground (W .bench .words) (S .queue) (length (W .store))) (sees-memory W i once) (ground-of-valid W v i);
+  narrow = narrow-within W v;
+  crew = crew-within W v .1;
+  room = v .inside;
+  ground = subst (λ (S : Shared). Ground (W .bench .words) (S .queue) (length (W .store))) (sees-memory W i once) (ground-within W v i);
   ready = λ h.
       subst (λ (j : ℕ). Ready (W .bench .kind) (W .bench .words) (W .bench .queue) (length (W .store)) (lineAt (W .bench .workers) j))
-      (sym (at (omega (arith, h, crew-of-valid W v .1))))
+      (sym (at (omega (arith, h, crew-within W v .1))))
       (subst (λ (S : Shared). Ready (W .bench .kind) (W .bench .words) (S .queue) (length (W .store)) (lineAt (W .bench .workers) i))
-      (sees-memory W i once) (ready-of-valid W v i h));
+      (sees-memory W i once) (ready-within W v i h));
   held = λ h e.
-      let small : i < 8 = omega (arith, h, crew-of-valid W v .1) in
-      let L = link-of-valid W v i small e in
+      let small : i < 8 = omega (arith, h, crew-within W v .1) in
+      let L = link-within W v i small e in
       (L .0, subst (λ (j : ℕ). isPast1 (lineAt (W .bench .workers) j) ≡ true) (sym (at small)) (L .1));
 }
 
@@ -90,64 +92,64 @@ pub same-moved : (b : Bench) (k : ℕ) (x : Line) {d e : Made} {m m2 l l2 : List
     → movedBy b k x d m l ≡ movedBy b k x e m2 l2
 same-moved b k x e f g = rw (e, f, g)
 
-module _ (b : Bench) (i : ℕ) (y : Line) (m l : List ℕ) (own : lineAt (b .workers) i ≡ y) (h : i < b .crew) where
+module _ (ρ : Room) (b : Bench) (i : ℕ) (y : Line) (m l : List ℕ) (own : lineAt (b .workers) i ≡ y) (h : i < b .crew) where
   -- refusal 8
-  pub idle-worker : isIdle y ≡ true → refuse (lent b m l) IdleWorker ≡ stepIn (lent b m l) i
+  pub idle-worker : isIdle y ≡ true → refuse (lent b m l) IdleWorker ≡ stepIn ρ (lent b m l) i
   idle-worker f = sym (if-true _ (lt-ltb _ _ h) ∙ if-true _ (ap isIdle own ∙ f))
 
   -- the line is done: x is the line that follows, d the action; or it links
   module _ (once : AtOnce (b .delayed) (b .waiting) i) (held : holdsLink (b .queue) i ≡ true → (b .queue .linked ≡ true) × (isPast1 y ≡ true)) (x : Line)
-      (next : (w : ℕ) → x ≡ lineStep (b .kind) w (b .words) (b .queue) m i y .line) where
+      (next : (w : ℕ) → x ≡ lineStep ρ (b .kind) w (b .words) (b .queue) m i y .line) where
     leads : (d : Action) → (b .queue .linked and isSteal1 y) ≡ false
-        → Does (b .words) (lineStep (b .kind) (tagBits b) (b .words) (b .queue) m i y) d
+        → Does ρ (b .words) (lineStep ρ (b .kind) (tagBits b) (b .words) (b .queue) m i y) d
         → failsBy d ≡ failsCompare (b .kind) (b .queue) i y → Leads (b .queue) i y x d
     leads d plain does fails = record {
       held = λ e. held e .1;
       plain = plain;
       stays = λ p a f.
-          ap isPast1 (next (tagBits b)) ∙ stays (b .kind) (tagBits b) (b .words) (b .queue) m i y p (ap ends (sym answered) ∙ a) (sym fails ∙ f);
-      rests = λ a. ap isPast1 (next (tagBits b)) ∙ idle-not (lineStep (b .kind) (tagBits b) (b .words) (b .queue) m i y .line) (rests (b .kind) (tagBits b) (b .words) (b .queue) m i y (ap ends (sym answered) ∙ a));
+          ap isPast1 (next (tagBits b)) ∙ stays ρ (b .kind) (tagBits b) (b .words) (b .queue) m i y p (ap ends (sym answered) ∙ a) (sym fails ∙ f);
+      rests = λ a. ap isPast1 (next (tagBits b)) ∙ idle-not (lineStep ρ (b .kind) (tagBits b) (b .words) (b .queue) m i y .line) (rests ρ (b .kind) (tagBits b) (b .words) (b .queue) m i y (ap ends (sym answered) ∙ a));
       fails = λ f e. absurd (true≢false (sym (sym fails ∙ f) ∙ wins (b .kind) (b .queue) i y (held e .0) e));
     }
       where
-        answered : answerBy d ≡ lineStep (b .kind) (tagBits b) (b .words) (b .queue) m i y .answer
+        answered : answerBy d ≡ lineStep ρ (b .kind) (tagBits b) (b .words) (b .queue) m i y .answer
         answered = does .answer
 
-    reads : commit (lent b m l) i (lineStep (b .kind) (tagBits b) (b .words) (b .queue) m i (lineAt (b .workers) i)) ≡ commit (lent b m l) i (nextEffect (lent b m l) i)
+    reads : commit ρ (lent b m l) i (lineStep ρ (b .kind) (tagBits b) (b .words) (b .queue) m i (lineAt (b .workers) i)) ≡ commit ρ (lent b m l) i (nextEffect ρ (lent b m l) i)
     reads =
-        ap (λ (S : Shared). commit (lent b m l) i (lineStep (b .kind) (tagBits b) (b .words) (S .queue) (S .store) i (lineAt (b .workers) i)))
+        ap (λ (S : Shared). commit ρ (lent b m l) i (lineStep ρ (b .kind) (tagBits b) (b .words) (S .queue) (S .store) i (lineAt (b .workers) i)))
         (sym (sees-memory (lent b m l) i once))
 
     pub line-done : (d : Action) → isIdle y ≡ false → (b .queue .linked and isSteal1 y) ≡ false → Doable (b .words) (b .queue) (length m) d
-        → Does (b .words) (lineStep (b .kind) (tagBits b) (b .words) (b .queue) m i y) d
+        → Does ρ (b .words) (lineStep ρ (b .kind) (tagBits b) (b .words) (b .queue) m i y) d
         → failsBy d ≡ failsCompare (b .kind) (b .queue) i y
-        → movedBy b i x (actedBy (b .words) (b .written) l (b .queue) d) (leftBy (b .words) (shared (b .queue) m) d .store) (logAfter (b .words) (b .written) l d) ≡ stepIn (lent b m l) i
+        → movedBy b i x (actedBy (b .words) (b .written) l (b .queue) d) (leftBy ρ (b .words) (shared (b .queue) m) d .store) (logAfter (b .words) (b .written) l d) ≡ stepIn ρ (lent b m l) i
     line-done d f plain safe does fails =
-        acted b i y x m l own (lineStep (b .kind) (tagBits b) (b .words) (b .queue) m i y) (prompt-of b i _ once) (sym (next (tagBits b))) d (length m) does safe fails (leads d plain does fails)
-        ∙ ap (λ (z : Line). commit (lent b m l) i (lineStep (b .kind) (tagBits b) (b .words) (b .queue) m i z)) (sym own)
+        acted ρ b i y x m l own (lineStep ρ (b .kind) (tagBits b) (b .words) (b .queue) m i y) (prompt-of b i _ once) (sym (next (tagBits b))) d (length m) does safe fails (leads d plain does fails)
+        ∙ ap (λ (z : Line). commit ρ (lent b m l) i (lineStep ρ (b .kind) (tagBits b) (b .words) (b .queue) m i z)) (sym own)
         ∙ reads
         ∙ sym (if-true _ (lt-ltb _ _ h) ∙ if-false _ (ap isIdle own ∙ f))
 
-    pub line-links : (b .queue .linked and isSteal1 y) ≡ true → movedBy b i x made.Links m l ≡ stepIn (lent b m l) i
+    pub line-links : (b .queue .linked and isSteal1 y) ≡ true → movedBy b i x made.Links m l ≡ stepIn ρ (lent b m l) i
     unfolding lineStep
     line-links e =
         let first : y ≡ StealRead = only-first y (and-right (b .queue .linked) _ e) in
-        let effect : Line → Effect = lineStep (b .kind) (tagBits b) (b .words) (b .queue) m i in
-        linked-line b i y x m l own (prompt-of b i (goes x) once) e (ap (failsCompare (b .kind) (b .queue) i) first)
-        (ap isPast1 (next (tagBits b) ∙ ap (λ (z : Line). effect z .line) first) ∙ starts (b .kind) (tagBits b) (b .words) (b .queue) m i)
-        ∙ ap (commit (lent b m l) i)
+        let effect : Line → Effect = lineStep ρ (b .kind) (tagBits b) (b .words) (b .queue) m i in
+        linked-line ρ b i y x m l own (prompt-of b i (goes x) once) e (ap (failsCompare (b .kind) (b .queue) i) first)
+        (ap isPast1 (next (tagBits b) ∙ ap (λ (z : Line). effect z .line) first) ∙ starts ρ (b .kind) (tagBits b) (b .words) (b .queue) m i)
+        ∙ ap (commit ρ (lent b m l) i)
         (ap goes (next (tagBits b) ∙ ap (λ (z : Line). effect z .line) first)
         ∙ sym (ap effect (own ∙ first)))
         ∙ reads
         ∙ sym (if-true _ (lt-ltb _ _ h) ∙ if-false _ (ap isIdle (own ∙ first)))
 
 -- a step of which nothing is done yet, by how it goes
-module _ {κ : Kind} {w v n : ℕ} {q : Queue} {m : List ℕ} {i : ℕ} {y : Line} {r : Moved} where
-  pub plans-outside : n ≤ i → r .made ≡ made.Refused NoSuchWorker → PlannedBy κ w v n q m i y r
+module _ {ρ : Room} {κ : Kind} {w v n : ℕ} {q : Queue} {m : List ℕ} {i : ℕ} {y : Line} {r : Moved} where
+  pub plans-outside : n ≤ i → r .made ≡ made.Refused NoSuchWorker → PlannedBy ρ κ w v n q m i y r
   plans-outside h e = record { outside = λ o. e; rests = λ o. absurd (omega (arith, h, o)); goes = λ o. absurd (omega (arith, h, o)) }
 
   module _ (h : i < n) where
-    pub plans-rest : isIdle y ≡ true → r .made ≡ made.Refused IdleWorker → PlannedBy κ w v n q m i y r
+    pub plans-rest : isIdle y ≡ true → r .made ≡ made.Refused IdleWorker → PlannedBy ρ κ w v n q m i y r
     plans-rest f e = record {
       outside = λ o. absurd (omega (arith, h, o));
       rests = λ o g. e;
@@ -155,15 +157,15 @@ module _ {κ : Kind} {w v n : ℕ} {q : Queue} {m : List ℕ} {i : ℕ} {y : Lin
     }
 
     module _ (f : isIdle y ≡ false) where
-      pub plans-no-link : (q .linked and isSteal1 y) ≡ true → PlannedBy κ w v n q m i y r
+      pub plans-no-link : (q .linked and isSteal1 y) ≡ true → PlannedBy ρ κ w v n q m i y r
       plans-no-link e = record {
         outside = λ o. absurd (omega (arith, h, o));
         rests = λ o g. absurd (true≢false (sym g ∙ f));
         goes = λ o g s. absurd (true≢false (sym (and-right (q .linked) _ e) ∙ s));
       }
 
-      pub plans-action : (d : Action) → r .made ≡ made.Waits d → r .line ≡ effectOn κ w v q m i y .line
-          → Does v (effectOn κ w v q m i y) d → Doable v q (length m) d → PlannedBy κ w v n q m i y r
+      pub plans-action : (d : Action) → r .made ≡ made.Waits d → r .line ≡ effectOn ρ κ w v q m i y .line
+          → Does ρ v (effectOn ρ κ w v q m i y) d → Doable v q (length m) d → PlannedBy ρ κ w v n q m i y r
       plans-action d e to does safe = record {
         outside = λ o. absurd (omega (arith, h, o));
         rests = λ o g. absurd (true≢false (sym g ∙ f));
@@ -174,28 +176,28 @@ module _ {κ : Kind} {w v n : ℕ} {q : Queue} {m : List ℕ} {i : ℕ} {y : Lin
 clash : _≡_ {A = ℕ} 0 1 → ⊥
 clash e = omega (arith, e)
 
-module _ (b : Bench) (i : ℕ) (m l : List ℕ) (once : AtOnce (b .delayed) (b .waiting) i)
-    (sound : isRefused (nextEffect (lent b m l) i .answer) ≡ false) where
+module _ (ρ : Room) (b : Bench) (i : ℕ) (m l : List ℕ) (once : AtOnce (b .delayed) (b .waiting) i)
+    (sound : isRefused (nextEffect ρ (lent b m l) i .answer) ≡ false) where
   abbrev here : World
   here = lent b m l
 
-  fullness : (o : Outcome) → stepIn here i ≡ o → (Refused WaitingFull ≡ o .answer → ⊥) → Refused WaitingFull ≡ stepIn here i .answer → ⊥
+  fullness : (o : Outcome) → stepIn ρ here i ≡ o → (Refused WaitingFull ≡ o .answer → ⊥) → Refused WaitingFull ≡ stepIn ρ here i .answer → ⊥
   fullness o s other e = other (e ∙ ap (λ (x : Outcome). x .answer) s)
 
-  pub never-full : Refused WaitingFull ≡ stepIn here i .answer → ⊥
-  never-full = by (ltb i (b .crew)) (isIdle (lineAt (b .workers) i)) (noRoom here (nextEffect here i)) refl refl refl
+  pub never-full : Refused WaitingFull ≡ stepIn ρ here i .answer → ⊥
+  never-full = by (ltb i (b .crew)) (isIdle (lineAt (b .workers) i)) (noRoom here (nextEffect ρ here i)) refl refl refl
     where
-      by : (x y z : Bool) → ltb i (b .crew) ≡ x → isIdle (lineAt (b .workers) i) ≡ y → noRoom here (nextEffect here i) ≡ z
-          → Refused WaitingFull ≡ stepIn here i .answer → ⊥
+      by : (x y z : Bool) → ltb i (b .crew) ≡ x → isIdle (lineAt (b .workers) i) ≡ y → noRoom here (nextEffect ρ here i) ≡ z
+          → Refused WaitingFull ≡ stepIn ρ here i .answer → ⊥
       by false y z f g h = fullness (refuse here NoSuchWorker) (if-false _ f) (λ t. clash (cc t))
       by true true z f g h = fullness (refuse here IdleWorker) (if-true _ f ∙ if-true _ g) (λ t. clash (cc t))
       by true false true f g h =
           fullness (refuse here LogFull)
-          (if-true _ f ∙ if-false _ g ∙ if-false _ (roomy b i (lineAt (b .workers) i) Idle m l refl (nextEffect here i) (prompt-of b i _ once)) ∙ if-true _ h)
+          (if-true _ f ∙ if-false _ g ∙ if-false _ (roomy ρ b i (lineAt (b .workers) i) Idle m l refl (nextEffect ρ here i) (prompt-of b i _ once)) ∙ if-true _ h)
           (λ t. clash (cc t))
       by true false false f g h =
-          fullness (stepped here i (nextEffect here i))
-          (if-true _ f ∙ if-false _ g ∙ if-false _ (roomy b i (lineAt (b .workers) i) Idle m l refl (nextEffect here i) (prompt-of b i _ once)) ∙ if-false _ h)
+          fullness (stepped ρ here i (nextEffect ρ here i))
+          (if-true _ f ∙ if-false _ g ∙ if-false _ (roomy ρ b i (lineAt (b .workers) i) Idle m l refl (nextEffect ρ here i) (prompt-of b i _ once)) ∙ if-false _ h)
           (λ t. true≢false (ap isRefused t ∙ sound))
 
 -- a step that is not refused, by the numbers of its cases and not 18, does not answer a refusal

@@ -10,6 +10,7 @@ use Rattle.model.specs.declared.Store.the-variants.{StoreWord, StoreNote, Store
 use Rattle.model.specs.declared.Anchor.{Anchor}
 use Rattle.model.specs.declared.Line.{Line}
 use Rattle.model.specs.declared.Queue.{Queue}
+use Rattle.model.specs.declared.Room.{Room}
 use Rattle.model.specs.declared.Waiting.{Waiting}
 use Rattle.model.specs.declared.Worker.{Worker}
 use Rattle.model.specs.declared.Bench.{Bench}
@@ -112,9 +113,9 @@ movedBy b i x d m l = record { world = lent (benchAfter b i x d) m l; answer = a
 abbrev pub logBy : ℕ → ℕ → List ℕ → Answer → List ℕ
 logBy v k l a = if logFull v l k then l else setAll l k (entryWords v (entryOf a))
 
--- what an action leaves of the shared words, once it has claimed and its stores have landed
-abbrev pub leftBy : ℕ → Shared → Action → Shared
-leftBy v S d = landedAll v (claimedBy (claimsBy d) S) (storesBy v d)
+-- what an action leaves of the shared words, once it has claimed in the room ρ and its stores have landed
+abbrev pub leftBy : Room → ℕ → Shared → Action → Shared
+leftBy ρ v S d = landedAll v (claimedBy ρ (claimsBy d) S) (storesBy v d)
 
 -- a store that ends no operation, landed: what it makes of the step. None of these stores the anchor
 unfoldable pub madeBy : Store → Made
@@ -168,22 +169,23 @@ Fits v q k (made.Ends a y) = (k + entryLength v ≤ 4294967295) × (ends y ≡ t
 Fits v q k (made.Grows y) = (q .published ≤ 11) × (k + entryLength v ≤ 4294967295) × (ends y ≡ true)
 Fits v q k (made.Waits d) = Unit {0}
 
--- worker i, at the line y, can be stepped in a store of z words, in a crew of n
-pub record Steppable (κ : Kind) (w v n : ℕ) (q : Queue) (z i : ℕ) (y : Line) : Type 0 where
+-- worker i, at the line y, can be stepped in a store of z words, which the room ρ lies in, in a crew of n
+pub record Steppable (ρ : Room) (κ : Kind) (w v n : ℕ) (q : Queue) (z i : ℕ) (y : Line) : Type 0 where
   pub narrow : w ≤ 16
   pub crew : n ≤ 8
+  pub room : ρ .next + ρ .left ≤ z
   pub ground : Ground v q z
   pub ready : i < n → Ready κ v q z y
   pub held : i < n → holdsLink q i ≡ true → (q .linked ≡ true) × (isPast1 y ≡ true)
 
--- the effect of the line y of worker i, on the queue q and the store m, where the tag has w bits
-abbrev pub effectOn : Kind → ℕ → ℕ → Queue → List ℕ → ℕ → Line → Effect
-effectOn κ w v q m i y = lineStep κ (if q .linked then 0 else w) v q m i y
+-- the effect of the line y of worker i, on the queue q and the store m, where the tag has w bits and X1 finds the room ρ
+abbrev pub effectOn : Room → Kind → ℕ → ℕ → Queue → List ℕ → ℕ → Line → Effect
+effectOn ρ κ w v q m i y = lineStep ρ κ (if q .linked then 0 else w) v q m i y
 
 -- a step of worker i, at the line y of a queue q and a store m, of which nothing is done yet: refused 6 or 8, or its action
 -- waits; line 1 of a steal is never the owner's
-pub record PlannedBy (κ : Kind) (w v n : ℕ) (q : Queue) (m : List ℕ) (i : ℕ) (y : Line) (r : Moved) : Type 0 where
+pub record PlannedBy (ρ : Room) (κ : Kind) (w v n : ℕ) (q : Queue) (m : List ℕ) (i : ℕ) (y : Line) (r : Moved) : Type 0 where
   pub outside : n ≤ i → r .made ≡ made.Refused NoSuchWorker
   pub rests : i < n → isIdle y ≡ true → r .made ≡ made.Refused IdleWorker
   pub goes : i < n → isIdle y ≡ false → isSteal1 y ≡ false → (d : Action) × (r .made ≡ made.Waits d)
-      × (r .line ≡ effectOn κ w v q m i y .line) × Does v (effectOn κ w v q m i y) d × Doable v q (length m) d
+      × (r .line ≡ effectOn ρ κ w v q m i y .line) × Does ρ v (effectOn ρ κ w v q m i y) d × Doable v q (length m) d

@@ -2,13 +2,14 @@
 // the line that its worker is at, and what it did beside. The stores of a thief, and of the owner while they are not delayed,
 // land at once, and the entry is logged; where they are delayed, `owner` finishes the step. A caller that keeps its bench in a
 // local can so replace the one record that most steps change; `settled` has the other steps.
-// Uses `model`, `answers`, `stages`, `anchors`, `slots`, `lines`, `memory` and `state`. It is used by `owner`, `queues` and
-// `listing`.
+// Uses `model`, `answers`, `stages`, `anchors`, `slots`, `lines`, `memory` and `state`. It is used by `owner`, `steps`,
+// `queues` and `listing`.
 ghost use mathlib.Core.Path.{_≡_};
 ghost use mathlib.Core.Bool.{Bool, true, false, not};
 ghost use mathlib.Core.List.{List};
 ghost use Prim.Native.Nat.{ℕ, _≤_, _<_};
 ghost use lib.ListN.{length};
+ghost use Rattle.model.specs.declared.Room.{Room};
 ghost use Rattle.model.specs.declared.Waiting.{Waiting};
 ghost use Rattle.model.specs.declared.Worker.{Worker};
 ghost use Rattle.model.specs.Tests.{_and_};
@@ -16,7 +17,7 @@ ghost use Rattle.model.specs.Stores.{shared, landed};
 ghost use Rattle.model.specs.World.{lineAt, isSteal1};
 ghost use Rattle.model.specs.Calls.{lent, raised, logFull, stepIn};
 ghost use Rattle.slots.specs.Bounds.{Wide};
-ghost use Rattle.lines.specs.Actions.{Lands, Doable};
+ghost use Rattle.lines.specs.Actions.{PlacedIn, Lands, Doable};
 ghost use Rattle.machine.specs.Steps.{
   benchOf,
   AtOnce,
@@ -44,6 +45,7 @@ use model::Line;
 use model::Queue;
 use model::Refusal;
 use model::Region;
+use model::Room;
 use model::Store;
 use model::Worker;
 use state::Returned;
@@ -136,7 +138,7 @@ fn act(
     requires { ⌜ Wide words ⌝ }
     requires { ⌜ Doable words queue (length (now store)) action ⌝ }
     ensures { λ r. ⌜ r ≡ actedBy words written (now (log .entry)) queue action ⌝ }
-    ensures { λ r. ⌜ now (store .exit) ≡ leftBy words (shared queue (now (store .entry))) action .store ⌝ }
+    ensures { λ r. ⌜ ((ρ : Room) → PlacedIn ρ action → now (store .exit) ≡ leftBy ρ words (shared queue (now (store .entry))) action .store) ⌝ }
     ensures { λ r. ⌜ now (log .exit) ≡ logAfter words written (now (log .entry)) action ⌝ }
 {
     match action {
@@ -188,9 +190,10 @@ fn links(linked: bool, line: Line) -> bool
 }
 
 // A step of a worker that is at `line` and reads `queue` and the store, past the test of the limits: refusals 6 and 8, then the
-// line. Its stores land at once, and it is committed or refused 11; or, where they are to join the waiting line, its action is
+// line, where X1 finds `room`. Its stores land at once, and it is committed or refused 11; or, where they are to join the waiting line, its action is
 // handed back and nothing is done. Both go through this one function: a compiler then has one place for the line's code.
 pub fn step_in(
+    room: Room,
     kind: Kind,
     width: u32,
     words: u32,
@@ -203,16 +206,16 @@ pub fn step_in(
     store: &mut [u32],
     log: &mut [u32],
 ) -> Moved
-    requires { ⌜ Steppable kind width words crew queue (length (now store)) worker line ⌝ }
+    requires { ⌜ Steppable room kind width words crew queue (length (now store)) worker line ⌝ }
     ensures { λ r. ⌜ Fits words queue written (r .made) ⌝ }
     ensures { λ r.
         ⌜
         (joins ≡ false
         → (d : Bool) (s : Waiting) (o u k : ℕ) (n : List ℕ) (ws : List Worker) → AtOnce d s worker → (worker < 8 → k ≡ worker) → lineAt ws k ≡ line
         → movedBy (benchOf kind width words crew queue written d s o u n ws) k (r .line) (r .made) (now (store .exit)) (now (log .exit))
-        ≡ stepIn (lent (benchOf kind width words crew queue written d s o u n ws) (now (store .entry)) (now (log .entry))) worker)
+        ≡ stepIn room (lent (benchOf kind width words crew queue written d s o u n ws) (now (store .entry)) (now (log .entry))) worker)
         ⌝ }
-    ensures { λ r. ⌜ (joins ≡ true → PlannedBy kind width words crew queue (now (store .entry)) worker line r) ⌝ }
+    ensures { λ r. ⌜ (joins ≡ true → PlannedBy room kind width words crew queue (now (store .entry)) worker line r) ⌝ }
     ensures { λ r. ⌜ (joins ≡ true → (now (store .exit) ≡ now (store .entry)) × (now (log .exit) ≡ now (log .entry))) ⌝ }
 {
     if crew <= worker {
@@ -229,7 +232,7 @@ pub fn step_in(
             made: Made::Refused { why },
         };
     }
-    let to = lines::next_line(kind, words, queue, store, worker, line);
+    let to = lines::next_line(room, kind, words, queue, store, worker, line);
     if links(queue.linked, line) {
         return Moved {
             line: to,
@@ -237,7 +240,7 @@ pub fn step_in(
         };
     }
     let bits = stages::tag_bits(queue.linked, width);
-    let action = lines::decide(kind, bits, words, queue, store, worker, line);
+    let action = lines::decide(room, kind, bits, words, queue, store, worker, line);
     if joins {
         return Moved {
             line: to,

@@ -36,6 +36,7 @@ use Rattle.model.specs.declared.Line.the-variants.{
   StealCompare,
 }
 use Rattle.model.specs.declared.Queue.{Queue}
+use Rattle.model.specs.declared.Room.{Room}
 use Rattle.model.specs.Tests.{if_then_else_}
 use Rattle.model.specs.Figures.{isEmpty, stealRead, stealLast}
 use Rattle.model.specs.Answers.{ends}
@@ -54,31 +55,31 @@ either P false E F a b = b
 abbrev Rests : Effect → Type 0
 Rests E = ends (E .answer) ≡ true → isIdle (E .line) ≡ true
 
-pub rests : (κ : Kind) (w v : ℕ) (q : Queue) (m : List ℕ) (i : ℕ) (l : Line) → Rests (lineStep κ w v q m i l)
+pub rests : (ρ : Room) (κ : Kind) (w v : ℕ) (q : Queue) (m : List ℕ) (i : ℕ) (l : Line) → Rests (lineStep ρ κ w v q m i l)
 unfolding lineStep
-rests κ w v q m i Idle = λ e. refl
-rests κ w v q m i (PutRead t) = λ e. never e
-rests κ w v q m i (PutTail t h) = λ e. never e
-rests κ w v q m i (PutTest t r) = λ e. never e
-rests κ w v q m i (PutWord t r j) = λ e. never e
-rests κ w v q m i (PutFinish t r) = λ e. refl
-rests κ w v q m i (Claim g) = either Rests (fits v q m) _ _ (λ e. never e) (λ e. refl)
-rests κ w v q m i (Note g) = λ e. never e
-rests κ w v q m i (Copy g h n k) = λ e. never e
-rests κ w v q m i (Publish (ForPut t)) = λ e. never e
-rests κ w v q m i (Publish ForCommit) = λ e. refl
-rests κ w v q m i TakeRead = λ e. never e
-rests κ w v q m i (TakeTail h) = λ e. never e
-rests κ w v q m i (TakeTest r) = either Rests (isEmpty κ r) _ _ (λ e. refl) (λ e. never e)
-rests κ w v q m i (TakeWord r t j) = λ e. never e
-rests κ w v q m i (TakeFinish r t) = λ e. refl
-rests κ w v q m i StealRead = λ e. never e
-rests κ w v q m i (StealTail h) = λ e. never e
-rests κ w v q m i (StealTest r) = either Rests (isEmpty κ r) _ _ (λ e. refl) (λ e. never e)
-rests κ w v q m i (StealNote r) = λ e. never e
-rests κ w v q m i (StealWord r k t j) = λ e. never e
-rests κ w v q m i (StealNext r t) = λ e. never e
-rests κ w v q m i (StealCompare r e t) = either Rests (succeeds κ q i r) _ _ (λ f. refl) (λ f. never f)
+rests ρ κ w v q m i Idle = λ e. refl
+rests ρ κ w v q m i (PutRead t) = λ e. never e
+rests ρ κ w v q m i (PutTail t h) = λ e. never e
+rests ρ κ w v q m i (PutTest t r) = λ e. never e
+rests ρ κ w v q m i (PutWord t r j) = λ e. never e
+rests ρ κ w v q m i (PutFinish t r) = λ e. refl
+rests ρ κ w v q m i (Claim g) = either Rests (fits ρ v q) _ _ (λ e. never e) (λ e. refl)
+rests ρ κ w v q m i (Note g) = λ e. never e
+rests ρ κ w v q m i (Copy g h n k) = λ e. never e
+rests ρ κ w v q m i (Publish (ForPut t)) = λ e. never e
+rests ρ κ w v q m i (Publish ForCommit) = λ e. refl
+rests ρ κ w v q m i TakeRead = λ e. never e
+rests ρ κ w v q m i (TakeTail h) = λ e. never e
+rests ρ κ w v q m i (TakeTest r) = either Rests (isEmpty κ r) _ _ (λ e. refl) (λ e. never e)
+rests ρ κ w v q m i (TakeWord r t j) = λ e. never e
+rests ρ κ w v q m i (TakeFinish r t) = λ e. refl
+rests ρ κ w v q m i StealRead = λ e. never e
+rests ρ κ w v q m i (StealTail h) = λ e. never e
+rests ρ κ w v q m i (StealTest r) = either Rests (isEmpty κ r) _ _ (λ e. refl) (λ e. never e)
+rests ρ κ w v q m i (StealNote r) = λ e. never e
+rests ρ κ w v q m i (StealWord r k t j) = λ e. never e
+rests ρ κ w v q m i (StealNext r t) = λ e. never e
+rests ρ κ w v q m i (StealCompare r e t) = either Rests (succeeds κ q i r) _ _ (λ f. refl) (λ f. never f)
 
 -- past line 1, an attempt that neither ends nor fails its compare stays past it
 past-read : (κ : Kind) (a : Anchor) → isPast1 (stealRead κ a) ≡ true
@@ -99,40 +100,40 @@ past-word false y z e f = f
 abbrev Stays : Bool → Effect → Type 0
 Stays f E = ends (E .answer) ≡ false → f ≡ false → isPast1 (E .line) ≡ true
 
-pub stays : (κ : Kind) (w v : ℕ) (q : Queue) (m : List ℕ) (i : ℕ) (l : Line) → isPast1 l ≡ true → Stays (failsCompare κ q i l) (lineStep κ w v q m i l)
+pub stays : (ρ : Room) (κ : Kind) (w v : ℕ) (q : Queue) (m : List ℕ) (i : ℕ) (l : Line) → isPast1 l ≡ true → Stays (failsCompare κ q i l) (lineStep ρ κ w v q m i l)
 unfolding lineStep if_then_else_
-stays κ w v q m i Idle p = never p
-stays κ w v q m i (PutRead t) p = never p
-stays κ w v q m i (PutTail t h) p = never p
-stays κ w v q m i (PutTest t r) p = never p
-stays κ w v q m i (PutWord t r j) p = never p
-stays κ w v q m i (PutFinish t r) p = never p
-stays κ w v q m i (Claim (ForPut t)) p = never p
-stays κ w v q m i (Claim ForCommit) p = never p
-stays κ w v q m i (Note g) p = never p
-stays κ w v q m i (Copy g h n k) p = never p
-stays κ w v q m i (Publish g) p = never p
-stays κ w v q m i TakeRead p = never p
-stays κ w v q m i (TakeTail h) p = never p
-stays κ w v q m i (TakeTest r) p = never p
-stays κ w v q m i (TakeWord r t j) p = never p
-stays κ w v q m i (TakeFinish r t) p = never p
-stays κ w v q m i StealRead p = never p
-stays κ w v q m i (StealTail h) p = λ e f. refl
-stays κ w v q m i (StealTest r) p = either (Stays false) (isEmpty κ r) _ _ (λ e f. never (sym e)) (λ e f. refl)
-stays κ w v q m i (StealNote r) p = λ e f. refl
-stays κ w v q m i (StealWord r k t j) p = λ e f. past-word (eqb j v) _ _ (past-last κ r _) refl
-stays κ w v q m i (StealNext r t) p = λ e f. refl
-stays κ w v q m i (StealCompare r e t) p = compared (succeeds κ q i r) refl
+stays ρ κ w v q m i Idle p = never p
+stays ρ κ w v q m i (PutRead t) p = never p
+stays ρ κ w v q m i (PutTail t h) p = never p
+stays ρ κ w v q m i (PutTest t r) p = never p
+stays ρ κ w v q m i (PutWord t r j) p = never p
+stays ρ κ w v q m i (PutFinish t r) p = never p
+stays ρ κ w v q m i (Claim (ForPut t)) p = never p
+stays ρ κ w v q m i (Claim ForCommit) p = never p
+stays ρ κ w v q m i (Note g) p = never p
+stays ρ κ w v q m i (Copy g h n k) p = never p
+stays ρ κ w v q m i (Publish g) p = never p
+stays ρ κ w v q m i TakeRead p = never p
+stays ρ κ w v q m i (TakeTail h) p = never p
+stays ρ κ w v q m i (TakeTest r) p = never p
+stays ρ κ w v q m i (TakeWord r t j) p = never p
+stays ρ κ w v q m i (TakeFinish r t) p = never p
+stays ρ κ w v q m i StealRead p = never p
+stays ρ κ w v q m i (StealTail h) p = λ e f. refl
+stays ρ κ w v q m i (StealTest r) p = either (Stays false) (isEmpty κ r) _ _ (λ e f. never (sym e)) (λ e f. refl)
+stays ρ κ w v q m i (StealNote r) p = λ e f. refl
+stays ρ κ w v q m i (StealWord r k t j) p = λ e f. past-word (eqb j v) _ _ (past-last κ r _) refl
+stays ρ κ w v q m i (StealNext r t) p = λ e f. refl
+stays ρ κ w v q m i (StealCompare r e t) p = compared (succeeds κ q i r) refl
   where
-    compared : (x : Bool) → succeeds κ q i r ≡ x → Stays (not (succeeds κ q i r)) (lineStep κ w v q m i (StealCompare r e t))
+    compared : (x : Bool) → succeeds κ q i r ≡ x → Stays (not (succeeds κ q i r)) (lineStep ρ κ w v q m i (StealCompare r e t))
     compared true y = λ a f. never (sym (rw y at a))
     compared false y = λ a f. never (sym (rw y at f))
 
 -- line 1 leads past it
-pub starts : (κ : Kind) (w v : ℕ) (q : Queue) (m : List ℕ) (i : ℕ) → isPast1 (lineStep κ w v q m i StealRead .line) ≡ true
+pub starts : (ρ : Room) (κ : Kind) (w v : ℕ) (q : Queue) (m : List ℕ) (i : ℕ) → isPast1 (lineStep ρ κ w v q m i StealRead .line) ≡ true
 unfolding lineStep
-starts κ w v q m i = past-read κ (q .anchor)
+starts ρ κ w v q m i = past-read κ (q .anchor)
 
 -- and only line 1 of a steal is at stage 4
 pub only-first : (l : Line) → isSteal1 l ≡ true → l ≡ StealRead

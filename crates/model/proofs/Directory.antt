@@ -6,11 +6,11 @@ use mathlib.Core.List.{List}
 use Prim.Native.Nat.{ℕ, zero, suc, _+_, _-_, _*_, _/_, _^_, _≤_, _<_}
 use native.Mathlib.Omega.{arith}
 use native.Mathlib.Nat.{mul-div-cancel-left, mul-left-comm, mul-one, pow-succ', eq-or-lt-of-le}
-use lib.Dec.{eqb}
+use lib.Dec.{eqb, leb}
 use lib.Pow.{pow-pos, pow-mono}
 use borrow.Author.Tests.{eqb-true, leb-true}
 use Rattle.model.specs.declared.Region.{Region}
-use Rattle.model.specs.Memory.{offsetAt, lengthAt, sizeAt}
+use Rattle.model.specs.Memory.{offsetAt, lengthAt, sizeAt, endAt}
 use Rattle.model.specs.Limits.{isSize, tidy}
 use Rattle.model.proofs.Tests.{and-left, and-right, or-cases}
 
@@ -46,16 +46,16 @@ size-of v l k z e = ap (λ (x : ℕ). x / (v + 1)) e ∙ mul-div-cancel-left z (
 
 -- one array after the other
 pub record Next (v : ℕ) (l : List Region) (k : ℕ) : Type 0 where
-  pub place : offsetAt l (suc k) ≡ offsetAt l k + lengthAt l k
+  pub place : endAt l k ≤ offsetAt l (suc k)
   pub longer : lengthAt l (suc k) ≡ 2 * lengthAt l k
   pub small : 2 * sizeAt v l k ≤ 1024
 
 pub tidy-last : (v : ℕ) (l : List Region) (k : ℕ) → tidy v l (suc (suc k)) ≡ true → Next v l k
 tidy-last v l k t =
     let a = and-right (tidy v l (suc k)) _ t in
-    let b = and-right (eqb (offsetAt l (suc k)) (offsetAt l k + lengthAt l k)) _ a in
+    let b = and-right (leb (endAt l k) (offsetAt l (suc k))) _ a in
     record {
-      place = eqb-true _ _ (and-left _ _ a);
+      place = leb-true _ _ (and-left _ _ a);
       longer = eqb-true _ _ (and-left _ _ b);
       small = leb-true _ _ (and-right _ _ b);
     }
@@ -71,12 +71,12 @@ tidy-front v l (suc (suc n)) k t h =
     go (inl e) f = subst (λ (x : ℕ). tidy v l (suc x) ≡ true) (sym e) t
     go (inr i) f = f i
 
-pub tidy-start : (v : ℕ) (l : List Region) → tidy v l 1 ≡ true → (offsetAt l 0 ≡ 0) × Size (sizeAt v l 0)
-tidy-start v l t = (eqb-true _ _ (and-left _ _ t), size-yes 10 (sizeAt v l 0) (omega arith) (and-right _ _ (and-right _ _ t)))
+pub tidy-start : (v : ℕ) (l : List Region) → tidy v l 1 ≡ true → Size (sizeAt v l 0)
+tidy-start v l t = size-yes 10 (sizeAt v l 0) (omega arith) (and-right _ _ t)
 
 -- each array's length in words is that of its tasks
 pub tidy-long : (v : ℕ) (l : List Region) (k : ℕ) → tidy v l (suc k) ≡ true → lengthAt l k ≡ (v + 1) * sizeAt v l k
-tidy-long v l zero t = eqb-true _ _ (and-left _ _ (and-right _ _ t))
+tidy-long v l zero t = eqb-true _ _ (and-left _ _ t)
 tidy-long v l (suc k) t =
     let e : lengthAt l (suc k) ≡ (v + 1) * (2 * sizeAt v l k) = omega (arith, tidy-last v l k t .longer, tidy-long v l k (and-left (tidy v l (suc k)) _ t)) in
     e ∙ ap (λ (x : ℕ). (v + 1) * x) (sym (size-of v l (suc k) (2 * sizeAt v l k) e))
@@ -86,7 +86,7 @@ tidy-twice v l k t =
     size-of v l (suc k) (2 * sizeAt v l k) (omega (arith, tidy-last v l k t .longer, tidy-long v l k (and-left (tidy v l (suc k)) _ t)))
 
 pub tidy-size : (v : ℕ) (l : List Region) (k : ℕ) → tidy v l (suc k) ≡ true → Size (sizeAt v l k)
-tidy-size v l zero t = tidy-start v l t .1
+tidy-size v l zero t = tidy-start v l t
 tidy-size v l (suc k) t =
     let N = tidy-last v l k t in
     subst Size (sym (tidy-twice v l k t)) (size-twice (tidy-size v l k (and-left (tidy v l (suc k)) _ t)) (N .small))

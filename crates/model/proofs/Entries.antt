@@ -6,7 +6,7 @@ use lib.ListN.{replicate}
 use Rattle.model.specs.declared.Operation.{Operation}
 use Rattle.model.specs.declared.Operation.the-variants.{Put, Take, Steal}
 use Rattle.model.specs.Tests.{if_then_else_, _and_, _or_}
-use Rattle.model.specs.Memory.{zeros, wordAt, setWord, offsetAt, lengthAt, sizeAt}
+use Rattle.model.specs.Memory.{zeros, wordAt, setWord, offsetAt, lengthAt, sizeAt, wordsTo}
 use Rattle.model.specs.Tasks.{payload, wordIn, withWord, gathered}
 use Rattle.model.specs.Stores.{landedAll}
 use Rattle.model.specs.Lines.{lineStep}
@@ -51,5 +51,5 @@ pub entries-written :
     ∷ (1 ∷ 0 ∷ 1 ∷ 7 ∷ 8 ∷ 4 ∷ 0 ∷ 2 ∷ 1 ∷ 2 ∷ 2 ∷ 3 ∷ 1 ∷ 7 ∷ 8 ∷ 3 ∷ 2 ∷ 0 ∷ 0 ∷ 0 ∷ [])
     ∷ (1 ∷ 0 ∷ 1 ∷ 7 ∷ 8 ∷ 9 ∷ 6 ∷ 4 ∷ 0 ∷ 2 ∷ 1 ∷ 2 ∷ 3 ∷ 4 ∷ 2 ∷ 3 ∷ 1 ∷ 7 ∷ 8 ∷ 9 ∷ 6 ∷ 3 ∷ 2 ∷ 0 ∷ 0 ∷ 0 ∷ 0 ∷ 0 ∷ [])
     ∷ []
-unfolding after frontOf freshOf beginOf stepOf validOf lineStep landedAll zeros wordAt setWord offsetAt lengthAt sizeAt if_then_else_ _and_ _or_ wordIn withWord gathered
+unfolding after frontOf freshOf beginOf stepOf validOf wordsTo lineStep landedAll zeros wordAt setWord offsetAt lengthAt sizeAt if_then_else_ _and_ _or_ wordIn withWord gathered
 entries-written = refl

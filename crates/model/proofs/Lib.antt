@@ -12,3 +12,5 @@ pub mod Masks
 pub mod Attempts
 pub mod Landing
 pub mod Youngest
+pub mod Alone
+pub mod YardTable

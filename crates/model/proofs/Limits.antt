@@ -40,7 +40,7 @@ use Rattle.model.specs.declared.Region.{Region}
 use Rattle.model.specs.declared.Queue.{Queue}
 use Rattle.model.specs.declared.Worker.{Worker}
 use Rattle.model.specs.Tests.{if_then_else_, _and_, _or_}
-use Rattle.model.specs.Memory.{nowhere, setWord, offsetAt, lengthAt, sizeAt}
+use Rattle.model.specs.Memory.{nowhere, setWord, offsetAt, lengthAt, sizeAt, wordsTo}
 use Rattle.model.specs.Tasks.{task, payload, noTask, wordIn, gathered}
 use Rattle.model.specs.Figures.{anchor}
 use Rattle.model.specs.Stores.{pending, nonePending, landedAll}
@@ -447,5 +447,5 @@ foreign =
     ∷ []
 
 pub limits : map validOf (admitted ++ foreign) ≡ map (λ W. true) admitted ++ map (λ W. false) foreign
-unfolding validOf landedAll setWord offsetAt lengthAt sizeAt if_then_else_ _and_ _or_ gathered wordIn
+unfolding validOf wordsTo landedAll setWord offsetAt lengthAt sizeAt if_then_else_ _and_ _or_ gathered wordIn
 limits = refl

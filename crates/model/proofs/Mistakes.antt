@@ -17,14 +17,14 @@ use Rattle.model.specs.declared.Answer.the-variants.{Accepted, Numbered,
 use Rattle.model.specs.declared.Tally.the-variants as tally
 use Rattle.model.specs.declared.Command.the-variants.{BeginTake, BeginSteal, Steps, End, Bad}
 use Rattle.model.specs.Tests.{if_then_else_, _and_, _or_}
-use Rattle.model.specs.Memory.{zeros, wordAt, setWord, offsetAt, lengthAt, sizeAt}
+use Rattle.model.specs.Memory.{zeros, wordAt, setWord, offsetAt, lengthAt, sizeAt, wordsTo}
 use Rattle.model.specs.Tasks.{task, wordIn, withWord, gathered}
 use Rattle.model.specs.Figures.{anchor}
 use Rattle.model.specs.Stores.{anchored, landedAll}
 use Rattle.model.specs.Lines.{lineStep}
 use Rattle.model.specs.World.{World}
 use Rattle.model.specs.Limits.{validOf}
-use Rattle.model.specs.Calls.{blank, noBench, lent, freshOf, beginOf, restarted, linkSet, stepOf, whoOf, begin, step}
+use Rattle.model.specs.Calls.{blankAt, noBench, lent, freshOf, beginOf, restarted, linkSet, stepOf, whoOf, begin, step}
 use Rattle.model.specs.Run.{played}
 use Rattle.model.specs.Counts.{someBelow, countBelow, sumBelow, countsOf}
 use Rattle.model.specs.Listing.{D, E, F, R, T, stepsOf, respond, listingFrom}
@@ -92,12 +92,12 @@ mistakes =
     ∷ []
 
 pub mistakes-shut-out : map (λ r. show (r .run)) mistakes ≡ map (λ r. r .shown) mistakes
-unfolding show played listingFrom respond stepsOf countsOf someBelow countBelow sumBelow freshOf beginOf stepOf validOf lineStep landedAll zeros wordAt setWord offsetAt lengthAt sizeAt if_then_else_ _and_ _or_ gathered wordIn withWord
+unfolding show played listingFrom respond stepsOf countsOf someBelow countBelow sumBelow freshOf beginOf stepOf validOf wordsTo lineStep landedAll zeros wordAt setWord offsetAt lengthAt sizeAt if_then_else_ _and_ _or_ gathered wordIn withWord
 mistakes-shut-out = refl
 
 -- a queue, linked or not, with this anchor
 abbrev at : Bool → Anchor → Queue
-at x a = anchored (blank Lifo x 1 1 2 1 false .queue) a
+at x a = anchored (blankAt 0 Lifo x 1 1 2 1 false .queue) a
 
 -- the counts of restarts: worker 1's compare fails, at the ceiling and one below it, and the other counts stay; a compare that
 -- succeeds; X4; in a linked queue a compare without its link, with the anchor as it was read, and one with it
@@ -117,7 +117,7 @@ counter = refl
 -- a bench with these counts, in a crew of two
 abbrev tallied : List ℕ → World
 tallied ns =
-    let b = blank Lifo false 1 1 2 1 false in
+    let b = blankAt 0 Lifo false 1 1 2 1 false in
     lent
     (record {
       kind = b .kind;
@@ -144,5 +144,5 @@ summed = refl
 -- a worker's own count; 6 outside the crew; 12 of no bench, before 6
 pub asked : map (whoOf (tallied (eight 4))) (0 ∷ 1 ∷ 2 ∷ []) ++ map (whoOf (lent noBench [] [])) (0 ∷ 8 ∷ [])
     ≡ (tally.Counted 9 ∷ tally.Counted 4 ∷ tally.Refused NoSuchWorker ∷ tally.Refused ForeignState ∷ tally.Refused ForeignState ∷ [])
-unfolding whoOf validOf landedAll offsetAt lengthAt sizeAt if_then_else_ _and_ _or_
+unfolding whoOf validOf wordsTo landedAll offsetAt lengthAt sizeAt if_then_else_ _and_ _or_
 asked = refl

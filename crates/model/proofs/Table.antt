@@ -22,7 +22,7 @@ use Rattle.model.specs.declared.Answer.the-variants.{Accepted, Numbered,
 use Rattle.model.specs.declared.Command.{Command}
 use Rattle.model.specs.declared.Command.the-variants.{Open, BeginPut, BeginTake, BeginSteal, Steps, Who, End}
 use Rattle.model.specs.Tests.{if_then_else_, _and_, _or_}
-use Rattle.model.specs.Memory.{zeros, wordAt, setWord, offsetAt, lengthAt, sizeAt}
+use Rattle.model.specs.Memory.{zeros, wordAt, setWord, offsetAt, lengthAt, sizeAt, wordsTo}
 use Rattle.model.specs.Tasks.{task, payload, wordIn, withWord, gathered}
 use Rattle.model.specs.Answers.{entryOf, entryWords}
 use Rattle.model.specs.Stores.{landedAll}
@@ -208,7 +208,7 @@ table =
     ∷ []
 
 pub p1-to-p9 : map (λ r. show (r .run)) table ≡ map (λ r. r .shown) table
-unfolding show played listingFrom respond stepsOf countsOf someBelow countBelow sumBelow freshOf beginOf stepOf dropLinkOf drainOf askOf dropAskOf whoOf validOf lineStep landedAll zeros wordAt setWord offsetAt lengthAt sizeAt if_then_else_ _and_ _or_ gathered wordIn withWord
+unfolding show played listingFrom respond stepsOf countsOf someBelow countBelow sumBelow freshOf beginOf stepOf dropLinkOf drainOf askOf dropAskOf whoOf validOf wordsTo lineStep landedAll zeros wordAt setWord offsetAt lengthAt sizeAt if_then_else_ _and_ _or_ gathered wordIn withWord
 p1-to-p9 = refl
 
 -- the words of each kind of entry, with two payload words

@@ -27,6 +27,8 @@ use Rattle.model.specs.declared.Refusal.the-variants.{
   NoSpace,
   AskStands,
   NoAsk,
+  ShortQuota,
+  NoSuchQueue,
 }
 use Rattle.model.specs.declared.Answer.{Answer}
 use Rattle.model.specs.declared.Answer.the-variants.{
@@ -66,6 +68,8 @@ numberOf NoneWaiting = 19
 numberOf NoSpace = 20
 numberOf AskStands = 21
 numberOf NoAsk = 22
+numberOf ShortQuota = 23
+numberOf NoSuchQueue = 24
 
 -- an entry of the log
 pub record Entry : Type 0 where

@@ -1,4 +1,5 @@
--- The calls: fresh, begin, step, a link that fails, a drain, who, and the log's front.
+-- The calls: fresh, begin, step, an ask and its drop, a link that fails, a drain, who, and the log's front. What ends in -In is a call past
+-- refusal 12, and what ends in -Of a lone queue's call, with 12 in front.
 use mathlib.Core.Bool.{Bool, true, false}
 use mathlib.Core.List.{List, [], _∷_}
 use Prim.Native.Nat.{ℕ, zero, suc, _+_, _*_}
@@ -10,12 +11,14 @@ use Rattle.model.specs.declared.Growth.the-variants.{ForCommit}
 use Rattle.model.specs.declared.Line.{Line}
 use Rattle.model.specs.declared.Line.the-variants.{PutRead, Claim, TakeRead, StealRead}
 use Rattle.model.specs.declared.Queue.{Queue}
+use Rattle.model.specs.declared.Room.{Room}
 use Rattle.model.specs.declared.Store.{Store}
 use Rattle.model.specs.declared.Waiting.{Waiting}
 use Rattle.model.specs.declared.Bench.{Bench}
 use Rattle.model.specs.declared.Setup.{Setup}
 use Rattle.model.specs.declared.Operation.{Operation}
 use Rattle.model.specs.declared.Operation.the-variants.{Put, Take, Steal, Commit}
+use Rattle.model.specs.declared.Refusal.{Refusal}
 use Rattle.model.specs.declared.Refusal.the-variants.{
   UnknownQueue,
   TagWidth,
@@ -43,17 +46,17 @@ use Rattle.model.specs.declared.Tally.{Tally}
 use Rattle.model.specs.declared.Tally.the-variants as tally
 use Rattle.model.specs.Tests.{if_then_else_, unless_then_else_, _and_, _or_}
 use Rattle.model.specs.Tasks.{task, firstWords}
-use Rattle.model.specs.Memory.{zeros, nowhere}
+use Rattle.model.specs.Memory.{zeros, nowhere, usable}
 use Rattle.model.specs.Answers.{ends, logged, entryLength}
 use Rattle.model.specs.Figures.{anchor}
 use Rattle.model.specs.Stores.{Shared, shared, landed, landedAll, nonePending, joined, oldest, oneLess, claimedBy, nextLength}
 use Rattle.model.specs.Lines.{Effect, fits, lineStep, holdsLink, failsCompare}
-use Rattle.model.specs.World.{World, Outcome, refuse, remembered, memory, ownersView, viewOf, tagBits, resting, lineAt, isIdle, isSteal1, isPast1}
+use Rattle.model.specs.World.{World, Outcome, refuse, remembered, memory, ownersView, viewOf, roomAlone, tagBits, resting, lineAt, isIdle, isSteal1, isPast1}
 use Rattle.model.specs.Limits.{isSize, widthOk, crewOk, wordsOk, validOf}
 
--- FRESH. A bench with no operation open, an array of c tasks of v payload words, and all counters 0
-abbrev pub blank : Kind → Bool → ℕ → ℕ → ℕ → ℕ → Bool → Bench
-blank κ x w c n v d =
+-- FRESH. A bench with no operation open, an array of c tasks of v payload words at word o, and all counters 0
+abbrev pub blankAt : ℕ → Kind → Bool → ℕ → ℕ → ℕ → ℕ → Bool → Bench
+blankAt o κ x w c n v d =
     record {
       kind = κ;
       width = w;
@@ -64,7 +67,7 @@ blank κ x w c n v d =
           record {
             linked = x;
             anchor = anchor 0 0 0;
-            arrays = record { offset = 0; length = (v + 1) * c } ∷ replicate 10 nowhere;
+            arrays = record { offset = o; length = (v + 1) * c } ∷ replicate 10 nowhere;
             published = 1;
             claimed = 1;
             initial = c;
@@ -80,7 +83,7 @@ blank κ x w c n v d =
 
 -- what stands for no bench: a crew of 0, which every call refuses 12
 abbrev pub noBench : Bench
-noBench = blank Lifo false 0 0 0 0 false
+noBench = blankAt 0 Lifo false 0 0 0 0 false
 
 abbrev pub lent : Bench → List ℕ → List ℕ → World
 lent b m l = record { bench = b; store = m; log = l }
@@ -92,20 +95,29 @@ kindOf k = if eqb k 1 or eqb k 4 then Lifo else if eqb k 2 then Fifo else Deque
 abbrev pub linkedOf : ℕ → Bool
 linkedOf k = ltb 3 k
 
--- on the store m and the log l: refusals 1 to 4, 16, 5
+-- as it is told, with its first array at word o
+abbrev pub newBench : ℕ → Setup → Bench
+newBench o s = blankAt o (kindOf (s .kind)) (linkedOf (s .kind)) (s .width) (s .size) (s .crew) (s .words) (s .delayed)
+
+abbrev pub firstLength : Setup → ℕ
+firstLength s = (s .words + 1) * s .size
+
+-- where n words are left: refusals 1 to 4, 16, 5, each answered by R; else x
+abbrev pub admitted : {A : Type 0} → Setup → ℕ → (Refusal → A) → A → A
+admitted s n R x =
+    unless ltb 0 (s .kind) and leb (s .kind) 5 then R UnknownQueue
+    else unless widthOk (s .width) then R TagWidth
+    else unless isSize 10 (s .size) then R ArraySize
+    else unless crewOk (s .crew) then R Crew
+    else unless wordsOk (s .words) then R PayloadWords
+    else unless leb (firstLength s) n then R ShortStore
+    else x
+
+-- alone on the store m, with the log l: all words are left
 unfoldable pub freshOf : Setup → List ℕ → List ℕ → Outcome
 freshOf s m l =
-    unless ltb 0 (s .kind) and leb (s .kind) 5 then refuse (lent noBench m l) UnknownQueue
-    else unless widthOk (s .width) then refuse (lent noBench m l) TagWidth
-    else unless isSize 10 (s .size) then refuse (lent noBench m l) ArraySize
-    else unless crewOk (s .crew) then refuse (lent noBench m l) Crew
-    else unless wordsOk (s .words) then refuse (lent noBench m l) PayloadWords
-    else unless leb ((s .words + 1) * s .size) (length m) then refuse (lent noBench m l) ShortStore
-    else record {
-      world =
-          lent (blank (kindOf (s .kind)) (linkedOf (s .kind)) (s .width) (s .size) (s .crew) (s .words) (s .delayed)) (zeros m 0 ((s .words + 1) * s .size)) l;
-      answer = Accepted;
-    }
+    admitted s (usable m) (λ r. refuse (lent noBench m l) r)
+    (record { world = lent (newBench 0 s) (zeros m 0 (firstLength s)) l; answer = Accepted })
 
 -- kind k, tag width w, first size c, n workers, v payload words, the stores delayed or not
 abbrev pub setupIn : ℕ → ℕ → ℕ → ℕ → ℕ → Bool → Setup
@@ -190,7 +202,6 @@ beginIn W i op =
     else unless asked op (W .bench .aside) then refuse W NoAsk
     else begun W i op
 
--- refusal 12 comes first
 unfoldable pub beginOf : World → ℕ → Operation → Outcome
 beginOf W i op = unless validOf W then refuse W ForeignState else beginIn W i op
 
@@ -237,15 +248,15 @@ landing true zero s = []
 landing true (suc i) s = s
 landing false i s = s
 
-abbrev pub stored : World → ℕ → Effect → Shared
-stored W i E = landedAll (W .bench .words) (claimedBy (E .claims) (memory W)) (landing (W .bench .delayed) i (E .stores))
+abbrev pub stored : Room → World → ℕ → Effect → Shared
+stored ρ W i E = landedAll (W .bench .words) (claimedBy ρ (E .claims) (memory W)) (landing (W .bench .delayed) i (E .stores))
 
 abbrev pub lineAfter : World → ℕ → Effect → Waiting
 lineAfter W i E = joined (W .bench .waiting) (joining (W .bench .delayed) i (E .stores))
 
--- worker i's line left E
-abbrev pub stepped : World → ℕ → Effect → Outcome
-stepped W i E =
+-- worker i's line left E; X1 found the room ρ
+abbrev pub stepped : Room → World → ℕ → Effect → Outcome
+stepped ρ W i E =
     record {
       world =
           record {
@@ -256,7 +267,7 @@ stepped W i E =
                   words = W .bench .words;
                   delayed = W .bench .delayed;
                   crew = W .bench .crew;
-                  queue = relinked (stored W i E .queue) i (lineAt (W .bench .workers) i) (E .line);
+                  queue = relinked (stored ρ W i E .queue) i (lineAt (W .bench .workers) i) (E .line);
                   waiting = lineAfter W i E;
                   aside = if E .claims then 0 else W .bench .aside;
                   used = W .bench .used;
@@ -266,7 +277,7 @@ stepped W i E =
                   written = if ends (E .answer) then W .bench .written + entryLength (W .bench .words) else W .bench .written;
                   workers = set (W .bench .workers) i (record { line = E .line });
                 };
-            store = stored W i E .store;
+            store = stored ρ W i E .store;
             log = logged (W .bench .words) (W .log) (W .bench .written) (E .answer);
           };
       answer = E .answer;
@@ -284,33 +295,31 @@ noRoom W E = ends (E .answer) and logFull (W .bench .words) (W .log) (W .bench .
 abbrev pub crowded : World → ℕ → Effect → Bool
 crowded W i E = ltb 8 (lineAfter W i E .count)
 
-abbrev pub commit : World → ℕ → Effect → Outcome
-commit W i E =
+abbrev pub commit : Room → World → ℕ → Effect → Outcome
+commit ρ W i E =
     if crowded W i E then refuse W WaitingFull
     else if noRoom W E then refuse W LogFull
-    else stepped W i E
+    else stepped ρ W i E
 
-abbrev pub nextEffect : World → ℕ → Effect
-nextEffect W i =
+abbrev pub nextEffect : Room → World → ℕ → Effect
+nextEffect ρ W i =
     let S = viewOf W i in
-    lineStep (W .bench .kind) (tagBits (W .bench)) (W .bench .words) (S .queue) (S .store) i (lineAt (W .bench .workers) i)
+    lineStep ρ (W .bench .kind) (tagBits (W .bench)) (W .bench .words) (S .queue) (S .store) i (lineAt (W .bench .workers) i)
 
 -- past the test of the limits: refusals 6, 8, 18, 11
-abbrev pub stepIn : World → ℕ → Outcome
-stepIn W i =
+abbrev pub stepIn : Room → World → ℕ → Outcome
+stepIn ρ W i =
     unless ltb i (W .bench .crew) then refuse W NoSuchWorker
     else if isIdle (lineAt (W .bench .workers) i) then refuse W IdleWorker
-    else commit W i (nextEffect W i)
+    else commit ρ W i (nextEffect ρ W i)
 
--- refusal 12 comes first
 unfoldable pub stepOf : World → ℕ → Outcome
-stepOf W i = unless validOf W then refuse W ForeignState else stepIn W i
+stepOf W i = unless validOf W then refuse W ForeignState else stepIn (roomAlone W) W i
 
--- ASK AND DROP. What an idle owner does at once, without a line: refusals 12, 6, 9, 7, and then O
+-- ASK AND DROP. What an idle owner does at once, without a line: refusals 6, 9, 7, and then O
 abbrev pub ofIdleOwner : World → ℕ → Outcome → Outcome
 ofIdleOwner W i O =
-    unless validOf W then refuse W ForeignState
-    else unless ltb i (W .bench .crew) then refuse W NoSuchWorker
+    unless ltb i (W .bench .crew) then refuse W NoSuchWorker
     else unless eqb i 0 then refuse W WrongHand
     else unless isIdle (lineAt (W .bench .workers) i) then refuse W BusyWorker
     else O
@@ -319,42 +328,54 @@ ofIdleOwner W i O =
 abbrev pub setAside : World → ℕ → Outcome
 setAside W n = record { world = remembered W (memory W) (W .bench .waiting) n; answer = Accepted }
 
--- the words of an array of twice the size of the one that the owner reads: refusals 21, 20
-unfoldable pub askOf : World → ℕ → Outcome
-askOf W i =
+-- the words of an array of twice the size of the one that the owner reads, where X1 would find room for it: refusals 21, 20
+abbrev pub askIn : Room → World → ℕ → Outcome
+askIn ρ W i =
     ofIdleOwner W i
     (unless eqb (W .bench .aside) 0 then refuse W AskStands
-    else unless fits (W .bench .words) (ownersView W .queue) (W .store) then refuse W NoSpace
+    else unless fits ρ (W .bench .words) (ownersView W .queue) then refuse W NoSpace
     else setAside W (nextLength (ownersView W .queue)))
 
--- the words are given back: refusal 22
-unfoldable pub dropAskOf : World → ℕ → Outcome
-dropAskOf W i = ofIdleOwner W i (unless ltb 0 (W .bench .aside) then refuse W NoAsk else setAside W 0)
+unfoldable pub askOf : World → ℕ → Outcome
+askOf W i = unless validOf W then refuse W ForeignState else askIn (roomAlone W) W i
 
--- LINK DROPPED. The event that makes worker i's link fail for no reason: refusals 12, 6, 17
-unfoldable pub dropLinkOf : World → ℕ → Outcome
-dropLinkOf W i =
-    unless validOf W then refuse W ForeignState
-    else unless ltb i (W .bench .crew) then refuse W NoSuchWorker
+-- the words are given back: refusal 22
+abbrev pub dropAskIn : World → ℕ → Outcome
+dropAskIn W i = ofIdleOwner W i (unless ltb 0 (W .bench .aside) then refuse W NoAsk else setAside W 0)
+
+unfoldable pub dropAskOf : World → ℕ → Outcome
+dropAskOf W i = unless validOf W then refuse W ForeignState else dropAskIn W i
+
+-- LINK DROPPED. The event that makes worker i's link fail for no reason: refusals 6, 17
+abbrev pub dropLinkIn : World → ℕ → Outcome
+dropLinkIn W i =
+    unless ltb i (W .bench .crew) then refuse W NoSuchWorker
     else unless holdsLink (W .bench .queue) i then refuse W NoLink
     else record { world = remembered W (shared (linkSet (W .bench .queue) i false) (W .store)) (W .bench .waiting) (W .bench .aside); answer = Accepted }
 
--- DRAIN. The event that puts the oldest waiting store to its place in memory: refusals 12, 19
+unfoldable pub dropLinkOf : World → ℕ → Outcome
+dropLinkOf W i = unless validOf W then refuse W ForeignState else dropLinkIn W i
+
+-- DRAIN. The event that puts the oldest waiting store to its place in memory: refusal 19
 abbrev pub drained : World → World
 drained W = remembered W (landed (W .bench .words) (memory W) (oldest (W .bench .waiting))) (oneLess (W .bench .waiting)) (W .bench .aside)
 
-unfoldable pub drainOf : World → Outcome
-drainOf W =
-    unless validOf W then refuse W ForeignState
-    else unless ltb 0 (W .bench .waiting .count) then refuse W NoneWaiting
+abbrev pub drainIn : World → Outcome
+drainIn W =
+    unless ltb 0 (W .bench .waiting .count) then refuse W NoneWaiting
     else record { world = drained W; answer = Accepted }
 
--- WHO. Worker i's restarts: refusals 12, 6. It changes nothing, so there is no world in its answer
-unfoldable pub whoOf : World → ℕ → Tally
-whoOf W i =
-    unless validOf W then tally.Refused ForeignState
-    else unless ltb i (W .bench .crew) then tally.Refused NoSuchWorker
+unfoldable pub drainOf : World → Outcome
+drainOf W = unless validOf W then refuse W ForeignState else drainIn W
+
+-- WHO. Worker i's restarts: refusal 6. It changes nothing, so there is no world in its answer
+abbrev pub whoIn : World → ℕ → Tally
+whoIn W i =
+    unless ltb i (W .bench .crew) then tally.Refused NoSuchWorker
     else tally.Counted (restartsOf (W .bench .restarts) i)
+
+unfoldable pub whoOf : World → ℕ → Tally
+whoOf W i = unless validOf W then tally.Refused ForeignState else whoIn W i
 
 -- FRONT. The written front of the log: as many words as its length says, or all if the slice is shorter
 unfoldable pub frontOf : Bench → List ℕ → List ℕ
@@ -369,6 +390,16 @@ pub data Call : Type 0 where
   ask : ℕ → Call
   dropAsk : ℕ → Call
 
+-- past refusal 12, where X1 finds the room ρ
+abbrev pub callIn : Room → World → Call → Outcome
+callIn ρ W (begin i op) = beginIn W i op
+callIn ρ W (step i) = stepIn ρ W i
+callIn ρ W (dropLink i) = dropLinkIn W i
+callIn ρ W drain = drainIn W
+callIn ρ W (ask i) = askIn ρ W i
+callIn ρ W (dropAsk i) = dropAskIn W i
+
+-- of a lone queue
 abbrev pub callOf : World → Call → Outcome
 callOf W (begin i op) = beginOf W i op
 callOf W (step i) = stepOf W i

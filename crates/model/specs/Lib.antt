@@ -12,3 +12,4 @@ pub mod Run
 pub mod Window
 pub mod Counts
 pub mod Listing
+pub mod Yard

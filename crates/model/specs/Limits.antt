@@ -1,7 +1,8 @@
 -- The state limits of refusal 12, in document 01's order.
 use mathlib.Core.Bool.{Bool, true, false, not}
 use mathlib.Core.List.{List, [], _∷_}
-use Prim.Native.Nat.{ℕ, zero, suc, _+_, _-_, _*_, _^_}
+use mathlib.Core.Path.{_≡_}
+use Prim.Native.Nat.{ℕ, zero, suc, _+_, _-_, _*_, _^_, _≤_}
 use lib.Dec.{eqb, ltb, leb}
 use lib.ListN.{length, getD}
 use Rattle.model.specs.declared.Kind.{Kind}
@@ -40,14 +41,15 @@ use Rattle.model.specs.declared.Store.the-variants.{StoreWord, StoreNote
 use Rattle.model.specs.declared.Waiting.{Waiting}
 use Rattle.model.specs.declared.Region.{Region}
 use Rattle.model.specs.declared.Queue.{Queue}
+use Rattle.model.specs.declared.Room.{Room}
 use Rattle.model.specs.declared.Worker.{Worker}
 use Rattle.model.specs.declared.Bench.{Bench}
 use Rattle.model.specs.Tests.{if_then_else_, _and_, _or_}
 use Rattle.model.specs.Tasks.{noneFrom}
-use Rattle.model.specs.Memory.{offsetAt, lengthAt, sizeAt}
+use Rattle.model.specs.Memory.{offsetAt, lengthAt, sizeAt, endAt, usable}
 use Rattle.model.specs.Figures.{anchor, isSame}
-use Rattle.model.specs.Stores.{inLine, taken, nextLength}
-use Rattle.model.specs.Lines.{size, fits}
+use Rattle.model.specs.Stores.{inLine, taken, wordsTaken, nextLength}
+use Rattle.model.specs.Lines.{size}
 use Rattle.model.specs.World.{World, ownersView, tagBits, lineAt, isIdle, isPast1, isExpanding, isCommit1, isOwners, isThiefs}
 
 -- a power of two from 1 to 2^e; sizes go up to 2^10 = 1,024
@@ -70,25 +72,25 @@ crewOk n = ltb 0 n and leb n 8
 abbrev pub wordsOk : ℕ → Bool
 wordsOk v = ltb 0 v and leb v 4
 
--- the directory's first n arrays: laid end to end from offset 0, each twice the one before, of a size from 1 to 1,024
+-- the directory's first n arrays: sorted by offset, none over another, each twice the one before, of a size from 1 to 1,024
 abbrev pub tidy : ℕ → List Region → ℕ → Bool
 tidy v l zero = true
-tidy v l (suc zero) = eqb (offsetAt l 0) 0 and eqb (lengthAt l 0) ((v + 1) * sizeAt v l 0) and isSize 10 (sizeAt v l 0)
+tidy v l (suc zero) = eqb (lengthAt l 0) ((v + 1) * sizeAt v l 0) and isSize 10 (sizeAt v l 0)
 tidy v l (suc (suc k)) =
     tidy v l (suc k)
-    and eqb (offsetAt l (suc k)) (offsetAt l k + lengthAt l k)
+    and leb (endAt l k) (offsetAt l (suc k))
     and eqb (lengthAt l (suc k)) (2 * lengthAt l k) and leb (2 * sizeAt v l k) 1024
 
--- it fits the store; of its arrays p are published, those whose note waits counted, and one more is claimed exactly while the
--- owner, at line o, is at X2 to X4; and the size that is kept is the first array's
-abbrev pub directoryOk : ℕ → Queue → ℕ → List ℕ → Line → Bool
-directoryOk v q p m o =
+-- of its arrays p are published, those whose note waits counted, and one more is claimed exactly while the owner, at line o, is at
+-- X2 to X4; and the size that is kept is the first array's
+abbrev pub directoryOk : ℕ → Queue → ℕ → Line → Bool
+directoryOk v q p o =
     ltb 0 (q .published)
     and leb (q .published) p
     and leb (q .claimed) 11
     and eqb (q .claimed) (if isExpanding o then p + 1 else p)
     and tidy v (q .arrays) (q .claimed)
-    and leb (taken q) (length m) and eqb (q .initial) (sizeAt v (q .arrays) 0)
+    and eqb (q .initial) (sizeAt v (q .arrays) 0)
 
 -- an anchor as a worker read it, in an array of z tasks; what a kind does not use is 0
 abbrev pub readOk : Kind → ℕ → ℕ → Anchor → Bool
@@ -257,30 +259,47 @@ storesOk κ w v q (s ∷ l) = storeOk κ w v q s and storesOk κ w v q l
 abbrev pub waitingOk : Kind → ℕ → ℕ → Queue → Bool → Waiting → Bool
 waitingOk κ w v q d l = leb (l .count) (if d then 8 else 0) and storesOk κ w v q (inLine l)
 
--- n words set aside, with the owner at line o: what an ask would set aside, fitting the store; none at X2 to X4, and some at a
--- commit's X1
-abbrev pub asideOk : ℕ → Queue → List ℕ → Line → ℕ → Bool
-asideOk v q m o n =
-    if eqb n 0 then not (isCommit1 o) else eqb n (nextLength q) and fits v q m and not (isExpanding o)
+-- n words set aside, with the owner at line o: what an ask would set aside; none at X2 to X4, and some at a commit's X1
+abbrev pub asideOk : ℕ → Queue → Line → ℕ → Bool
+asideOk v q o n =
+    if eqb n 0 then not (isCommit1 o) else eqb n (nextLength q) and leb (2 * size v q) 1024 and not (isExpanding o)
 
--- q is the queue in memory, p as the owner reads it
-abbrev pub benchOk : Bench → Queue → Queue → List ℕ → List ℕ → Bool
-benchOk b q p m l =
+-- the limits on one queue, wherever its arrays lie; q is the queue in memory, p as the owner reads it
+abbrev pub benchOk : Bench → Queue → Queue → Bool
+benchOk b q p =
     kindOk (b .kind) (q .linked)
     and widthOk (b .width)
     and wordsOk (b .words)
     and crewOk (b .crew)
-    and directoryOk (b .words) q (p .published) m (lineAt (b .workers) 0)
-    and leb (b .written) (length l)
+    and directoryOk (b .words) q (p .published) (lineAt (b .workers) 0)
     and anchorOk (b .kind) (tagBits b) (size (b .words) q) (q .anchor)
     and anchorOk (b .kind) (tagBits b) (size (b .words) p) (p .anchor)
     and numberOk (b .used)
     and waitingOk (b .kind) (tagBits b) (b .words) p (b .delayed) (b .waiting)
-    and asideOk (b .words) p m (lineAt (b .workers) 0) (b .aside)
+    and asideOk (b .words) p (lineAt (b .workers) 0) (b .aside)
     and linksOk (b .kind) q (b .workers) 8
     and ownerOk (b .kind) (tagBits b) (b .words) p (lineAt (b .workers) 0)
     and thievesOk (b .kind) (tagBits b) (b .words) q (b .crew) (b .workers) 7
 
+-- the log's length is within the slice
+abbrev pub logOk : Bench → List ℕ → Bool
+logOk b l = leb (b .written) (length l)
+
+-- a queue alone: its arrays lie from word 0 on without a gap (its last one ends where all its words do), and fit the store, those
+-- set aside counted
+abbrev pub aloneOk : Bench → List ℕ → Bool
+aloneOk b m = leb (taken (b .queue)) (wordsTaken (b .queue)) and leb (wordsTaken (b .queue) + b .aside) (usable m)
+
 -- the state, with the lengths of its lent memory, is no foreign one
 unfoldable pub validOf : World → Bool
-validOf W = benchOk (W .bench) (W .bench .queue) (ownersView W .queue) (W .store) (W .log)
+validOf W =
+    benchOk (W .bench) (W .bench .queue) (ownersView W .queue)
+    and logOk (W .bench) (W .log) and aloneOk (W .bench) (W .store)
+
+-- what a call past refusal 12 counts on: a state within the limits on one queue, whose arrays end before the room ρ, and this in the
+-- store
+pub record Within (ρ : Room) (W : World) : Type 0 where
+  pub limits : benchOk (W .bench) (W .bench .queue) (ownersView W .queue) ≡ true
+  pub logs : W .bench .written ≤ length (W .log)
+  pub behind : taken (W .bench .queue) ≤ ρ .next
+  pub inside : ρ .next + ρ .left ≤ length (W .store)

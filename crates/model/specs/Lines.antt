@@ -3,7 +3,7 @@ use mathlib.Core.Bool.{Bool, true, false, not}
 use mathlib.Core.List.{List, [], _∷_, _++_}
 use Prim.Native.Nat.{ℕ, zero, suc, _+_, _-_, _*_, _%_}
 use lib.Dec.{eqb, leb}
-use lib.ListN.{length, getD}
+use lib.ListN.{getD}
 use Rattle.model.specs.declared.Kind.{Kind}
 use Rattle.model.specs.declared.Task.{Task}
 use Rattle.model.specs.declared.Anchor.{Anchor}
@@ -37,6 +37,7 @@ use Rattle.model.specs.declared.Line.the-variants.{
   StealCompare,
 }
 use Rattle.model.specs.declared.Queue.{Queue}
+use Rattle.model.specs.declared.Room.{Room}
 use Rattle.model.specs.declared.Answer.{Answer}
 use Rattle.model.specs.declared.Answer.the-variants.{GoesOn, Finished, HandedOut, Empty, Full, Grown}
 use Rattle.model.specs.Tests.{if_then_else_, _and_}
@@ -60,7 +61,7 @@ use Rattle.model.specs.Figures.{
   note,
   stealLast,
 }
-use Rattle.model.specs.Stores.{Shared, landedAll, taken, nextLength, claimedBy}
+use Rattle.model.specs.Stores.{Shared, landedAll, nextLength, claimedBy}
 
 -- what a line does: whether it claims an array, its stores, the worker's next line; and what its step answers
 pub record Effect : Type 0 where
@@ -77,8 +78,8 @@ abbrev pub goes : Line → Effect
 goes l = eff [] l GoesOn
 
 -- what it leaves of the shared words, once its stores have landed
-abbrev pub leftOf : ℕ → Shared → Effect → Shared
-leftOf v S E = landedAll v (claimedBy (E .claims) S) (E .stores)
+abbrev pub leftOf : Room → ℕ → Shared → Effect → Shared
+leftOf ρ v S E = landedAll v (claimedBy ρ (E .claims) S) (E .stores)
 
 -- the current array is the last published one: its size in tasks
 abbrev pub size : ℕ → Queue → ℕ
@@ -102,18 +103,18 @@ takeOn v r t j = if eqb j v then TakeFinish r t else TakeWord r t (j + 1)
 abbrev pub stealOn : Kind → ℕ → Anchor → ℕ → Task → ℕ → Line
 stealOn κ v r k t j = if eqb j v then stealLast κ r t else StealWord r k t (j + 1)
 
--- X1: an array of twice the current size is claimed, where it fits; else FULL
-abbrev pub fits : ℕ → Queue → List ℕ → Bool
-fits v q m = leb (2 * size v q) 1024 and leb (taken q + nextLength q) (length m)
+-- X1: an array of twice the current size is claimed, where that is at most 1,024 and the words left are enough; else FULL
+abbrev pub fits : Room → ℕ → Queue → Bool
+fits ρ v q = leb (2 * size v q) 1024 and leb (nextLength q) (ρ .left)
 
 -- FULL ends a put; a commit comes to X1 only with words set aside, and then it fits
 abbrev pub taskFor : Growth → Task
 taskFor (ForPut t) = t
 taskFor ForCommit = noTask
 
-abbrev pub grows : ℕ → Queue → List ℕ → ℕ → Growth → Effect
-grows v q m i g =
-    if fits v q m
+abbrev pub grows : Room → ℕ → Queue → ℕ → Growth → Effect
+grows ρ v q i g =
+    if fits ρ v q
     then record { claims = true; stores = []; line = Note g; answer = GoesOn }
     else eff [] Idle (Full i (taskFor g))
 
@@ -148,38 +149,38 @@ abbrev pub compares : Kind → Queue → ℕ → Anchor → ℕ → Task → Eff
 compares κ q i r e t =
     if succeeds κ q i r then eff (stealStore κ r e ∷ []) Idle (HandedOut i t) else goes StealRead
 
--- worker i does the line l of a queue of kind κ with a tag of w bits (a linked one has none) and v payload words
-unfoldable pub lineStep : Kind → ℕ → ℕ → Queue → List ℕ → ℕ → Line → Effect
+-- worker i does the line l of a queue of kind κ with a tag of w bits (a linked one has none) and v payload words; X1 finds the room ρ
+unfoldable pub lineStep : Room → Kind → ℕ → ℕ → Queue → List ℕ → ℕ → Line → Effect
 -- no line: a step of an idle worker is refused before it comes here
-lineStep κ w v q m i Idle = goes Idle
+lineStep ρ κ w v q m i Idle = goes Idle
 -- put: figure 1 and 3's lines 1, 2, 3 word by word, 4; figure 2's 1, 2, 3, 4 word by word, 5
-lineStep κ w v q m i (PutRead t) = goes (putRead κ (q .anchor) t)
-lineStep κ w v q m i (PutTail t h) = goes (PutTest t (anchor h (q .anchor .count) (q .anchor .tag)))
-lineStep κ w v q m i (PutTest t r) = goes (if isFull κ (size v q) r then Claim (ForPut t) else PutWord t r 0)
-lineStep κ w v q m i (PutWord t r j) =
+lineStep ρ κ w v q m i (PutRead t) = goes (putRead κ (q .anchor) t)
+lineStep ρ κ w v q m i (PutTail t h) = goes (PutTest t (anchor h (q .anchor .count) (q .anchor .tag)))
+lineStep ρ κ w v q m i (PutTest t r) = goes (if isFull κ (size v q) r then Claim (ForPut t) else PutWord t r 0)
+lineStep ρ κ w v q m i (PutWord t r j) =
     eff (writeWord κ v q (q .published - 1) (putIndex κ r) j (wordIn t j) ∷ []) (putOn v t r j) GoesOn
-lineStep κ w v q m i (PutFinish t r) = eff (putStore κ w r ∷ []) Idle (Finished i t)
+lineStep ρ κ w v q m i (PutFinish t r) = eff (putStore κ w r ∷ []) Idle (Finished i t)
 -- X1 to X4
-lineStep κ w v q m i (Claim g) = grows v q m i g
-lineStep κ w v q m i (Note g) = goes (note κ (size v q) (q .anchor) g)
-lineStep κ w v q m i (Copy g h n k) = eff (copyWords κ v q m (h + k) (v + 1)) (copyOn g h n k) GoesOn
-lineStep κ w v q m i (Publish g) = publishes (StoreNote (q .published) ∷ []) i g
+lineStep ρ κ w v q m i (Claim g) = grows ρ v q i g
+lineStep ρ κ w v q m i (Note g) = goes (note κ (size v q) (q .anchor) g)
+lineStep ρ κ w v q m i (Copy g h n k) = eff (copyWords κ v q m (h + k) (v + 1)) (copyOn g h n k) GoesOn
+lineStep ρ κ w v q m i (Publish g) = publishes (StoreNote (q .published) ∷ []) i g
 -- take: lines 1, 2, 3 word by word, 4; figure 2's 1, 2, 3, 4 word by word, 5
-lineStep κ w v q m i TakeRead = goes (takeRead κ (q .anchor))
-lineStep κ w v q m i (TakeTail h) = goes (TakeTest (anchor h (q .anchor .count) (q .anchor .tag)))
-lineStep κ w v q m i (TakeTest r) = unlessEmpty κ i r (TakeWord r noTask 0)
-lineStep κ w v q m i (TakeWord r t j) =
+lineStep ρ κ w v q m i TakeRead = goes (takeRead κ (q .anchor))
+lineStep ρ κ w v q m i (TakeTail h) = goes (TakeTest (anchor h (q .anchor .count) (q .anchor .tag)))
+lineStep ρ κ w v q m i (TakeTest r) = unlessEmpty κ i r (TakeWord r noTask 0)
+lineStep ρ κ w v q m i (TakeWord r t j) =
     goes (takeOn v r (withWord t j (wordOf κ v q m (q .published - 1) (takeIndex κ r) j)) j)
-lineStep κ w v q m i (TakeFinish r t) = eff (takeStore κ r ∷ []) Idle (HandedOut i t)
+lineStep ρ κ w v q m i (TakeFinish r t) = eff (takeStore κ r ∷ []) Idle (HandedOut i t)
 -- steal: lines 1, 2, 3, 4 word by word, 5; figure 2's 1, 2, 3, 4, 5 word by word, 6; figure 3's 1, 2, 3, 4 word by word, 5, 6
-lineStep κ w v q m i StealRead = goes (stealRead κ (q .anchor))
-lineStep κ w v q m i (StealTail h) = goes (StealTest (anchor h (q .anchor .count) (q .anchor .tag)))
-lineStep κ w v q m i (StealTest r) = unlessEmpty κ i r (StealNote r)
-lineStep κ w v q m i (StealNote r) = goes (StealWord r (q .published - 1) noTask 0)
-lineStep κ w v q m i (StealWord r k t j) =
+lineStep ρ κ w v q m i StealRead = goes (stealRead κ (q .anchor))
+lineStep ρ κ w v q m i (StealTail h) = goes (StealTest (anchor h (q .anchor .count) (q .anchor .tag)))
+lineStep ρ κ w v q m i (StealTest r) = unlessEmpty κ i r (StealNote r)
+lineStep ρ κ w v q m i (StealNote r) = goes (StealWord r (q .published - 1) noTask 0)
+lineStep ρ κ w v q m i (StealWord r k t j) =
     goes (stealOn κ v r k (withWord t j (wordOf κ v q m k (stealIndex κ r) j)) j)
-lineStep κ w v q m i (StealNext r t) = goes (StealCompare r ((r .head + 1) % 2048) t)
-lineStep κ w v q m i (StealCompare r e t) = compares κ q i r e t
+lineStep ρ κ w v q m i (StealNext r t) = goes (StealCompare r ((r .head + 1) % 2048) t)
+lineStep ρ κ w v q m i (StealCompare r e t) = compares κ q i r e t
 
 -- a restart: worker i at line l compares, and in vain
 abbrev pub failsCompare : Kind → Queue → ℕ → Line → Bool

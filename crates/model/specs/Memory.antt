@@ -1,8 +1,9 @@
 -- Words of the store, and the directory of arrays.
 use mathlib.Core.List.{List, [], _∷_, _++_}
-use Prim.Native.Nat.{ℕ, _+_, _*_, _/_}
-use lib.ListN.{getD, set, take, drop, replicate}
+use Prim.Native.Nat.{ℕ, zero, suc, _+_, _*_, _/_}
+use lib.ListN.{length, getD, set, take, drop, replicate}
 use Rattle.model.specs.declared.Region.{Region}
+use Rattle.model.specs.Tests.{least}
 
 -- word j of slot t of the array at offset b: a task is its number and v payload words
 unfoldable pub wordAt : List ℕ → ℕ → ℕ → ℕ → ℕ → ℕ
@@ -33,3 +34,15 @@ lengthAt l k = getD l k nowhere .length
 
 unfoldable pub sizeAt : ℕ → List Region → ℕ → ℕ
 sizeAt v l k = lengthAt l k / (v + 1)
+
+-- the word behind it; and the words that the first n arrays take together
+abbrev pub endAt : List Region → ℕ → ℕ
+endAt l k = offsetAt l k + lengthAt l k
+
+unfoldable pub wordsTo : List Region → ℕ → ℕ
+wordsTo l zero = 0
+wordsTo l (suc k) = wordsTo l k + lengthAt l k
+
+-- of a store only the first 10,235 words are ever used
+abbrev pub usable : List ℕ → ℕ
+usable m = least (length m) 10235

@@ -5,11 +5,13 @@ use Prim.Native.Nat.{ℕ, _+_, _-_, _*_}
 use lib.ListN.{length, getD, set, replicate, take, drop}
 use Rattle.model.specs.declared.Anchor.{Anchor}
 use Rattle.model.specs.declared.Queue.{Queue}
+use Rattle.model.specs.declared.Room.{Room}
 use Rattle.model.specs.declared.Store.{Store}
 use Rattle.model.specs.declared.Store.the-variants.{StoreWord, StoreNote, StorePut, StoreOut, StoreHead, StoreTail}
 use Rattle.model.specs.declared.Pending.{Pending}
 use Rattle.model.specs.declared.Waiting.{Waiting}
-use Rattle.model.specs.Memory.{setWord, zeros, offsetAt, lengthAt}
+use Rattle.model.specs.Tests.{least}
+use Rattle.model.specs.Memory.{setWord, zeros, offsetAt, lengthAt, endAt, wordsTo}
 use Rattle.model.specs.Figures.{anchor}
 
 -- the queue and the store
@@ -85,30 +87,38 @@ oldest l = getD (l .stores) 0 nonePending .store
 abbrev pub oneLess : Waiting → Waiting
 oneLess l = record { stores = drop 1 (l .stores) ++ nonePending ∷ []; count = l .count - 1 }
 
--- the words that the directory takes, claimed ones included: the first free word
+-- where the last array ends, claimed ones included; and the words that its arrays take
 abbrev pub taken : Queue → ℕ
-taken q = offsetAt (q .arrays) (q .claimed - 1) + lengthAt (q .arrays) (q .claimed - 1)
+taken q = endAt (q .arrays) (q .claimed - 1)
+
+abbrev pub wordsTaken : Queue → ℕ
+wordsTaken q = wordsTo (q .arrays) (q .claimed)
+
+-- ROOM. What X1 finds, where of n words `all` are claimed, `own` of them by this queue, and other queues have set `held` aside: the
+-- next free word, for arrays are never given back; and the words left for this queue, by the store and by its quota
+abbrev pub roomIn : ℕ → ℕ → ℕ → ℕ → ℕ → Room
+roomIn n all held own quota = record { next = all; left = least (n - (all + held)) (quota - own) }
 
 -- CLAIM. X1: the next free words become an array of twice the last one's length, and are zeroed
 abbrev pub nextLength : Queue → ℕ
 nextLength q = 2 * lengthAt (q .arrays) (q .claimed - 1)
 
-abbrev pub claiming : Queue → Queue
-claiming q =
+abbrev pub claiming : Room → Queue → Queue
+claiming ρ q =
     record {
       linked = q .linked;
       anchor = q .anchor;
-      arrays = set (q .arrays) (q .claimed) (record { offset = taken q; length = nextLength q });
+      arrays = set (q .arrays) (q .claimed) (record { offset = ρ .next; length = nextLength q });
       published = q .published;
       claimed = q .claimed + 1;
       initial = q .initial;
       links = q .links;
     }
 
-abbrev pub claim : Shared → Shared
-claim S = shared (claiming (S .queue)) (zeros (S .store) (taken (S .queue)) (nextLength (S .queue)))
+abbrev pub claim : Room → Shared → Shared
+claim ρ S = shared (claiming ρ (S .queue)) (zeros (S .store) (ρ .next) (nextLength (S .queue)))
 
 -- where a line claims
-abbrev pub claimedBy : Bool → Shared → Shared
-claimedBy true S = claim S
-claimedBy false S = S
+abbrev pub claimedBy : Room → Bool → Shared → Shared
+claimedBy ρ true S = claim ρ S
+claimedBy ρ false S = S

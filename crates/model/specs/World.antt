@@ -3,7 +3,7 @@ use mathlib.Core.Bool.{Bool}
 use mathlib.Core.List.{List}
 use Prim.Native.Nat.{ℕ, zero, suc}
 use lib.Dec.{eqb, ltb}
-use lib.ListN.{getD}
+use lib.ListN.{length, getD}
 use Rattle.model.specs.declared.Growth.{Growth}
 use Rattle.model.specs.declared.Growth.the-variants.{ForPut, ForCommit}
 use Rattle.model.specs.declared.Line.{Line}
@@ -31,6 +31,7 @@ use Rattle.model.specs.declared.Line.the-variants.{
   StealNext,
   StealCompare,
 }
+use Rattle.model.specs.declared.Room.{Room}
 use Rattle.model.specs.declared.Waiting.{Waiting}
 use Rattle.model.specs.declared.Worker.{Worker}
 use Rattle.model.specs.declared.Bench.{Bench}
@@ -38,7 +39,8 @@ use Rattle.model.specs.declared.Refusal.{Refusal}
 use Rattle.model.specs.declared.Answer.{Answer}
 use Rattle.model.specs.declared.Answer.the-variants.{Refused}
 use Rattle.model.specs.Tests.{if_then_else_, _or_}
-use Rattle.model.specs.Stores.{Shared, shared, landedAll, inLine}
+use Rattle.model.specs.Memory.{usable}
+use Rattle.model.specs.Stores.{Shared, shared, landedAll, inLine, wordsTaken, roomIn}
 
 pub record World : Type 0 where
   pub bench : Bench
@@ -86,6 +88,10 @@ ownersView W = landedAll (W .bench .words) (memory W) (inLine (W .bench .waiting
 abbrev pub viewOf : World → ℕ → Shared
 viewOf W zero = ownersView W
 viewOf W (suc i) = memory W
+
+-- X1's room in a queue that is alone: nobody else claims or sets aside, and its quota is the whole store
+abbrev pub roomAlone : World → Room
+roomAlone W = let n = wordsTaken (W .bench .queue) in roomIn (usable (W .store)) n 0 n (length (W .store))
 
 -- the tag's bits: kinds 4 and 5 have no tag, and theirs stays 0
 abbrev pub tagBits : Bench → ℕ

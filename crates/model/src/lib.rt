@@ -181,6 +181,12 @@ pub struct Region {
     pub length: u32,
 }
 
+// What X1 finds in the store: the next free word, and how many words are left for an array of its queue.
+pub struct Room {
+    pub next: u32,
+    pub left: u32,
+}
+
 // The shared words outside the store: the anchor, and the directory of arrays (sizes 1 to 1,024 are
 // at most 11). The first `published` pairs are published, the first `claimed` are claimed. `initial` is the first array's size, in
 // tasks: it never changes, and array k's is this, doubled k times, so that no line has to divide a length for a size. On a machine
@@ -222,6 +228,14 @@ pub struct Bench {
     pub restarts: [u32; 8],
     pub written: u32,
     pub workers: [Worker; 8],
+}
+
+// Up to four queues over one store, in the order of their making, each with its quota of words. Of the four places the first `made`
+// are made.
+pub struct Yard {
+    pub benches: [Bench; 4],
+    pub quotas: [u32; 4],
+    pub made: u32,
 }
 
 // What fresh is told: the kind's number (1 LIFO, 2 FIFO, 3 double-ended; 4 and 5 are 1 and 3, linked), the tag's width in bits, the
@@ -266,6 +280,8 @@ pub enum Refusal {
     NoSpace,
     AskStands,
     NoAsk,
+    ShortQuota,
+    NoSuchQueue,
 }
 
 // What a call answers: a fresh, a begin or an event is accepted (a put with its number); a step goes on, or ends its operation with an

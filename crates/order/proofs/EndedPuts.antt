@@ -8,6 +8,7 @@ use Prim.Native.Nat.{ℕ, zero, suc, _+_, _-_, _≤_, _<_}
 use native.Mathlib.Omega.{arith}
 use lib.Dec.{eqb}
 use lib.ListN.{set}
+use Rattle.model.specs.declared.Room.{Room}
 use Rattle.model.specs.declared.Kind.{Kind}
 use Rattle.model.specs.declared.Kind.the-variants.{Lifo, Fifo, Deque}
 use Rattle.model.specs.declared.Task.{Task}
@@ -28,15 +29,17 @@ use Rattle.model.specs.Answers.{entryOf}
 use Rattle.model.specs.Figures.{isFull, isEmpty, putRead, takeRead, stealRead, note, stealLast}
 use Rattle.model.specs.Lines.{Effect, size, fits, succeeds, copyOn, putOn, takeOn, stealOn, lineStep}
 use Rattle.model.specs.World.{World, Outcome, tagBits, lineAt}
-use Rattle.model.specs.Calls.{usedBy, firstLine, beginAnswer, begun, freshOf, Call, callOf}
-use Rattle.model.specs.Run.{Played, played}
-use Rattle.theorems.specs.Demand3.{At, finishes, FromFresh}
+use Rattle.model.specs.Calls.{usedBy, firstLine, beginAnswer, begun, Call, callIn}
+use Rattle.model.specs.Run.{Played}
+use Rattle.theorems.specs.Demand3.{At, finishes}
 use Rattle.theorems.proofs.Shape.{ThiefShape}
 use Rattle.theorems.proofs.CommitsGrow.{commit-fits, commit-own}
 use Rattle.theorems.proofs.Valid.{thieves, Whole}
-use Rattle.theorems.proofs.Cases.{effectOf, MayBegin, MayStep, stepTo, call-cases}
-use Rattle.theorems.proofs.WholeRun.{idle-is, line-same, line-other, not-thief, not-owner, in-crew, call-whole}
-use Rattle.theorems.proofs.Fresh.{Started, fresh-started}
+use Rattle.theorems.proofs.Directory.{Admits}
+use Rattle.theorems.proofs.Cases.{effectOf, MayBegin, MayStep, stepTo, call-by}
+use Rattle.theorems.proofs.Company.{Turn, others, own, playedIn, InCompany}
+use Rattle.theorems.proofs.WholeRun.{idle-is, line-same, line-other, not-thief, not-owner, in-crew, call-whole, storing, others-whole}
+use Rattle.theorems.proofs.Fresh.{Started}
 
 -- the call ends a put, with an entry of kind 1 or 4 and the number n
 abbrev pub EndsPut : ℕ → Played → Type 0
@@ -140,34 +143,34 @@ unfolding if_then_else_
 fit-leaves u o true E E′ e a = a
 fit-leaves u o false E E′ e a = absurd (true≢false (sym e))
 
-line-leaves : (u : ℕ) (κ : Kind) (w ω : ℕ) (q : Queue) (m : List ℕ) (i : ℕ) (o : Line) → (o ≡ Claim ForCommit → fits ω q m ≡ true) → Within u o → Leaves u o (lineStep κ w ω q m i o)
+line-leaves : (ρ : Room) (u : ℕ) (κ : Kind) (w ω : ℕ) (q : Queue) (m : List ℕ) (i : ℕ) (o : Line) → (o ≡ Claim ForCommit → fits ρ ω q ≡ true) → Within u o → Leaves u o (lineStep ρ κ w ω q m i o)
 unfolding lineStep
-line-leaves u κ w ω q m i Idle F l = omega arith
-line-leaves u κ w ω q m i (PutRead t) F l = same-put u (PutRead t) (putRead κ (q .anchor) t) l (put-reads κ (q .anchor) t)
-line-leaves u κ w ω q m i (PutTail t h) F l = omega arith
-line-leaves u κ w ω q m i (PutTest t r) F l = same-put u (PutTest t r) (if isFull κ (size ω q) r then Claim (ForPut t) else PutWord t r 0) l (λ d. either-line d (t .number) (isFull κ (size ω q) r) (Claim (ForPut t)) (PutWord t r 0) refl refl)
-line-leaves u κ w ω q m i (PutWord t r j) F l = same-put u (PutWord t r j) (putOn ω t r j) l (λ d. either-line d (t .number) (eqb j ω) (PutFinish t r) (PutWord t r (j + 1)) refl refl)
-line-leaves u κ w ω q m i (PutFinish t r) F l = omega arith
-line-leaves u κ w ω q m i (Claim (ForPut t)) F l = either u (Claim (ForPut t)) (fits ω q m) _ _ (omega arith) (omega arith)
-line-leaves u κ w ω q m i (Claim ForCommit) F l = fit-leaves u (Claim ForCommit) (fits ω q m) _ _ (F refl) (omega arith)
-line-leaves u κ w ω q m i (Note t) F l = same-put u (Note t) (note κ (size ω q) (q .anchor) t) l (put-notes κ (size ω q) (q .anchor) t)
-line-leaves u κ w ω q m i (Copy t h n k) F l = same-put u (Copy t h n k) (copyOn t h n k) l (λ d. either-line d (openNumber t d) (eqb (k + 1) n) (Publish t) (Copy t h n (k + 1)) refl refl)
-line-leaves u κ w ω q m i (Publish (ForPut t)) F l = omega arith
-line-leaves u κ w ω q m i (Publish ForCommit) F l = omega arith
-line-leaves u κ w ω q m i TakeRead F l = same-put u TakeRead (takeRead κ (q .anchor)) l (take-reads κ (q .anchor))
-line-leaves u κ w ω q m i (TakeTail h) F l = omega arith
-line-leaves u κ w ω q m i (TakeTest r) F l = either u (TakeTest r) (isEmpty κ r) _ _ (omega arith) (omega arith)
-line-leaves u κ w ω q m i (TakeWord r t j) F l =
+line-leaves ρ u κ w ω q m i Idle F l = omega arith
+line-leaves ρ u κ w ω q m i (PutRead t) F l = same-put u (PutRead t) (putRead κ (q .anchor) t) l (put-reads κ (q .anchor) t)
+line-leaves ρ u κ w ω q m i (PutTail t h) F l = omega arith
+line-leaves ρ u κ w ω q m i (PutTest t r) F l = same-put u (PutTest t r) (if isFull κ (size ω q) r then Claim (ForPut t) else PutWord t r 0) l (λ d. either-line d (t .number) (isFull κ (size ω q) r) (Claim (ForPut t)) (PutWord t r 0) refl refl)
+line-leaves ρ u κ w ω q m i (PutWord t r j) F l = same-put u (PutWord t r j) (putOn ω t r j) l (λ d. either-line d (t .number) (eqb j ω) (PutFinish t r) (PutWord t r (j + 1)) refl refl)
+line-leaves ρ u κ w ω q m i (PutFinish t r) F l = omega arith
+line-leaves ρ u κ w ω q m i (Claim (ForPut t)) F l = either u (Claim (ForPut t)) (fits ρ ω q) _ _ (omega arith) (omega arith)
+line-leaves ρ u κ w ω q m i (Claim ForCommit) F l = fit-leaves u (Claim ForCommit) (fits ρ ω q) _ _ (F refl) (omega arith)
+line-leaves ρ u κ w ω q m i (Note t) F l = same-put u (Note t) (note κ (size ω q) (q .anchor) t) l (put-notes κ (size ω q) (q .anchor) t)
+line-leaves ρ u κ w ω q m i (Copy t h n k) F l = same-put u (Copy t h n k) (copyOn t h n k) l (λ d. either-line d (openNumber t d) (eqb (k + 1) n) (Publish t) (Copy t h n (k + 1)) refl refl)
+line-leaves ρ u κ w ω q m i (Publish (ForPut t)) F l = omega arith
+line-leaves ρ u κ w ω q m i (Publish ForCommit) F l = omega arith
+line-leaves ρ u κ w ω q m i TakeRead F l = same-put u TakeRead (takeRead κ (q .anchor)) l (take-reads κ (q .anchor))
+line-leaves ρ u κ w ω q m i (TakeTail h) F l = omega arith
+line-leaves ρ u κ w ω q m i (TakeTest r) F l = either u (TakeTest r) (isEmpty κ r) _ _ (omega arith) (omega arith)
+line-leaves ρ u κ w ω q m i (TakeWord r t j) F l =
     same-put u (TakeWord r t j) (takeOn ω r _ j) l (λ d. either-line d d (eqb j ω) (TakeFinish r _) (TakeWord r _ (j + 1)) refl refl)
-line-leaves u κ w ω q m i (TakeFinish r t) F l = omega arith
-line-leaves u κ w ω q m i StealRead F l = same-put u StealRead (stealRead κ (q .anchor)) l (steal-reads κ (q .anchor))
-line-leaves u κ w ω q m i (StealTail h) F l = omega arith
-line-leaves u κ w ω q m i (StealTest r) F l = either u (StealTest r) (isEmpty κ r) _ _ (omega arith) (omega arith)
-line-leaves u κ w ω q m i (StealNote r) F l = omega arith
-line-leaves u κ w ω q m i (StealWord r k t j) F l =
+line-leaves ρ u κ w ω q m i (TakeFinish r t) F l = omega arith
+line-leaves ρ u κ w ω q m i StealRead F l = same-put u StealRead (stealRead κ (q .anchor)) l (steal-reads κ (q .anchor))
+line-leaves ρ u κ w ω q m i (StealTail h) F l = omega arith
+line-leaves ρ u κ w ω q m i (StealTest r) F l = either u (StealTest r) (isEmpty κ r) _ _ (omega arith) (omega arith)
+line-leaves ρ u κ w ω q m i (StealNote r) F l = omega arith
+line-leaves ρ u κ w ω q m i (StealWord r k t j) F l =
     same-put u (StealWord r k t j) (stealOn κ ω r k _ j) l (λ d. either-line d d (eqb j ω) (stealLast κ r _) (StealWord r k _ (j + 1)) (steal-lasts κ r _ d) refl)
-line-leaves u κ w ω q m i (StealNext r t) F l = omega arith
-line-leaves u κ w ω q m i (StealCompare r e t) F l = either u (StealCompare r e t) (succeeds κ q i r) _ _ (omega arith) (omega arith)
+line-leaves ρ u κ w ω q m i (StealNext r t) F l = omega arith
+line-leaves ρ u κ w ω q m i (StealCompare r e t) F l = either u (StealCompare r e t) (succeeds κ q i r) _ _ (omega arith) (omega arith)
 
 -- a thief has no put open, and so ends none
 thief-open : (κ : Kind) (w ω : ℕ) (q : Queue) (τ : ℕ) (θ : Line) → ThiefShape κ w ω q τ θ → (d : ℕ) → openPut θ d ≡ d
@@ -215,7 +218,7 @@ OpenUsed W = Within (W .bench .used) (lineAt (W .bench .workers) 0)
 abbrev pub Moves : World → Outcome → Type 0
 Moves W D = OpenUsed (D .world) × Next (next W) (next (D .world)) (D .answer)
 
-module _ {W : World} (H : Whole W) (J : OpenUsed W) where
+module _ {W : World} (H : Whole W) (J : OpenUsed W) (ρ : Room) (R : Admits ρ (W .bench) (W .store)) where
   -- the owner's line becomes x, or stays while a thief's becomes x
   own-moves : (v : ℕ) (x : Line) (a : Answer) → 0 < W .bench .crew → Goes (W .bench .used) (lineAt (W .bench .workers) 0) v x a
       → Goes (W .bench .used) (lineAt (W .bench .workers) 0) v (lineAt (set (W .bench .workers) 0 (record { line = x })) 0) a
@@ -246,24 +249,24 @@ module _ {W : World} (H : Whole W) (J : OpenUsed W) where
   begun-moves (suc k) Steal B = thief-moves k StealRead Accepted (omega arith)
 
   line-of : (i : ℕ) → Within (W .bench .used) (lineAt (W .bench .workers) i)
-      → Leaves (W .bench .used) (lineAt (W .bench .workers) i) (effectOf W i)
-  line-of zero l = line-leaves (W .bench .used) (W .bench .kind) (tagBits (W .bench)) (W .bench .words) _ _ 0 (lineAt (W .bench .workers) 0) (commit-fits W H) l
-  line-of (suc k) l = line-leaves (W .bench .used) (W .bench .kind) (tagBits (W .bench)) (W .bench .words) (W .bench .queue) (W .store) (suc k) (lineAt (W .bench .workers) (suc k)) (λ e. absurd (commit-own W H k e)) l
+      → Leaves (W .bench .used) (lineAt (W .bench .workers) i) (effectOf ρ W i)
+  line-of zero l = line-leaves ρ (W .bench .used) (W .bench .kind) (tagBits (W .bench)) (W .bench .words) _ _ 0 (lineAt (W .bench .workers) 0) (commit-fits ρ W H R) l
+  line-of (suc k) l = line-leaves ρ (W .bench .used) (W .bench .kind) (tagBits (W .bench)) (W .bench .words) (W .bench .queue) (W .store) (suc k) (lineAt (W .bench .workers) (suc k)) (λ e. absurd (commit-own W H k e)) l
 
-  thief-ends-none : (k z : ℕ) → Next z z (effectOf W (suc k) .answer)
+  thief-ends-none : (k z : ℕ) → Next z z (effectOf ρ W (suc k) .answer)
   thief-ends-none k z =
       let θ = thieves (W .bench .workers) k in
       let e = thief-open _ _ _ _ _ θ (H .shape .th k) in
       let L = line-of (suc k) (omega (arith, e (W .bench .used), e (suc (W .bench .used)))) in
-      ends-none (openPut θ (suc (W .bench .used))) (openPut (effectOf W (suc k) .line) (suc (W .bench .used))) z (effectOf W (suc k) .answer)
+      ends-none (openPut θ (suc (W .bench .used))) (openPut (effectOf ρ W (suc k) .line) (suc (W .bench .used))) z (effectOf ρ W (suc k) .answer)
       (omega (arith, e (suc (W .bench .used)), L .0)) (L .1)
 
-  stepped-moves : (i : ℕ) → MayStep W i → Moves W (stepTo W i)
-  stepped-moves zero M = own-moves (W .bench .used) (effectOf W 0 .line) (effectOf W 0 .answer) (M .member) (line-of 0 J)
-  stepped-moves (suc k) M = thief-moves k (effectOf W (suc k) .line) (effectOf W (suc k) .answer) (thief-ends-none k)
+  stepped-moves : (i : ℕ) → MayStep ρ W i → Moves W (stepTo ρ W i)
+  stepped-moves zero M = own-moves (W .bench .used) (effectOf ρ W 0 .line) (effectOf ρ W 0 .answer) (M .member) (line-of 0 J)
+  stepped-moves (suc k) M = thief-moves k (effectOf ρ W (suc k) .line) (effectOf ρ W (suc k) .answer) (thief-ends-none k)
 
-  pub call-moves : (c : Call) → Moves W (callOf W c)
-  call-moves c = call-cases (Moves W) W (λ r l. (J, omega arith)) begun-moves stepped-moves (λ i. (J, omega arith)) (λ some. (J, omega arith)) (λ n A. (J, omega arith)) c
+  pub call-moves : (c : Call) → Moves W (callIn ρ W c)
+  call-moves c = call-by (Moves W) W (λ r l. (J, omega arith)) ρ begun-moves stepped-moves (λ i. (J, omega arith)) (λ some. (J, omega arith)) (λ n A. (J, omega arith)) c
 
 -- A LIST. What ends a put ends the next one, and the next number only rises
 pub next-rises : (x y : ℕ) (a : Answer) → Next x y a → finishes a + x ≤ y
@@ -295,29 +298,26 @@ ends-next x y (Full i t) n e = n
 ends-next x y (Grown i) n e = other-kind 5 (omega arith) (omega arith) e
 ends-next x y (Refused r) n e = other-kind 0 (omega arith) (omega arith) e
 
-ended-from : (cs : List Call) (W : World) → Whole W → OpenUsed W → (j n : ℕ) → At (played W cs) j (EndsPut n) → next W ≤ n
-unfolding played
-ended-from [] W H J j n a = absurd a
-ended-from (c ∷ cs) W H J zero n (e, q) = omega (arith, ends-next _ _ (callOf W c .answer) (call-moves H J c .1) e)
-ended-from (c ∷ cs) W H J (suc j) n a =
-    let M = call-moves H J c in
-    omega (arith, next-rises _ _ (callOf W c .answer) (M .1), ended-from cs (callOf W c .world) (call-whole H c) (M .0) j n a)
+ended-from : (ts : List Turn) (W : World) → Whole W → InCompany W ts → OpenUsed W → (j n : ℕ) → At (playedIn W ts) j (EndsPut n) → next W ≤ n
+unfolding playedIn InCompany
+ended-from [] W H C J j n a = absurd a
+ended-from (others m ∷ ts) W H (O, C) J j n a = ended-from ts (storing W m) (others-whole H O) C J j n a
+ended-from (own ρ c ∷ ts) W H (R, C) J zero n (e, q) = omega (arith, ends-next _ _ (callIn ρ W c .answer) (call-moves H J ρ R c .1) e)
+ended-from (own ρ c ∷ ts) W H (R, C) J (suc j) n a =
+    let M = call-moves H J ρ R c in
+    omega (arith, next-rises _ _ (callIn ρ W c .answer) (M .1), ended-from ts (callIn ρ W c .world) (call-whole ρ H R c) C (M .0) j n a)
 
-ended-rise : (cs : List Call) (W : World) → Whole W → OpenUsed W → (i j m n : ℕ) → i < j → At (played W cs) i (EndsPut m) → At (played W cs) j (EndsPut n) → m < n
-unfolding played
-ended-rise [] W H J i j m n l a b = absurd a
-ended-rise (c ∷ cs) W H J i zero m n l a b = absurd (omega arith)
-ended-rise (c ∷ cs) W H J zero (suc j) m n l (e, q) b =
-    let M = call-moves H J c in
-    omega (arith, ends-next _ _ (callOf W c .answer) (M .1) e, ended-from cs (callOf W c .world) (call-whole H c) (M .0) j n b)
-ended-rise (c ∷ cs) W H J (suc i) (suc j) m n l a b =
-    ended-rise cs (callOf W c .world) (call-whole H c) (call-moves H J c .0) i j m n (omega arith) a b
+-- THE CLAIM: of two puts that end, the later one has the larger number
+pub ended-rise : (ts : List Turn) (W : World) → Whole W → InCompany W ts → OpenUsed W → (i j m n : ℕ) → i < j → At (playedIn W ts) i (EndsPut m) → At (playedIn W ts) j (EndsPut n) → m < n
+unfolding playedIn InCompany
+ended-rise [] W H C J i j m n l a b = absurd a
+ended-rise (others x ∷ ts) W H (O, C) J i j m n l a b = ended-rise ts (storing W x) (others-whole H O) C J i j m n l a b
+ended-rise (own ρ c ∷ ts) W H (R, C) J i zero m n l a b = absurd (omega arith)
+ended-rise (own ρ c ∷ ts) W H (R, C) J zero (suc j) m n l (e, q) b =
+    let M = call-moves H J ρ R c in
+    omega (arith, ends-next _ _ (callIn ρ W c .answer) (M .1) e, ended-from ts (callIn ρ W c .world) (call-whole ρ H R c) C (M .0) j n b)
+ended-rise (own ρ c ∷ ts) W H (R, C) J (suc i) (suc j) m n l a b =
+    ended-rise ts (callIn ρ W c .world) (call-whole ρ H R c) C (call-moves H J ρ R c .0) i j m n (omega arith) a b
 
 pub started-open : (W : World) → Started W → OpenUsed W
 started-open W F = subst (Within (W .bench .used)) (sym (F .idle)) (omega arith)
-
--- THE CLAIM: of two puts that end, the later one has the larger number
-pub ended-puts-rise : FromFresh (λ W. (cs : List Call) (i j m n : ℕ) → i < j → At (played W cs) i (EndsPut m) → At (played W cs) j (EndsPut n) → m < n)
-ended-puts-rise s m l e cs =
-    let F = fresh-started s m l e in
-    ended-rise cs (freshOf s m l .world) (F .whole) (started-open _ F)

@@ -14,18 +14,20 @@ use Rattle.model.specs.declared.Store.{Store}
 use Rattle.model.specs.Tests.{if_then_else_, _or_}
 use Rattle.model.specs.World.{World, tagBits}
 use Rattle.model.specs.declared.Answer.the-variants.{Accepted}
-use Rattle.model.specs.Calls.{freshOf, kindOf, Call, callOf}
-use Rattle.model.specs.Run.{Played, played, after}
+use Rattle.model.specs.Calls.{freshOf, kindOf, callIn}
+use Rattle.model.specs.Run.{Played}
 use Rattle.theorems.specs.Demand3.{At, HandsOut}
-use Rattle.order.specs.Order.{Gives, InOrder, FifoInOrder, LogInOrder, FifoLogInOrder}
+use Rattle.order.specs.Order.{Gives, InOrder, FifoInOrder, logFront, LogInOrder, FifoLogInOrder}
 use Rattle.theorems.proofs.Events.{Event, quiet, line-1, finished-put, handed-out, failed-compare, found-empty, began-put, found-full, waiting-put, drained, History, Premise, PremiseAt, GoodHistory}
 use Rattle.theorems.proofs.Window.{View}
 use Rattle.theorems.proofs.Order.{Given, InTurn, Rises, Order}
 use Rattle.theorems.proofs.Places.{EventAt, rev, said-rev, mem-rev, at-mem}
 use Rattle.theorems.proofs.SoundRun.{event-at, events, InvOf, Runs, run-kept, call-like}
-use Rattle.theorems.proofs.Fresh.{Started, fresh-runs, fresh-started, fresh-is}
-use Rattle.order.proofs.LogFront.{log-is-answers}
-use Rattle.order.proofs.CutAnswers.{answers-cut, words-le}
+use Rattle.theorems.proofs.Company.{Turn, others, own, playedIn, afterIn, InCompany}
+use Rattle.theorems.proofs.WholeRun.{storing}
+use Rattle.theorems.proofs.Fresh.{Started, fresh-runs, fresh-started, fresh-is, from-company}
+use Rattle.order.proofs.LogFront.{log-in}
+use Rattle.order.proofs.CutAnswers.{run-cut}
 use Rattle.order.proofs.LogOrder.{log-in-order}
 use Rattle.theorems.proofs.Translate.{at-map, at-true, True, from-ev, out-ev, ev-out}
 
@@ -58,10 +60,10 @@ event-the [] j s a = absurd a
 event-the (x ∷ T) zero s a = ap event-at a
 event-the (x ∷ T) (suc j) s a = event-the T j s a
 
-gives-event : (cs : List Call) (W : World) (j n : ℕ) → At (played W cs) j (Gives n) → (i : ℕ) × (t : Task) × EventAt (events (played W cs)) j (handed-out i t) × (t .number ≡ n)
-gives-event cs W j n a =
-    let T = played W cs in
-    let (s, (r, (i, t, q, e)), x) = at-the T j (λ s. True s × Gives n s) (at-true cs W j (Gives n) (λ s. True s × Gives n s) (λ s r g. (r, g)) a) in
+gives-event : (ts : List Turn) (W : World) (j n : ℕ) → At (playedIn W ts) j (Gives n) → (i : ℕ) × (t : Task) × EventAt (events (playedIn W ts)) j (handed-out i t) × (t .number ≡ n)
+gives-event ts W j n a =
+    let T = playedIn W ts in
+    let (s, (r, (i, t, q, e)), x) = at-the T j (λ s. True s × Gives n s) (at-true ts W j (Gives n) (λ s. True s × Gives n s) (λ s r g. (r, g)) a) in
     let (k, p) = out-ev t s r (i, q) in
     (k, t, subst (EventAt (events T) j) p (event-the T j s x), e)
 
@@ -71,17 +73,17 @@ event-gives T j n i t e a =
     (at-map T j (λ s. event-at s ≡ handed-out i t) (HandsOut t) (ev-out i t) (from-ev T j (handed-out i t) a))
 
 -- a list whose history rises is in order
-in-order : (cs : List Call) (W : World) → Rises (rev (events (played W cs)) []) → InOrder (played W cs)
-in-order cs W R j k m n F G l = go (said-rev InTurn Rises (λ e h G. G) (events (played W cs)) [] k (handed-out (b .0) (b .1)) (b .2) R)
+in-order : (ts : List Turn) (W : World) → Rises (rev (events (playedIn W ts)) []) → InOrder (playedIn W ts)
+in-order ts W R j k m n F G l = go (said-rev InTurn Rises (λ e h G. G) (events (playedIn W ts)) [] k (handed-out (b .0) (b .1)) (b .2) R)
   where
     T : List Played
-    T = played W cs
+    T = playedIn W ts
 
     a : (i : ℕ) × (t : Task) × EventAt (events T) j (handed-out i t) × (t .number ≡ m)
-    a = gives-event cs W j m (F .here)
+    a = gives-event ts W j m (F .here)
 
     b : (i : ℕ) × (t : Task) × EventAt (events T) k (handed-out i t) × (t .number ≡ n)
-    b = gives-event cs W k n (G .here)
+    b = gives-event ts W k n (G .here)
 
     again : Given (b .1 .number) (rev (take k (events T)) []) → ⊥
     again (i, t, d, q) = place (mem-rev (events T) [] k (handed-out i t) d)
@@ -95,39 +97,37 @@ in-order cs W R j k m n F G l = go (said-rev InTurn Rises (λ e h G. G) (events 
     go (inr f) = omega (arith, b .3, f m (a .0, a .1, at-mem (events T) [] k j (handed-out (a .0) (a .1)) (a .2) l, a .3))
 
 -- a run keeps its kind
-kind-kept : (cs : List Call) (W : World) → after W cs .bench .kind ≡ W .bench .kind
-unfolding after
+kind-kept : (ts : List Turn) (W : World) → afterIn W ts .bench .kind ≡ W .bench .kind
+unfolding afterIn
 kind-kept [] W = refl
-kind-kept (c ∷ cs) W = kind-kept cs (callOf W c .world) ∙ call-like W c .kind
+kind-kept (others m ∷ ts) W = kind-kept ts (storing W m)
+kind-kept (own ρ c ∷ ts) W = kind-kept ts (callIn ρ W c .world) ∙ call-like ρ W c .kind
 
 rises-of : (κ : Kind) (v : View) (a : ℕ) (ss : List Store) (h : History) → κ ≡ Fifo → Order κ v a ss h → Rises h
 rises-of κ v a ss h e O = subst (λ (x : Kind). Order x v a ss h) e O .climb .rises
 
-fifo-run : (s : Setup) (m l : List ℕ) → freshOf s m l .answer ≡ Accepted → kindOf (s .kind) ≡ Fifo → (cs : List Call) → InOrder (played (freshOf s m l .world) cs)
-fifo-run s m l e second cs = in-order cs U (rises-of _ _ _ _ _ kind (R .0 .order))
+-- of a queue in company
+pub fifo-in : (ts : List Turn) (U : World) → Started U → U .bench .kind ≡ Fifo → InCompany U ts → InOrder (playedIn U ts)
+fifo-in ts U F fifo C = in-order ts U (rises-of _ _ _ _ _ (kind-kept ts U ∙ fifo) (R .0 .order))
   where
-    U : World
-    U = freshOf s m l .world
-
-    F : Started U
-    F = fresh-started s m l e
-
-    fifo : U .bench .kind ≡ Fifo
-    fifo = ap (λ (W : World). W .bench .kind) (fresh-is s m l e .0) ∙ second
-
-    kind : after U cs .bench .kind ≡ Fifo
-    kind = kind-kept cs U ∙ fifo
-
-    R : InvOf (after U cs) (rev (events (played U cs)) []) × GoodHistory (U .bench .delayed) (rev (events (played U cs)) [])
+    R : InvOf (afterIn U ts) (rev (events (playedIn U ts)) []) × GoodHistory (U .bench .delayed) (rev (events (playedIn U ts)) [])
     R =
-        run-kept Fifo (tagBits (U .bench)) (U .bench .delayed) cs U [] (subst (λ (κ : Kind). Runs κ (tagBits (U .bench)) (U .bench .delayed) U []) fifo (fresh-runs U F))
-        (no-premise (tagBits (U .bench)) (rev (events (played U cs)) []))
+        run-kept Fifo (tagBits (U .bench)) (U .bench .delayed) ts U [] C (subst (λ (κ : Kind). Runs κ (tagBits (U .bench)) (U .bench .delayed) U []) fifo (fresh-runs U F))
+        (no-premise (tagBits (U .bench)) (rev (events (playedIn U ts)) []))
+
+pub fifo-log-in : (ts : List Turn) (U : World) → Started U → U .bench .kind ≡ Fifo → InCompany U ts → LogInOrder (U .bench .words) (logFront (afterIn U ts))
+fifo-log-in ts U F fifo C =
+    subst (LogInOrder _) (sym (log-in ts U F)) (log-in-order _ _ (F .whole .words .1) (run-cut _ ts U refl (F .whole) C) (fifo-in ts U F fifo C))
+
+-- and alone
+fresh-fifo : (s : Setup) (m l : List ℕ) → s .kind ≡ 2 → freshOf s m l .answer ≡ Accepted → freshOf s m l .world .bench .kind ≡ Fifo
+unfolding if_then_else_ _or_
+fresh-fifo s m l is e = ap (λ (W : World). W .bench .kind) (fresh-is s m l e .0) ∙ ap kindOf is
 
 pub fifo-in-order : FifoInOrder
-unfolding if_then_else_ _or_
-fifo-in-order s m l is e cs = fifo-run s m l e (ap kindOf is) cs
+fifo-in-order s m l is e = from-company (λ (T : List Played) (X : World). InOrder T) s m l e (λ ts C. fifo-in ts _ (fresh-started s m l e) (fresh-fifo s m l is e) C)
 
 pub fifo-log-in-order : FifoLogInOrder
-fifo-log-in-order s m l is e cs =
-    subst (LogInOrder _) (sym (log-is-answers s m l e cs))
-    (log-in-order _ _ (words-le s m l e) (answers-cut s m l e cs) (fifo-in-order s m l is e cs))
+fifo-log-in-order s m l is e =
+    from-company (λ (T : List Played) (X : World). LogInOrder (freshOf s m l .world .bench .words) (logFront X)) s m l e
+    (λ ts C. fifo-log-in ts _ (fresh-started s m l e) (fresh-fifo s m l is e) C)

@@ -14,16 +14,16 @@ use Rattle.model.specs.Tasks.{sameTask}
 use Rattle.model.proofs.Tasks.{same-words}
 use Rattle.model.specs.Answers.{Entry, entryLength}
 use Rattle.model.specs.World.{World}
-use Rattle.model.specs.Calls.{freshOf, Call, callOf, frontOf}
-use Rattle.model.specs.Run.{played, after}
+use Rattle.model.specs.Calls.{callIn, frontOf}
 use Rattle.model.specs.Counts.{entryAt, isKind, someBelow, countBelow, outAs, outWhole, outFirst, entriesIn}
 use Rattle.model.proofs.Below.{some-same, count-same}
-use Rattle.theorems.specs.Demand3.{FromFresh}
 use Rattle.order.specs.Order.{logFront}
 use Rattle.order.proofs.Entries.{count, entries-long}
-use Rattle.order.proofs.LogFront.{written-is}
-use Rattle.order.proofs.CutAnswers.{words-le}
+use Rattle.order.proofs.LogFront.{written-in}
+use Rattle.theorems.proofs.WholeRun.{storing}
+use Rattle.theorems.proofs.Company.{Turn, others, own, playedIn, afterIn, InCompany}
 use Rattle.theorems.proofs.SoundRun.{call-like}
+use Rattle.theorems.proofs.Fresh.{Started}
 
 entry-front : (ω w : ℕ) (l : List ℕ) (j : ℕ) → entryLength ω * suc j ≤ w → entryAt ω (take w l) j ≡ entryAt ω l j
 entry-front ω w l j h =
@@ -64,15 +64,15 @@ module _ (W : World) where
   pub out-same : (t : Task) → someBelow (outWhole v (logFront W) t) (entriesIn W) ≡ someBelow (outWhole v (W .log) t) (entriesIn W)
   out-same t = some-same _ _ (entriesIn W) (λ j h. ap (λ (e : Entry). eqb (e .kind) 2 and sameTask (e .task) t) (entry-same j h))
 
-pub words-kept : (cs : List Call) (W : World) → after W cs .bench .words ≡ W .bench .words
-unfolding after
+pub words-kept : (ts : List Turn) (W : World) → afterIn W ts .bench .words ≡ W .bench .words
+unfolding afterIn
 words-kept [] W = refl
-words-kept (c ∷ cs) W = words-kept cs (callOf W c .world) ∙ call-like W c .words
+words-kept (others m ∷ ts) W = words-kept ts (storing W m)
+words-kept (own ρ c ∷ ts) W = words-kept ts (callIn ρ W c .world) ∙ call-like ρ W c .words
 
-pub entries-many : FromFresh (λ W. (cs : List Call) → count (played W cs) ≡ entriesIn (after W cs))
-entries-many s m l e cs =
-    let W = freshOf s m l .world in
+pub many-in : (ts : List Turn) (U : World) → Started U → InCompany U ts → count (playedIn U ts) ≡ entriesIn (afterIn U ts)
+many-in ts U F C =
     sym
-    (ap (λ (x : ℕ). x / entryLength (after W cs .bench .words)) (written-is s m l e cs ∙ entries-long (W .bench .words) (played W cs) (words-le s m l e))
-    ∙ ap (λ (v : ℕ). entryLength (W .bench .words) * count (played W cs) / entryLength v) (words-kept cs W)
-    ∙ mul-div-cancel-left (count (played W cs)) (let z : 0 < entryLength (W .bench .words) = omega arith in z))
+    (ap (λ (x : ℕ). x / entryLength (afterIn U ts .bench .words)) (written-in ts U F C ∙ entries-long (U .bench .words) (playedIn U ts) (F .whole .words .1))
+    ∙ ap (λ (v : ℕ). entryLength (U .bench .words) * count (playedIn U ts) / entryLength v) (words-kept ts U)
+    ∙ mul-div-cancel-left (count (playedIn U ts)) (let z : 0 < entryLength (U .bench .words) = omega arith in z))

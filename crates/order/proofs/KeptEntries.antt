@@ -14,12 +14,11 @@ use Rattle.model.specs.Tasks.{sameTask}
 use Rattle.model.proofs.Tasks.{task-same}
 use Rattle.model.specs.Answers.{Entry, entry, entryOf, ends}
 use Rattle.model.specs.World.{World}
-use Rattle.model.specs.Calls.{Call}
-use Rattle.model.specs.Run.{Played, played, after}
+use Rattle.model.specs.Run.{Played}
 use Rattle.model.specs.Counts.{entryAt, isKind, someBelow, outWhole}
 use Rattle.model.proofs.Tests.{and-both}
 use Rattle.model.proofs.Below.{some-at}
-use Rattle.theorems.specs.Demand3.{At, Finishes, HandsOut, Out, Stands, Demand3}
+use Rattle.theorems.specs.Demand3.{Sound, At, Finishes, HandsOut, Out, Stands}
 use Rattle.theorems.proofs.Translate.{at-map}
 use Rattle.order.specs.Order.{entries}
 use Rattle.order.proofs.Entries.{AllCut, kind-1, kind-2, place, placed, entered, count, entries-inside}
@@ -58,18 +57,15 @@ module _ (ω : ℕ) (T : List Played) (g : ω ≤ 4) (c : AllCut ω T) where
       (λ s (a, k). let (i, t, q) = kind-1 (s .answer) k in (i, q ∙ ap (Finished i) (task-of (sym (ap entryOf q) ∙ a))))
       (wrote 1 j (omega arith) e)
 
-pub kept-entry : (ω : ℕ) (W : World) (cs : List Call) → ω ≤ 4 → AllCut ω (played W cs) → Demand3 W cs → (j : ℕ) → isKind ω (entries ω (played W cs)) 1 j ≡ true
-    → (someBelow (outWhole ω (entries ω (played W cs)) (entryAt ω (entries ω (played W cs)) j .task)) (count (played W cs)) ≡ true)
-    ⊎ Stands (after W cs) (entryAt ω (entries ω (played W cs)) j .task)
-kept-entry ω W cs g c D j e = go (D .kept _ (place T j) t (D .ended (place T j) t (finished ω T g c j e) .1))
+pub kept-of : (ω : ℕ) (T : List Played) (X : World) → ω ≤ 4 → AllCut ω T → Sound T X → (j : ℕ) → isKind ω (entries ω T) 1 j ≡ true
+    → (someBelow (outWhole ω (entries ω T) (entryAt ω (entries ω T) j .task)) (count T) ≡ true)
+    ⊎ Stands X (entryAt ω (entries ω T) j .task)
+kept-of ω T X g c D j e = go (D .kept _ (place T j) t (D .ended (place T j) t (finished ω T g c j e) .1))
   where
-    T : List Played
-    T = played W cs
-
     t : Task
     t = entryAt ω (entries ω T) j .task
 
-    go : ((k : ℕ) × Out T k t) ⊎ Stands (after W cs) t → (someBelow (outWhole ω (entries ω T) t) (count T) ≡ true) ⊎ Stands (after W cs) t
+    go : ((k : ℕ) × Out T k t) ⊎ Stands X t → (someBelow (outWhole ω (entries ω T) t) (count T) ≡ true) ⊎ Stands X t
     go (inl (k, a)) =
         let (i, _, (s, (w, q), x)) = entered ω T g c k (HandsOut t) (λ s (w, q). ap ends q) a in
         let y = x ∙ ap entryOf q in

@@ -9,6 +9,7 @@ use lib.Dec.{ltb}
 use lib.ListN.{length, set, take, length-set}
 use lib.Seq.{length-take-le}
 use borrow.Author.Tests.{ltb-false}
+use Rattle.model.specs.declared.Room.{Room}
 use Rattle.model.specs.declared.Operation.{Operation}
 use Rattle.model.specs.declared.Operation.the-variants.{Put, Take, Steal, Commit}
 use Rattle.model.specs.declared.Answer.{Answer}
@@ -17,16 +18,16 @@ use Rattle.model.specs.Tests.{if_then_else_, _and_}
 use Rattle.model.specs.Memory.{setAll}
 use Rattle.model.specs.Answers.{entryOf, ends, entryLength, entryWords}
 use Rattle.model.specs.World.{World, Outcome}
-use Rattle.model.specs.Calls.{beginAnswer, logFull, frontOf, kindOf, linkedOf, Call, callOf}
-use Rattle.model.specs.Run.{played, after}
+use Rattle.model.specs.Calls.{beginAnswer, logFull, frontOf, freshOf, Call, callIn}
+use Rattle.model.specs.Run.{Played}
 use Rattle.model.proofs.Tests.{or-false}
-use Rattle.theorems.specs.Demand3.{FromFresh}
 use Rattle.order.specs.Order.{entries, logFront, LogIsAnswers}
-use Rattle.theorems.proofs.Cases.{effectOf, call-cases}
-use Rattle.theorems.proofs.WholeRun.{whole-run}
+use Rattle.theorems.proofs.Cases.{effectOf, call-by}
+use Rattle.theorems.proofs.WholeRun.{storing}
+use Rattle.theorems.proofs.Company.{Turn, others, own, playedIn, afterIn, InCompany, whole-run}
 use Rattle.theorems.proofs.SoundRun.{call-like}
 use Rattle.order.proofs.Entries.{words-long}
-use Rattle.theorems.proofs.Fresh.{start, fresh-is, fresh-started}
+use Rattle.theorems.proofs.Fresh.{Started, fresh-started, from-company}
 
 -- a word written right behind a front makes the front one word longer; so the words of an entry make it as much longer
 take-next : (l : List ℕ) (n m x : ℕ) → m ≡ suc n → n < length l → take m (set l n x) ≡ take n l ++ (x ∷ [])
@@ -79,36 +80,38 @@ step-adds ω l n a true g h r =
     (omega (arith, w .0), subst (λ (k : ℕ). take (n + k) (setAll l n (entryWords ω (entryOf a))) ≡ take n l ++ entryWords ω (entryOf a)) e (w .1))
 step-adds ω l n a false g h r = (h, sym (append-nil (take n l)))
 
-call-adds : (W : World) → W .bench .words ≤ 4 → W .bench .written ≤ length (W .log) → (c : Call) → Adds W (callOf W c)
-call-adds W g h c =
-    call-cases (Adds W) W (λ r l. (h, adds-none (W .bench .words) front (Refused r) refl))
+call-adds : (ρ : Room) (W : World) → W .bench .words ≤ 4 → W .bench .written ≤ length (W .log) → (c : Call) → Adds W (callIn ρ W c)
+call-adds ρ W g h c =
+    call-by (Adds W) W (λ r l. (h, adds-none (W .bench .words) front (Refused r) refl)) ρ
     (λ i op B. (h, adds-none (W .bench .words) front (beginAnswer op (W .bench .used)) (begin-ends-none op (W .bench .used))))
-    (λ i M. step-adds (W .bench .words) (W .log) (W .bench .written) (effectOf W i .answer) (ends (effectOf W i .answer)) g h (M .room)) (λ i. (h, adds-none (W .bench .words) front Accepted refl)) (λ some. (h, adds-none (W .bench .words) front Accepted refl)) (λ n A. (h, adds-none (W .bench .words) front Accepted refl)) c
+    (λ i M. step-adds (W .bench .words) (W .log) (W .bench .written) (effectOf ρ W i .answer) (ends (effectOf ρ W i .answer)) g h (M .room)) (λ i. (h, adds-none (W .bench .words) front Accepted refl)) (λ some. (h, adds-none (W .bench .words) front Accepted refl)) (λ n A. (h, adds-none (W .bench .words) front Accepted refl)) c
   where
     front : List ℕ
     front = take (W .bench .written) (W .log)
 
 -- so does a list of calls
-front-grows : (ω : ℕ) (cs : List Call) (W : World) → W .bench .words ≡ ω → ω ≤ 4 → W .bench .written ≤ length (W .log)
-    → logFront (after W cs) ≡ take (W .bench .written) (W .log) ++ entries ω (played W cs)
-unfolding played after frontOf
+pub front-grows : (ω : ℕ) (ts : List Turn) (W : World) → W .bench .words ≡ ω → ω ≤ 4 → W .bench .written ≤ length (W .log)
+    → logFront (afterIn W ts) ≡ take (W .bench .written) (W .log) ++ entries ω (playedIn W ts)
+unfolding playedIn afterIn frontOf
 front-grows ω [] W e g h = sym (append-nil (take (W .bench .written) (W .log)))
-front-grows ω (c ∷ cs) W e g h =
-    let A = call-adds W (omega arith) h c in
-    front-grows ω cs (callOf W c .world) (call-like W c .words ∙ e) g (A .0) ∙ ap (λ (r : List ℕ). r ++ entries ω (played (callOf W c .world) cs)) (A .1)
-    ∙ ap (λ (v : ℕ). take (W .bench .written) (W .log) ++ words v (callOf W c .answer) ++ entries ω (played (callOf W c .world) cs)) e
-    ∙ append-assoc (take (W .bench .written) (W .log)) (words ω (callOf W c .answer)) (entries ω (played (callOf W c .world) cs))
+front-grows ω (others m ∷ ts) W e g h = front-grows ω ts (storing W m) e g h
+front-grows ω (own ρ c ∷ ts) W e g h =
+    let A = call-adds ρ W (omega arith) h c in
+    front-grows ω ts (callIn ρ W c .world) (call-like ρ W c .words ∙ e) g (A .0) ∙ ap (λ (r : List ℕ). r ++ entries ω (playedIn (callIn ρ W c .world) ts)) (A .1)
+    ∙ ap (λ (v : ℕ). take (W .bench .written) (W .log) ++ words v (callIn ρ W c .answer) ++ entries ω (playedIn (callIn ρ W c .world) ts)) e
+    ∙ append-assoc (take (W .bench .written) (W .log)) (words ω (callIn ρ W c .answer)) (entries ω (playedIn (callIn ρ W c .world) ts))
 
--- and a fresh bench has written nothing
+-- and a fresh bench has written nothing: in company, and alone
+pub log-in : (ts : List Turn) (U : World) → Started U → logFront (afterIn U ts) ≡ entries (U .bench .words) (playedIn U ts)
+log-in ts U F =
+    front-grows _ ts U refl (F .whole .words .1) (F .whole .logged)
+    ∙ ap (λ (n : ℕ). take n (U .log) ++ entries (U .bench .words) (playedIn U ts)) (F .written)
+
 pub log-is-answers : LogIsAnswers
 log-is-answers s m l e =
-    let F = fresh-is s m l e in
-    subst (λ (W : World). (cs : List Call) → logFront (after W cs) ≡ entries (W .bench .words) (played W cs))
-    (sym (F .0))
-    (λ cs. front-grows (s .words) cs (start (kindOf (s .kind)) (linkedOf (s .kind)) (s .width) (s .size) (s .crew) (s .words) (s .delayed) m l) refl (F .1 .words .1) (omega arith))
+    from-company (λ (T : List Played) (X : World). logFront X ≡ entries (freshOf s m l .world .bench .words) T) s m l e (λ ts C. log-in ts _ (fresh-started s m l e))
 
 -- which lies in the log, so that the front has as many words as are written
-pub written-is : FromFresh (λ W. (cs : List Call) → after W cs .bench .written ≡ length (entries (W .bench .words) (played W cs)))
+pub written-in : (ts : List Turn) (U : World) → Started U → InCompany U ts → afterIn U ts .bench .written ≡ length (entries (U .bench .words) (playedIn U ts))
 unfolding frontOf
-written-is s m l e cs =
-    sym (length-take-le _ _ (whole-run cs _ (fresh-started s m l e .whole) .logged)) ∙ ap length (log-is-answers s m l e cs)
+written-in ts U F C = sym (length-take-le _ _ (whole-run ts U (F .whole) C .logged)) ∙ ap length (log-in ts U F)

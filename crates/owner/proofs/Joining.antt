@@ -10,7 +10,7 @@ use Rattle.model.specs.declared.Store.{Store}
 use Rattle.model.specs.declared.Pending.{Pending}
 use Rattle.model.specs.declared.Waiting.{Waiting}
 use Rattle.model.specs.Stores.{pending, joined}
-use Rattle.machine.proofs.Moves.{joined-none}
+use Rattle.model.proofs.Landing.{joined-none}
 use Rattle.lines.specs.declared.Action.{Action}
 use Rattle.lines.specs.declared.Action.the-variants.{Nothing, Fails, Stores, Copies, Claims, Stops, Ends}
 use Rattle.lines.specs.Actions.{wordStores, storesBy}

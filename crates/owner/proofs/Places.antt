@@ -1,4 +1,4 @@
--- What the owner reads with its waiting stores put down, in a valid state.
+-- What the owner reads with its waiting stores put down, in a state within the limits.
 use mathlib.Core.Bool.{true, false, true≢false}
 use mathlib.Core.List.{List, [], _∷_}
 use mathlib.Core.Path.{_≡_, refl, sym, ap, subst, _∙_}
@@ -6,18 +6,19 @@ use Prim.Native.Nat.{ℕ}
 use native.Mathlib.Omega.{arith}
 use lib.ListN.{length, length-set}
 use Rattle.model.specs.declared.Queue.{Queue}
+use Rattle.model.specs.declared.Room.{Room}
 use Rattle.model.specs.declared.Store.{Store}
 use Rattle.model.specs.declared.Store.the-variants.{StoreWord, StoreNote, StorePut, StoreOut, StoreHead, StoreTail}
 use Rattle.model.specs.Memory.{setWord}
 use Rattle.model.specs.Stores.{Shared, landed, landedAll, inLine}
 use Rattle.model.specs.Lines.{holdsLink}
-use Rattle.model.specs.Limits.{validOf}
+use Rattle.model.specs.Limits.{Within}
 use Rattle.model.specs.World.{World, memory, ownersView, lineAt}
 use Rattle.lines.proofs.Views.{view-same}
-use Rattle.lines.proofs.FromLimits.{narrow-of-valid, crew-of-valid, ground-of-valid, ready-of-valid, link-of-valid, wide-of-valid}
+use Rattle.lines.proofs.FromLimits.{narrow-within, crew-within, ground-within, ready-within, link-within, wide-within}
 use Rattle.limits.proofs.Waits.{waits-few, waits-placed}
 use Rattle.machine.specs.Steps.{Steppable}
-use Rattle.machine.proofs.Moves.{none-held}
+use Rattle.model.proofs.Landing.{none-held}
 use Rattle.waiting.specs.Places.{AllPlaced}
 use Rattle.owner.specs.Reads.{Lifts}
 
@@ -50,31 +51,33 @@ unfolding landedAll
 view-links v S [] i e = e
 view-links v S (s ∷ l) i e = landed-links v S s i (view-links v (landed v S s) l i e)
 
-module _ (W : World) (v : validOf W ≡ true) {x : List ℕ} (f : x ≡ ownersView W .store) where
+module _ {ρ : Room} (W : World) (v : Within ρ W) {x : List ℕ} (f : x ≡ ownersView W .store) where
   pub long : length x ≡ length (W .store)
   long = ap length f ∙ view-long (W .bench .words) (memory W) (inLine (W .bench .waiting))
 
   pub lifts : Lifts (W .bench) (length x)
   lifts =
       record {
-        wide = wide-of-valid W v;
-        few = waits-few W v;
+        wide = wide-within W v;
+        few = waits-few W (v .limits);
         placed =
-            subst (λ (n : ℕ). AllPlaced (W .bench .words) (W .bench .queue) n (inLine (W .bench .waiting))) (sym long) (waits-placed W v);
+            subst (λ (n : ℕ). AllPlaced (W .bench .words) (W .bench .queue) n (inLine (W .bench .waiting))) (sym long)
+            (waits-placed W (v .limits) (omega (arith, v .behind, v .inside)));
       }
 
   -- p is the queue as the owner reads it
   pub steps-on : {p : Queue} → p ≡ ownersView W .queue
-      → Steppable (W .bench .kind) (W .bench .width) (W .bench .words) (W .bench .crew) p (length x) 0 (lineAt (W .bench .workers) 0)
+      → Steppable ρ (W .bench .kind) (W .bench .width) (W .bench .words) (W .bench .crew) p (length x) 0 (lineAt (W .bench .workers) 0)
   steps-on {p} e =
-      subst (λ (n : ℕ). Steppable (W .bench .kind) (W .bench .width) (W .bench .words) (W .bench .crew) p n 0 (lineAt (W .bench .workers) 0)) (sym long)
-      (subst (λ (q : Queue). Steppable (W .bench .kind) (W .bench .width) (W .bench .words) (W .bench .crew) q (length (W .store)) 0 (lineAt (W .bench .workers) 0)) (sym e)
+      subst (λ (n : ℕ). Steppable ρ (W .bench .kind) (W .bench .width) (W .bench .words) (W .bench .crew) p n 0 (lineAt (W .bench .workers) 0)) (sym long)
+      (subst (λ (q : Queue). Steppable ρ (W .bench .kind) (W .bench .width) (W .bench .words) (W .bench .crew) q (length (W .store)) 0 (lineAt (W .bench .workers) 0)) (sym e)
       record {
-        narrow = narrow-of-valid W v;
-        crew = crew-of-valid W v .1;
-        ground = ground-of-valid W v 0;
-        ready = λ h. ready-of-valid W v 0 h;
+        narrow = narrow-within W v;
+        crew = crew-within W v .1;
+        room = v .inside;
+        ground = ground-within W v 0;
+        ready = λ h. ready-within W v 0 h;
         held = λ h g.
-            let L = link-of-valid W v 0 (omega arith) (view-links (W .bench .words) (memory W) (inLine (W .bench .waiting)) 0 g) in
+            let L = link-within W v 0 (omega arith) (view-links (W .bench .words) (memory W) (inLine (W .bench .waiting)) 0 g) in
             (view-same (W .bench .words) (memory W) (inLine (W .bench .waiting)) .linked ∙ L .0, L .1);
       })

@@ -1,15 +1,17 @@
 // A step of the owner while its stores are delayed, past the test of the limits. The owner reads memory with its waiting stores
 // put down; the stores of its line join the waiting line, where they have a place, and X1's claim and the log's entry are made at
 // once.
-// Uses `model`, `tasks`, `slots`, `lines`, `limits`, `memory`, `state`, `machine` and `waiting`. It is used by `queues`.
+// Uses `model`, `tasks`, `slots`, `lines`, `limits`, `memory`, `state`, `machine` and `waiting`. It is used by `steps`
+// and `queues`.
 ghost use mathlib.Core.Path.{_≡_};
 ghost use mathlib.Core.Bool.{true};
 ghost use mathlib.Core.List.{List};
 ghost use Prim.Native.Nat.{ℕ, _+_, _≤_};
 ghost use lib.ListN.{length};
+ghost use Rattle.model.specs.declared.Room.{Room};
 ghost use Rattle.model.specs.Stores.{joined};
 ghost use Rattle.model.specs.World.{ownersView, lineAt};
-ghost use Rattle.model.specs.Limits.{validOf};
+ghost use Rattle.model.specs.Limits.{Within};
 ghost use Rattle.model.specs.Calls.{lent, stepIn};
 ghost use Rattle.state.specs.Outcomes.{returned};
 ghost use Rattle.lines.specs.Actions.{wordStores, storesBy};
@@ -137,12 +139,12 @@ pub fn finish(
     requires { ⌜ Finishable bench (length (now store)) made ⌝ }
     ensures { λ r.
         ⌜
-        ((m : List ℕ) → validOf (lent bench m (now (log .entry))) ≡ true
+        ((ρ : Room) (m : List ℕ) → Within ρ (lent bench m (now (log .entry)))
         → now (store .entry) ≡ ownersView (lent bench m (now (log .entry))) .store
         → KeptBy (bench .words) (bench .queue) m (bench .waiting) kept
-        → PlannedBy (bench .kind) (bench .width) (bench .words) (bench .crew) (ownersView (lent bench m (now (log .entry))) .queue)
+        → PlannedBy ρ (bench .kind) (bench .width) (bench .words) (bench .crew) (ownersView (lent bench m (now (log .entry))) .queue)
         (now (store .entry)) 0 (lineAt (bench .workers) 0) (record { line = line; made = made })
-        → returned r (now (store .exit)) (now (log .exit)) ≡ stepIn (lent bench m (now (log .entry))) 0)
+        → returned r (now (store .exit)) (now (log .exit)) ≡ stepIn ρ (lent bench m (now (log .entry))) 0)
         ⌝ }
 {
     let words = bench.words;

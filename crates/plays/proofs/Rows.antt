@@ -6,7 +6,7 @@ use Prim.Native.Nat.{ℕ, zero, suc}
 use lib.ListN.{replicate}
 use Rattle.model.specs.declared.Operation.the-variants.{Put, Take, Steal, Commit}
 use Rattle.model.specs.Tests.{if_then_else_, _and_, _or_}
-use Rattle.model.specs.Memory.{zeros, wordAt, setWord, offsetAt, lengthAt, sizeAt}
+use Rattle.model.specs.Memory.{zeros, wordAt, setWord, offsetAt, lengthAt, sizeAt, wordsTo}
 use Rattle.model.specs.Tasks.{payload, wordIn, withWord, gathered}
 use Rattle.model.specs.Stores.{landedAll}
 use Rattle.model.specs.Lines.{lineStep}
@@ -56,47 +56,47 @@ abbrev bench : ℕ → ℕ → ℕ → World
 bench c s e = freshOf (setup 1 1 c 2 1) (replicate s 0) (replicate e 0) .world
 
 row-p1 : allAsWords (played (bench 2 12 24) (callsFrom p1 37)) ≡ p1Answers
-unfolding callsFrom allAsWords played freshOf beginOf stepOf validOf lineStep landedAll zeros wordAt setWord offsetAt lengthAt sizeAt if_then_else_ _and_ _or_ wordIn withWord gathered
+unfolding callsFrom allAsWords played freshOf beginOf stepOf validOf wordsTo lineStep landedAll zeros wordAt setWord offsetAt lengthAt sizeAt if_then_else_ _and_ _or_ wordIn withWord gathered
 row-p1 = refl
 
 -- what it leaves: the entries in the log
 row-p1-log : after (bench 2 12 24) (callsFrom p1 37) .log ≡ 1 ∷ 0 ∷ 1 ∷ 65 ∷ 2 ∷ 0 ∷ 1 ∷ 65 ∷ 1 ∷ 0 ∷ 2 ∷ 66 ∷ 2 ∷ 0 ∷ 2 ∷ 66 ∷ 1 ∷ 0 ∷ 3 ∷ 67 ∷ 2 ∷ 1 ∷ 1 ∷ 65 ∷ []
-unfolding callsFrom after freshOf beginOf stepOf validOf lineStep landedAll zeros wordAt setWord offsetAt lengthAt sizeAt if_then_else_ _and_ _or_ wordIn withWord gathered
+unfolding callsFrom after freshOf beginOf stepOf validOf wordsTo lineStep landedAll zeros wordAt setWord offsetAt lengthAt sizeAt if_then_else_ _and_ _or_ wordIn withWord gathered
 row-p1-log = refl
 
 -- the rest of the answers: a thief's EMPTY, FULL, and refusals 9, 8 and 11 (the log has 3 words left)
 row-others : allAsWords (played (bench 1 2 11) (callsFrom (call 3 1 0 (steps 2 1 (call 1 0 7 (steps 5 0 (call 1 1 8 (steps 1 0 (call 1 0 9 (steps 3 0 [])))))))) 15))
     ≡ answer 0 1 0 0 (goesOn 1 (answer 3 1 0 0 (answer 0 2 1 0 (goesOn 4
     (answer 1 0 1 7 (answer 0 3 9 0 (answer 0 3 8 0 (answer 0 2 2 0 (goesOn 2 (answer 0 3 11 0 []))))))))))
-unfolding callsFrom allAsWords played freshOf beginOf stepOf validOf lineStep landedAll zeros wordAt setWord offsetAt lengthAt sizeAt if_then_else_ _and_ _or_ wordIn withWord gathered
+unfolding callsFrom allAsWords played freshOf beginOf stepOf validOf wordsTo lineStep landedAll zeros wordAt setWord offsetAt lengthAt sizeAt if_then_else_ _and_ _or_ wordIn withWord gathered
 row-others = refl
 
 row-full : allAsWords (played (bench 1 2 12) (callsFrom (call 1 0 7 (steps 5 0 (call 1 0 8 (steps 3 0 [])))) 10))
     ≡ answer 0 2 1 0 (goesOn 4 (answer 1 0 1 7 (answer 0 2 2 0 (goesOn 2 (answer 4 0 2 8 [])))))
-unfolding callsFrom allAsWords played freshOf beginOf stepOf validOf lineStep landedAll zeros wordAt setWord offsetAt lengthAt sizeAt if_then_else_ _and_ _or_ wordIn withWord gathered
+unfolding callsFrom allAsWords played freshOf beginOf stepOf validOf wordsTo lineStep landedAll zeros wordAt setWord offsetAt lengthAt sizeAt if_then_else_ _and_ _or_ wordIn withWord gathered
 row-full = refl
 
 -- with three payload words an answer shows three, whatever a fourth one was told
 row-wide : allAsWords (played (freshOf (setup 1 1 1 1 3) (replicate 4 0) (replicate 6 0) .world) (callsFrom (1 ∷ 0 ∷ 7 ∷ 8 ∷ 9 ∷ 5 ∷ steps 7 0 []) 8))
     ≡ answer 0 2 1 0 (goesOn 6 (1 ∷ 0 ∷ 1 ∷ 7 ∷ 8 ∷ 9 ∷ 0 ∷ []))
-unfolding callsFrom allAsWords played freshOf beginOf stepOf validOf lineStep landedAll zeros wordAt setWord offsetAt lengthAt sizeAt if_then_else_ _and_ _or_ wordIn withWord gathered
+unfolding callsFrom allAsWords played freshOf beginOf stepOf validOf wordsTo lineStep landedAll zeros wordAt setWord offsetAt lengthAt sizeAt if_then_else_ _and_ _or_ wordIn withWord gathered
 row-wide = refl
 
 -- with delayed stores: the words of a finished put drain one by one, and a fourth drain finds none waiting
 row-drained : allAsWords (played (freshOf (setupIn 1 1 1 1 1 true) (replicate 2 0) (replicate 4 0) .world)
     (callsFrom (call 1 0 7 (steps 5 0 (call 5 0 0 (call 5 0 0 (call 5 0 0 (call 5 0 0 [])))))) 10))
     ≡ answer 0 2 1 0 (goesOn 4 (answer 1 0 1 7 (answer 0 1 0 0 (answer 0 1 0 0 (answer 0 1 0 0 (answer 0 3 19 0 []))))))
-unfolding callsFrom allAsWords played freshOf beginOf stepOf drainOf validOf lineStep landedAll zeros wordAt setWord offsetAt lengthAt sizeAt if_then_else_ _and_ _or_ wordIn withWord gathered
+unfolding callsFrom allAsWords played freshOf beginOf stepOf drainOf validOf wordsTo lineStep landedAll zeros wordAt setWord offsetAt lengthAt sizeAt if_then_else_ _and_ _or_ wordIn withWord gathered
 row-drained = refl
 
 -- growth: an ask, and refused 21; a commit from X1 to X4 and its entry; the ask is gone, and a second one has no space
 row-grown : allAsWords (played (bench 1 6 4) (callsFrom (call 7 0 0 (call 7 0 0 (call 6 0 0 (steps 4 0 (call 8 0 0 (call 7 0 0 [])))))) 9))
     ≡ answer 0 1 0 0 (answer 0 3 21 0 (answer 0 1 0 0 (goesOn 3 (answer 5 0 0 0 (answer 0 3 22 0 (answer 0 3 20 0 []))))))
-unfolding callsFrom allAsWords played freshOf beginOf stepOf askOf dropAskOf validOf lineStep landedAll zeros wordAt setWord offsetAt lengthAt sizeAt if_then_else_ _and_ _or_ wordIn withWord gathered
+unfolding callsFrom allAsWords played freshOf beginOf stepOf askOf dropAskOf validOf wordsTo lineStep landedAll zeros wordAt setWord offsetAt lengthAt sizeAt if_then_else_ _and_ _or_ wordIn withWord gathered
 row-grown = refl
 
 -- an ask dropped, and a commit then
 row-dropped : allAsWords (played (bench 1 6 4) (callsFrom (call 7 0 0 (call 8 0 0 (call 6 0 0 []))) 3))
     ≡ answer 0 1 0 0 (answer 0 1 0 0 (answer 0 3 22 0 []))
-unfolding callsFrom allAsWords played freshOf beginOf stepOf askOf dropAskOf validOf lineStep landedAll zeros wordAt setWord offsetAt lengthAt sizeAt if_then_else_ _and_ _or_ wordIn withWord gathered
+unfolding callsFrom allAsWords played freshOf beginOf stepOf askOf dropAskOf validOf wordsTo lineStep landedAll zeros wordAt setWord offsetAt lengthAt sizeAt if_then_else_ _and_ _or_ wordIn withWord gathered
 row-dropped = refl

@@ -17,38 +17,27 @@ use Rattle.model.specs.declared.Line.the-variants.{Idle, PutFinish, TakeFinish,
 use Rattle.model.specs.declared.Operation.the-variants.{Put, Take, Steal}
 use Rattle.model.specs.declared.Answer.{Answer}
 use Rattle.model.specs.declared.Answer.the-variants.{Accepted, Numbered, GoesOn, Finished, HandedOut}
-use Rattle.model.specs.declared.Refusal.the-variants.{NumbersSpent, LogFull, ForeignState}
+use Rattle.model.specs.declared.Refusal.the-variants.{NumbersSpent, LogFull}
 use Rattle.model.specs.Tests.{if_then_else_, _and_, _or_}
 use Rattle.model.specs.Stores.{nonePending, landedAll}
 use Rattle.model.specs.Lines.{Effect, eff, goes, lineStep}
-use Rattle.model.specs.World.{World, Outcome, refuse, tagBits, resting, lineAt}
-use Rattle.model.specs.Calls.{logFull, begun, beginIn, beginOf, raised, stepped, noRoom, stepIn, stepOf, Call, begin, step, dropLink, drain, ask, dropAsk, callOf}
+use Rattle.model.specs.World.{World, Outcome, refuse, tagBits, resting, lineAt, roomAlone}
+use Rattle.model.specs.Calls.{logFull, begun, raised, stepped, noRoom, Call, begin, step, callIn, callOf}
 use Rattle.model.specs.Tasks.{payload, task, wordsIn, wordIn, withWord, gathered}
 use Rattle.model.specs.Answers.{Entry, entry, entryLength, entryWords}
 use Rattle.model.specs.Memory.{wordAt, setWord, setAll, nowhere, offsetAt, lengthAt, sizeAt}
 use Rattle.model.specs.Run.{Played, played, after}
 use Rattle.model.specs.Figures.{anchor}
-use Rattle.theorems.proofs.Valid.{Whole, valid}
-use Rattle.theorems.proofs.WholeRun.{call-whole}
+use Rattle.theorems.proofs.Cases.{alone-is}
+use Rattle.theorems.proofs.Alone.{Lone, lone-valid, lone-call}
 use Rattle.theorems.proofs.Events.{is-line-1}
 
--- the calls without the test of refusal 12
+-- a lone queue's calls without the test of refusal 12
 abbrev pub rawOf : World → Call → Outcome
-rawOf U (begin i op) = beginIn U i op
-rawOf U (step i) = stepIn U i
-rawOf U (dropLink i) = callOf U (dropLink i)
-rawOf U (ask i) = callOf U (ask i)
-rawOf U (dropAsk i) = callOf U (dropAsk i)
-rawOf U drain = callOf U drain
+rawOf U c = callIn (roomAlone U) U c
 
-pub raw-is : (U : World) (c : Call) → Whole U → callOf U c ≡ rawOf U c
-unfolding beginOf stepOf if_then_else_
-raw-is U (begin i op) H = ap (λ (x : Bool). if x then rawOf U (begin i op) else refuse U ForeignState) (valid U H)
-raw-is U (step i) H = ap (λ (x : Bool). if x then rawOf U (step i) else refuse U ForeignState) (valid U H)
-raw-is U (dropLink i) H = refl
-raw-is U (ask i) H = refl
-raw-is U (dropAsk i) H = refl
-raw-is U drain H = refl
+pub raw-is : (U : World) (c : Call) → Lone U → callOf U c ≡ rawOf U c
+raw-is U c H = alone-is U c (lone-valid H)
 
 abbrev pub rawAfter : World → List Call → World
 rawAfter U [] = U
@@ -62,17 +51,17 @@ abbrev pub answers : List Played → List Answer
 answers [] = []
 answers (s ∷ T) = s .answer ∷ answers T
 
-pub after-raw : (cs : List Call) (U : World) → Whole U → after U cs ≡ rawAfter U cs
+pub after-raw : (cs : List Call) (U : World) → Lone U → after U cs ≡ rawAfter U cs
 unfolding after
 after-raw [] U H = refl
 after-raw (c ∷ cs) U H =
-    after-raw cs (callOf U c .world) (call-whole H c) ∙ ap (λ (D : Outcome). rawAfter (D .world) cs) (raw-is U c H)
+    after-raw cs (callOf U c .world) (lone-call H c) ∙ ap (λ (D : Outcome). rawAfter (D .world) cs) (raw-is U c H)
 
-pub answers-raw : (cs : List Call) (U : World) → Whole U → answers (played U cs) ≡ rawAnswers U cs
+pub answers-raw : (cs : List Call) (U : World) → Lone U → answers (played U cs) ≡ rawAnswers U cs
 unfolding played
 answers-raw [] U H = refl
 answers-raw (c ∷ cs) U H =
-    ap (λ (l : List Answer). callOf U c .answer ∷ l) (answers-raw cs (callOf U c .world) (call-whole H c))
+    ap (λ (l : List Answer). callOf U c .answer ∷ l) (answers-raw cs (callOf U c .world) (lone-call H c))
     ∙ ap (λ (D : Outcome). D .answer ∷ rawAnswers (D .world) cs) (raw-is U c H)
 
 pub after-append : (xs ys : List Call) (U : World) → after U (xs ++ ys) ≡ after (after U xs) ys
@@ -185,7 +174,7 @@ past (suc n) U = not (is-line-1 (lineAt (U .bench .workers) 1)) and past n (rawO
 
 -- the last step of an operation, with room in the log or without
 abbrev ending : World → ℕ → Line → Bool → Outcome
-ending S i l b = if b then refuse S LogFull else stepped S i (lineStep (S .bench .kind) (tagBits (S .bench)) (S .bench .words) (S .bench .queue) (S .store) i l)
+ending S i l b = if b then refuse S LogFull else stepped (roomAlone S) S i (lineStep (roomAlone S) (S .bench .kind) (tagBits (S .bench)) (S .bench .words) (S .bench .queue) (S .store) i l)
 
 abbrev begun-or : World → Payload → Bool → Outcome
 begun-or U p b = if b then begun U 0 (Put p) else refuse U NumbersSpent
@@ -298,7 +287,7 @@ module _ (w n g wr : ℕ) (θ : Line) (x : ℕ) (rest lg : List ℕ) where
   won κ v g′ t b =
       let W = comparing κ v g′ t in
       let E = compared κ v g′ t b in
-      let D = stepped W 1 E in
+      let D = stepped (roomAlone W) W 1 E in
       if noRoom W E then refuse W LogFull
       else record {
         world =

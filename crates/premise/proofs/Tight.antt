@@ -26,17 +26,18 @@ use Rattle.model.specs.World.{World, Outcome, lineAt}
 use Rattle.model.specs.Calls.{logFull, freshOf, setup, Call, begin, step, callOf}
 use Rattle.model.specs.Tasks.{payload, task, wordIn, gathered, firstWords}
 use Rattle.model.specs.Answers.{entry, entryLength, entryWords}
-use Rattle.model.specs.Memory.{zeros}
+use Rattle.model.specs.Memory.{usable, zeros, offsetAt, lengthAt, wordsTo}
 use Rattle.model.specs.Run.{Played, played, after}
 use Rattle.model.specs.Figures.{anchor}
 use Rattle.model.specs.Limits.{kindOk}
 use Rattle.model.specs.Window.{tasks}
 use Rattle.theorems.specs.Demand3.{At, Begins, Finishes, Line1, Compares, Attempt, puts, between, Stands}
 use Rattle.premise.specs.Premise.{Loses, Tight}
-use Rattle.theorems.proofs.Valid.{Whole}
-use Rattle.theorems.proofs.WholeRun.{call-whole, whole-run}
-use Rattle.theorems.proofs.Words.{set-all-length}
+use Rattle.model.proofs.Alone.{least-above}
+use Rattle.theorems.proofs.Alone.{Lone, lone-company, lone-call, lone-run}
+use Rattle.theorems.proofs.Words.{set-all-length, zeros-length}
 use Rattle.theorems.proofs.Fresh.{start, fresh-whole}
+use Rattle.theorems.specs.AsBefore.{Undelayed}
 use Rattle.theorems.proofs.AsBefore.{as-before}
 use Rattle.theorems.proofs.Translate.{at-map}
 use Rattle.order.proofs.FrontEntries.{words-kept}
@@ -162,9 +163,13 @@ no-tasks : (κ : Tagged) (h g : ℕ) → tasks (theKind κ) (anchor h 0 g) ≡ 0
 no-tasks lifo h g = refl
 no-tasks deque h g = refl
 
+-- the store has the one slot's words, among those that are used
+roomy : (v : Wide) (m : List ℕ) → many v + 1 ≤ length m → (many v + 1) * 1 ≤ usable m
+roomy v m c = least-above (length m) 10235 ((many v + 1) * 1) (omega (arith, c)) (omega (arith, many-in v .1))
+
 module _ (κ : Tagged) (v : Wide) (w : ℕ) (m l : List ℕ) (low : 0 < w) (high : w ≤ 15) (slot : many v + 1 ≤ length m) (long : 2 * entryLength (many v) * (2 ^ w + 1) ≤ length l) where
   abbrev B : World
-  B = start (theKind κ) false w 1 2 (many v) false m l
+  B = start 0 (theKind κ) false w 1 2 (many v) false m l
 
   abbrev rest : List ℕ
   rest = drop (many v + 1) m
@@ -173,9 +178,17 @@ module _ (κ : Tagged) (v : Wide) (w : ℕ) (m l : List ℕ) (low : 0 < w) (high
   abbrev d : ℕ
   d = entryLength (many v)
 
-  H : Whole (start (theKind κ) false w 1 2 (many v) false m l)
-  unfolding if_then_else_ _or_
-  H = fresh-whole (theKind κ) false w 1 2 (many v) false m l (record { width = (low, omega arith); test = refl; crew = (omega arith, omega arith); words = many-in v; room = omega (arith, slot) }) (tagged-kind κ)
+  H : Lone (start 0 (theKind κ) false w 1 2 (many v) false m l)
+  unfolding if_then_else_ _or_ wordsTo offsetAt lengthAt
+  H =
+      record {
+        whole = fresh-whole 0 (theKind κ) false w 1 2 (many v) false m l (record { width = (low, omega arith); test = refl; crew = (omega arith, omega arith); words = many-in v; room = omega (arith, slot) }) (tagged-kind κ);
+        snug =
+            record {
+              close = omega arith;
+              fitting = omega (arith, roomy v (zeros m 0 ((many v + 1) * 1)) (omega (arith, slot, zeros-length m 0 ((many v + 1) * 1) (omega (arith, slot)))));
+            };
+      }
 
   few : 2 ^ w ≤ 32768
   few = omega (arith, pow-mono high)
@@ -190,7 +203,7 @@ module _ (κ : Tagged) (v : Wide) (w : ℕ) (m l : List ℕ) (low : 0 < w) (high
   room-for : (lg : List ℕ) (wr j : ℕ) → length lg ≡ length l → wr ≡ d * j → suc j ≤ 2 * (2 ^ w + 1) → logFull (many v) lg wr ≡ false
   room-for lg wr j e q h = has-room (many v) lg wr (omega (arith, e, q, fits (suc j) h .0)) (omega (arith, q, fits (suc j) h .1))
 
-  blank-is : start (theKind κ) false w 1 2 (many v) false m l ≡ here κ v w (anchor 0 0 0) 0 0 Idle Idle (holding v 0 0 rest) l
+  blank-is : start 0 (theKind κ) false w 1 2 (many v) false m l ≡ here κ v w (anchor 0 0 0) 0 0 Idle Idle (holding v 0 0 rest) l
   blank-is = ap (λ (s : List ℕ). here κ v w (anchor 0 0 0) 0 0 Idle Idle s l) (emptied v m)
 
   abbrev g0 : ℕ
@@ -202,19 +215,19 @@ module _ (κ : Tagged) (v : Wide) (w : ℕ) (m l : List ℕ) (low : 0 < w) (high
   abbrev θ : Line
   θ = StealCompare (anchor 0 1 g0) (h2 κ) (short 1 7)
 
-  whole-at : (cs : List Call) (U : World) → after B cs ≡ U → Whole U
-  whole-at cs U e = subst Whole e (whole-run cs B H)
+  lone-at : (cs : List Call) (U : World) → after B cs ≡ U → Lone U
+  lone-at cs U e = subst Lone e (lone-run cs B H)
 
   -- on from a state that is known
   on : (xs ys : List Call) (U U′ : World) → after B xs ≡ U → rawAfter U ys ≡ U′ → after B (xs ++ ys) ≡ U′
   on xs ys U U′ e r =
-      after-append xs ys B ∙ ap (λ (U : World). after U ys) e ∙ after-raw ys U (whole-at xs U e) ∙ r
+      after-append xs ys B ∙ ap (λ (U : World). after U ys) e ∙ after-raw ys U (lone-at xs U e) ∙ r
 
   says-on : (xs ys : List Call) (U : World) (ps bs : List Answer) → after B xs ≡ U → answers (played B xs) ≡ ps → rawAnswers U ys ≡ bs
       → answers (played B (xs ++ ys)) ≡ ps ++ bs
   says-on xs ys U ps bs e p q =
       answers-append xs ys B ∙ ap (λ (a : List Answer). a ++ answers (played (after B xs) ys)) p
-      ∙ ap (λ (b : List Answer). ps ++ b) (ap (λ (U : World). answers (played U ys)) e ∙ answers-raw ys U (whole-at xs U e) ∙ q)
+      ∙ ap (λ (b : List Answer). ps ++ b) (ap (λ (U : World). answers (played U ys)) e ∙ answers-raw ys U (lone-at xs U e) ∙ q)
 
   nil-after : after B [] ≡ here κ v w (anchor 0 0 0) 0 0 Idle Idle (holding v 0 0 rest) l
   unfolding after
@@ -343,7 +356,7 @@ module _ (κ : Tagged) (v : Wide) (w : ℕ) (m l : List ℕ) (low : 0 < w) (high
   last-call : callOf (after B (prefix (2 ^ w))) (step 1) .answer ≡ taken
   last-call =
       ap (λ (U : World). callOf U (step 1) .answer) (S .state)
-      ∙ ap (λ (D : Outcome). D .answer) (raw-is _ (step 1) (whole-at (prefix (2 ^ w)) _ (S .state)) ∙ last-raw)
+      ∙ ap (λ (D : Outcome). D .answer) (raw-is _ (step 1) (lone-at (prefix (2 ^ w)) _ (S .state)) ∙ last-raw)
 
   abbrev T : List Played
   T = played B (tightList v κ w)
@@ -376,7 +389,7 @@ module _ (κ : Tagged) (v : Wide) (w : ℕ) (m l : List ℕ) (low : 0 < w) (high
   begun1-after = on (putting v) (begin 1 Steal ∷ []) _ _ put-after refl
 
   line1-done : callOf (after B begun1) (step 1) ≡ rawOf (rawAfter put1 (begin 1 Steal ∷ [])) (step 1)
-  line1-done = ap (λ (U : World). callOf U (step 1)) begun1-after ∙ raw-is _ (step 1) (whole-at begun1 _ begun1-after)
+  line1-done = ap (λ (U : World). callOf U (step 1)) begun1-after ∙ raw-is _ (step 1) (lone-at begun1 _ begun1-after)
 
   goes : callOf (after B begun1) (step 1) .answer ≡ GoesOn
   unfolding lineStep _and_ if_then_else_
@@ -400,7 +413,7 @@ module _ (κ : Tagged) (v : Wide) (w : ℕ) (m l : List ℕ) (low : 0 < w) (high
 
   newest : (k : ℕ) → length begun1 < k → k < length (prefix (2 ^ w)) → At T k (Line1 1) → ⊥
   newest k a b x =
-      waits-not v (waits κ v) (2 ^ w) _ (call-whole (whole-run begun1 B H) (step 1)) past1 (k - suc (length begun1))
+      waits-not v (waits κ v) (2 ^ w) _ (lone-call (lone-run begun1 B H) (step 1)) past1 (k - suc (length begun1))
       (omega (arith, a, b, begun1-length, prefix-length (2 ^ w)))
       (at-past begun1 (step 1) more B (Line1 1) (k - suc (length begun1)) k (omega (arith, a))
       (subst (λ (cs : List Call). At (played B cs) k (Line1 1)) list-splits x))
@@ -425,7 +438,7 @@ module _ (κ : Tagged) (v : Wide) (w : ℕ) (m l : List ℕ) (low : 0 < w) (high
 
   counted : puts (between (length begun1) (length (prefix (2 ^ w))) T) ≡ 2 ^ w
   counted =
-      as-before (tightList v κ w) B H refl .counted (length begun1) (length (prefix (2 ^ w)))
+      lone-company Undelayed H (λ ts C. as-before ts B (H .whole) C refl) (tightList v κ w) .counted (length begun1) (length (prefix (2 ^ w)))
       ∙ total-is (between (length begun1) (length (prefix (2 ^ w))) T)
       ∙ ap total
       (answers-take (drop (suc (length begun1)) T) (length (prefix (2 ^ w)) - suc (length begun1))
@@ -471,12 +484,12 @@ module _ (κ : Tagged) (v : Wide) (w : ℕ) (m l : List ℕ) (low : 0 < w) (high
   begins =
       subst (λ (cs : List Call). At (played B cs) (length (prefix r′ ++ taking v)) (Begins lostTask)) (sym list-is)
       (at-split (prefix r′ ++ taking v) (begin 0 (Put (payload 7 0 0 0))) (ownSteps v ++ (step 1 ∷ [])) B (Begins lostTask)
-      (suc (suc r′), payload 7 0 0 0, refl, numbered, whole-task v _ (words-kept (prefix r′ ++ taking v) B)))
+      (suc (suc r′), payload 7 0 0 0, refl, numbered, whole-task v _ (lone-company (λ (T : List Played) (X : World). X .bench .words ≡ many v) H (λ ts C. words-kept ts B) (prefix r′ ++ taking v))))
     where
       numbered : callOf (after B (prefix r′ ++ taking v)) (begin 0 (Put (payload 7 0 0 0))) .answer ≡ Numbered (suc (suc r′))
       numbered =
           ap (λ (U : World). callOf U (begin 0 (Put (payload 7 0 0 0))) .answer) (taken-after r′ S′ less)
-          ∙ ap (λ (D : Outcome). D .answer) (raw-is _ (begin 0 (Put (payload 7 0 0 0))) (whole-at (prefix r′ ++ taking v) _ (taken-after r′ S′ less)))
+          ∙ ap (λ (D : Outcome). D .answer) (raw-is _ (begin 0 (Put (payload 7 0 0 0))) (lone-at (prefix r′ ++ taking v) _ (taken-after r′ S′ less)))
           ∙ ap headOf (put-next r′ S′ less .1)
 
   abbrev until : List Answer
@@ -526,7 +539,7 @@ module _ (κ : Tagged) (v : Wide) (w : ℕ) (m l : List ℕ) (low : 0 < w) (high
       none : Stands emptied-at lostTask → ⊥
       none (i, l, a) = omega (arith, no-tasks κ (h2 κ) g0)
 
-  pub loses : Loses (start (theKind κ) false w 1 2 (many v) false m l) (tightList v κ w) (2 ^ w)
+  pub loses : Loses (start 0 (theKind κ) false w 1 2 (many v) false m l) (tightList v κ w) (2 ^ w)
   loses =
       record {
         thief = 1;
@@ -553,12 +566,12 @@ tagged k (inl e) = (lifo, e)
 tagged k (inr e) = (deque, e)
 
 accepted : (κ : Tagged) (v : Wide) (w : ℕ) (m l : List ℕ) → 0 < w → w ≤ 15 → many v + 1 ≤ length m
-    → freshOf (setup (number κ) w 1 2 (many v)) m l ≡ record { world = start (theKind κ) false w 1 2 (many v) false m l; answer = Accepted }
+    → freshOf (setup (number κ) w 1 2 (many v)) m l ≡ record { world = start 0 (theKind κ) false w 1 2 (many v) false m l; answer = Accepted }
 unfolding freshOf _and_ if_then_else_ _or_
 accepted lifo v w m l a b c =
-    rw (lt-ltb 0 w a, le-leb w 16 (omega arith), lt-ltb 0 (many v) (many-in v .0), le-leb (many v) 4 (many-in v .1), le-leb ((many v + 1) * 1) (length m) (omega (arith, c)))
+    rw (lt-ltb 0 w a, le-leb w 16 (omega arith), lt-ltb 0 (many v) (many-in v .0), le-leb (many v) 4 (many-in v .1), le-leb ((many v + 1) * 1) (usable m) (roomy v m c))
 accepted deque v w m l a b c =
-    rw (lt-ltb 0 w a, le-leb w 16 (omega arith), lt-ltb 0 (many v) (many-in v .0), le-leb (many v) 4 (many-in v .1), le-leb ((many v + 1) * 1) (length m) (omega (arith, c)))
+    rw (lt-ltb 0 w a, le-leb w 16 (omega arith), lt-ltb 0 (many v) (many-in v .0), le-leb (many v) 4 (many-in v .1), le-leb ((many v + 1) * 1) (usable m) (roomy v m c))
 
 -- for both, each width from 1 to 15 and each count of payload words
 pub tight : Tight

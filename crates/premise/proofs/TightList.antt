@@ -16,8 +16,7 @@ use Rattle.model.proofs.Tests.{and-left, and-right}
 use Rattle.model.specs.Run.{Played, played, after}
 use Rattle.theorems.specs.Demand3.{At, HandsOut, Line1, finishes}
 use Rattle.theorems.specs.AsBefore.{finished}
-use Rattle.theorems.proofs.Valid.{Whole}
-use Rattle.theorems.proofs.WholeRun.{call-whole}
+use Rattle.theorems.proofs.Alone.{Lone, lone-call}
 use Rattle.theorems.proofs.Events.{is-line-1}
 use Rattle.theorems.proofs.Translate.{at-map}
 use Rattle.premise.proofs.Rounds.{answers, raw-is, Tagged, Wide, many, short, putting, taking, stealing, goesOn, putAnswers, takeAnswers, stealAnswers, past}
@@ -228,11 +227,11 @@ module _ (v : Wide) where
       no-thief (rounds r) (step 1 ∷ []) U k (rounds-own r) h
       (at-map (played U (rounds r ++ (step 1 ∷ []))) k (Line1 1) (λ s. s .call ≡ step 1) line1-call a)
 
-  pub waits-not : (n r : ℕ) (U : World) → Whole U → past n U ≡ true → (k : ℕ) → k < n + length (rounds r)
+  pub waits-not : (n r : ℕ) (U : World) → Lone U → past n U ≡ true → (k : ℕ) → k < n + length (rounds r)
       → At (played U (replicate n (step 1) ++ (rounds r ++ (step 1 ∷ [])))) k (Line1 1) → ⊥
   unfolding played
   waits-not zero r U H p k h a = rounds-not r U k (omega arith) a
   waits-not (suc n) r U H p zero h a = past-not (played1 U (step 1)) (not-true _ (and-left _ _ p)) a
   waits-not (suc n) r U H p (suc k) h a =
-      waits-not n r (callOf U (step 1) .world) (call-whole H (step 1))
+      waits-not n r (callOf U (step 1) .world) (lone-call H (step 1))
       (subst (λ (D : Outcome). past n (D .world) ≡ true) (sym (raw-is U (step 1) H)) (and-right _ _ p)) k (omega arith) a

@@ -11,28 +11,30 @@ use Rattle.model.specs.declared.Kind.{Kind}
 use Rattle.model.specs.declared.Kind.the-variants.{Lifo, Fifo, Deque}
 use Rattle.model.specs.declared.Line.{Line}
 use Rattle.model.specs.Tests.{if_then_else_}
-use Rattle.model.specs.World.{World}
-use Rattle.model.specs.Calls.{freshOf, Call, callOf}
-use Rattle.model.specs.Run.{Played, played, after}
-use Rattle.theorems.specs.Demand3.{waits, drains, finishes, puts, Few, FewPuts}
+use Rattle.model.specs.World.{World, tagBits}
+use Rattle.model.specs.Calls.{callIn}
+use Rattle.model.specs.Run.{Played}
+use Rattle.theorems.specs.Demand3.{waits, drains, finishes, puts, Few, FewPutsIn, Sound}
 use Rattle.theorems.specs.Corollaries.{landed}
 use Rattle.theorems.specs.AsBefore.{finished}
 use Rattle.premise.specs.Premise.{WidestTag}
 use Rattle.theorems.proofs.Valid.{Whole}
-use Rattle.theorems.proofs.WholeRun.{call-whole, whole-run}
-use Rattle.theorems.proofs.Fresh.{Started, fresh-started}
+use Rattle.theorems.proofs.WholeRun.{storing, others-whole, call-whole}
+use Rattle.theorems.proofs.Company.{Turn, others, own, playedIn, afterIn, InCompany, whole-run}
+use Rattle.theorems.proofs.Fresh.{Started, fresh-started, from-company}
 use Rattle.order.proofs.EndedPuts.{openPut, next, OpenUsed, call-moves, next-rises, started-open}
-use Rattle.theorems.proofs.NothingLost.{demand3}
-use Rattle.theorems.proofs.SamePuts.{same-puts}
+use Rattle.theorems.proofs.NothingLost.{sound-in}
+use Rattle.theorems.proofs.SamePuts.{same-puts-in}
 use Rattle.premise.proofs.LinkedKinds.{few-linked}
 
 -- a list finishes no more puts than it uses numbers
-run-count : (cs : List Call) (U : World) → Whole U → OpenUsed U → finished (played U cs) + next U ≤ suc (after U cs .bench .used)
-unfolding played after
-run-count [] U H J = omega arith
-run-count (c ∷ cs) U H J =
-    let M = call-moves H J c in
-    omega (arith, next-rises _ _ (callOf U c .answer) (M .1), run-count cs (callOf U c .world) (call-whole H c) (M .0))
+run-count : (ts : List Turn) (U : World) → Whole U → InCompany U ts → OpenUsed U → finished (playedIn U ts) + next U ≤ suc (afterIn U ts .bench .used)
+unfolding playedIn afterIn InCompany
+run-count [] U H C J = omega arith
+run-count (others m ∷ ts) U H (O, C) J = run-count ts (storing U m) (others-whole H O) C J
+run-count (own ρ c ∷ ts) U H (R, C) J =
+    let M = call-moves H J ρ R c in
+    omega (arith, next-rises _ _ (callIn ρ U c .answer) (M .1), run-count ts (callIn ρ U c .world) (call-whole ρ H R c) C (M .0))
 
 pub puts-drop : (T : List Played) (n : ℕ) → puts (drop n T) ≤ puts T
 puts-drop T zero = omega arith
@@ -54,14 +56,14 @@ landed-finished (s ∷ T) = omega (arith, landed-finished T, part (leb (waits s)
     part true n = omega arith
     part false n = omega arith
 
--- at most 65,535 puts finish
-few-finish : (W : World) → Started W → (cs : List Call) → finished (played W cs) ≤ 65535
-few-finish W F cs =
+-- at most 65,535 puts finish, so no more come to memory
+few-finish : (ts : List Turn) (U : World) → Started U → InCompany U ts → finished (playedIn U ts) ≤ 65535
+few-finish ts U F C =
     omega (
       arith,
-      run-count cs W (F .whole) (started-open W F),
-      whole-run cs W (F .whole) .used,
-      ap (λ (o : Line). openPut o (suc (W .bench .used))) (F .idle),
+      run-count ts U (F .whole) C (started-open U F),
+      whole-run ts U (F .whole) C .used,
+      ap (λ (o : Line). openPut o (suc (U .bench .used))) (F .idle),
     )
 
 few16 : (κ : Kind) (w d : ℕ) → w ≡ 16 → d ≤ 65535 → Few κ w d
@@ -69,21 +71,16 @@ few16 Lifo w d e h = λ some. rw e (omega arith)
 few16 Fifo w d e h = tt
 few16 Deque w d e h = λ some. rw e (omega arith)
 
-pub widest-tag : WidestTag
-widest-tag s m l e is16 cs = demand3 s m l e cs few
-  where
-    U : World
-    U = freshOf s m l .world
+few-in : (ts : List Turn) (U : World) → Started U → InCompany U ts → U .bench .width ≡ 16 → FewPutsIn (U .bench .kind) (tagBits (U .bench)) (playedIn U ts)
+few-in ts U F C is16 i l j x a =
+    let T = playedIn U ts in
+    few-linked (U .bench .kind) (U .bench .queue .linked) (U .bench .width) _
+    (λ z. few16 (U .bench .kind) (U .bench .width) _ is16
+    (omega (arith, few-finish ts U F C, landed-finished T, same-puts-in ts U F C, puts-take (drop (suc l) T) (j - suc l), puts-drop T (suc l))))
 
-    few : FewPuts U cs
-    few i l′ j x a =
-        few-linked (U .bench .kind) (U .bench .queue .linked) (U .bench .width) _
-        (λ z. few16 (U .bench .kind) (U .bench .width) _ (omega (arith, is16))
-        (omega (
-          arith,
-          few-finish U (fresh-started s m l e) cs,
-          landed-finished (played U cs),
-          same-puts s m l e cs,
-          puts-take (drop (suc l′) (played U cs)) (j - suc l′),
-          puts-drop (played U cs) (suc l′),
-        )))
+-- in company, and alone
+pub widest-in : (ts : List Turn) (U : World) → Started U → U .bench .width ≡ 16 → InCompany U ts → Sound (playedIn U ts) (afterIn U ts)
+widest-in ts U F is16 C = sound-in ts U F C (few-in ts U F C is16)
+
+pub widest-tag : WidestTag
+widest-tag s m l e is16 = from-company Sound s m l e (λ ts C. widest-in ts _ (fresh-started s m l e) is16 C)

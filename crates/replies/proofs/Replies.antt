@@ -73,9 +73,10 @@ pub begun-by : (s b : Bench) (a : Answer) (i : ℕ) (op : Operation) (w n : ℕ)
 begun-by s b a i op w n m l e o = subst (λ (x : List ℕ). record { world = lent b x l; answer = a } ≡ beginOf (lent s x l) i op) (lent-front w n m e) o
 
 -- a begin that is refused at once
-pub begin-at-once : (v : Bool) (W : World) (i : ℕ) (op : Operation) (c : Command) (r : Stop) → v ≡ true → BeginStops W i op r → respond (playing W) c ≡ showing (beginOf W i op) → RefusedAtOnce v W c r
-begin-at-once v W i op c No h b e = tt
-begin-at-once v W i op c (Why x) h b e = (h, e ∙ ap showing b)
+pub begin-at-once : (v : Bool) (W : World) (i : ℕ) (op : Operation) (c : Command) (r : Stop) → v ≡ true → validOf W ≡ true → BeginStops W i op r → respond (playing W) c ≡ showing (beginOf W i op) → RefusedAtOnce v W c r
+unfolding beginOf
+begin-at-once v W i op c No h valid b e = tt
+begin-at-once v W i op c (Why x) h valid b e = (h, e ∙ ap showing (if-true _ valid ∙ b))
 
 -- a `who` outside the crew
 pub who-at-once : (W : World) (i : ℕ) (c : Command) → validOf W ≡ true → W .bench .crew ≤ i → c ≡ Who i → respond (playing W) c ≡ response (playing W) (printed (W .bench .words) (Refused NoSuchWorker))

@@ -27,6 +27,6 @@ Slotted κ v q k i =
 abbrev pub Inside : ℕ → Queue → ℕ → ℕ → Type 0
 Inside v q n k = offsetAt (q .arrays) k + (v + 1) * sizeAt v (q .arrays) k ≤ n
 
--- its numbers are small: sizes are at most 1,024, and the store's used words 10,235
+-- its words are few: sizes are at most 1,024
 abbrev pub Small : Queue → ℕ → Type 0
-Small q k = (lengthAt (q .arrays) k ≤ 5120) × (offsetAt (q .arrays) k ≤ 10235)
+Small q k = lengthAt (q .arrays) k ≤ 5120

@@ -1,19 +1,24 @@
 // Where an index lies in the store: which index a put, a take and a steal name, which slot of an array it has, which words of
-// the store that slot is, and whether they leave room for a larger array. `read` is the anchor as a worker read it at line 1.
-// Uses `model` and `tasks`. It is used by `lines`, `waiting`, `events`, `machine` and `owner`, and by proofs of `limits`.
+// the store that slot is; and the room for a larger array. `read` is the anchor as a worker read it at line 1.
+// Uses `model` and `tasks`. It is used by `lines`, `waiting`, `limits`, `opening`, `events`, `machine`, `owner`, `plots`,
+// `queues` and `listing`.
 ghost use mathlib.Core.Path.{_≡_};
 ghost use mathlib.Core.Bool.{true};
 ghost use Prim.Native.Nat.{ℕ, _+_, _-_, _*_, _^_, _≤_, _<_};
-ghost use lib.ListN.{length};
+ghost use lib.ListN.{length, getD};
+ghost use Rattle.model.specs.declared.Room.{Room};
 ghost use Rattle.model.specs.Tasks.{gathered};
-ghost use Rattle.model.specs.Memory.{offsetAt, lengthAt, sizeAt};
+ghost use Rattle.model.specs.Memory.{nowhere, offsetAt, lengthAt, sizeAt, usable};
 ghost use Rattle.model.specs.Figures.{slot, putIndex, takeIndex, stealIndex};
+ghost use Rattle.model.specs.Stores.{taken, wordsTaken, roomIn};
 ghost use Rattle.model.specs.Lines.{wordOf, fits};
 ghost use Rattle.model.specs.Limits.{someOk};
 ghost use Rattle.slots.specs.Bounds.{Power, Wide, Sized, Slotted, Inside, Small};
 use model::Anchor;
 use model::Kind;
 use model::Queue;
+use model::Region;
+use model::Room;
 use model::Task;
 
 // LIFO names slots; in figures 2 and 3 index i lies in slot i modulo the array's size. A size is a power of two, so the
@@ -76,17 +81,7 @@ pub fn size_at(queue: Queue, at: usize) -> u32
     queue.initial << at
 }
 
-// The first word behind it.
-pub fn end_of(queue: Queue, at: usize) -> u32
-    requires { ⌜ at < 11 ⌝ }
-    requires { ⌜ Small queue at ⌝ }
-    ensures { λ r. ⌜ r ≡ offsetAt (queue .arrays) at + lengthAt (queue .arrays) at ⌝ }
-{
-    let region = queue.arrays[at];
-    region.offset + region.length
-}
-
-// The length of the array that X1 claims behind it.
+// The length of the array that X1 claims, where this is the last one.
 pub fn twice_as_long(queue: Queue, at: usize) -> u32
     requires { ⌜ at < 11 ⌝ }
     requires { ⌜ Small queue at ⌝ }
@@ -237,20 +232,56 @@ pub fn stolen_word(
     read_word(kind, words, queue, at, index, word, store)
 }
 
-// X1's condition: twice the size is at most 1,024, and the store's words left are enough.
-pub fn has_room(queue: Queue, store: &[u32]) -> bool
+// X1's condition: twice the size is at most 1,024, and the words left are enough.
+pub fn has_room(queue: Queue, left: u32) -> bool
     requires { ⌜ (0 < queue .published) × (queue .published ≤ 11) ⌝ }
     requires { ⌜ queue .initial * 2 ^ (queue .published - 1) ≤ 1024 ⌝ }
     requires { ⌜ Small queue (queue .published - 1) ⌝ }
     requires { ⌜ queue .claimed ≡ queue .published ⌝ }
-    ensures { λ r. ⌜ ((v : ℕ) → Sized v queue (queue .published - 1) → r ≡ fits v queue (now (store .entry))) ⌝ }
+    ensures { λ r. ⌜ ((ρ : Room) (v : ℕ) → ρ .left ≡ left → Sized v queue (queue .published - 1) → r ≡ fits ρ v queue) ⌝ }
 {
     let here = queue.published - 1;
     let at = here as usize;
     let size = size_at(queue, at);
-    let from = end_of(queue, at);
     let more = twice_as_long(queue, at);
-    let end = (from + more) as usize;
+    2 * size <= 1024 && more <= left
+}
+
+// A pair of the directory. The first is the commonest, and an index that is a constant copies only that pair.
+pub fn region_at(queue: Queue, place: u32) -> Region
+    requires { ⌜ place < 11 ⌝ }
+    ensures { λ r. ⌜ r ≡ getD (queue .arrays) place nowhere ⌝ }
+{
+    if place == 0 {
+        return queue.arrays[0];
+    }
+    let i = place as usize;
+    queue.arrays[i]
+}
+
+// The words of a store that are ever used.
+pub fn usable(store: &[u32]) -> u32
+    ensures { λ r. ⌜ r ≡ usable (now (store .entry)) ⌝ }
+{
     let n = store.len();
-    2 * size <= 1024 && end <= n
+    if n <= 10235 {
+        return n as u32;
+    }
+    10235
+}
+
+// X1's room in a queue that is alone: its arrays lie end to end, so that the next free word is where the last one ends, and what
+// is left is the store's.
+pub fn room_alone(queue: Queue, store: &[u32]) -> Room
+    requires { ⌜ (0 < queue .claimed) × (queue .claimed ≤ 11) ⌝ }
+    requires { ⌜ wordsTaken queue ≡ taken queue ⌝ }
+    requires { ⌜ taken queue ≤ usable (now store) ⌝ }
+    ensures { λ r. ⌜ r ≡ roomIn (usable (now (store .entry))) (wordsTaken queue) 0 (wordsTaken queue) (length (now (store .entry))) ⌝ }
+{
+    let place = queue.claimed - 1;
+    let last = region_at(queue, place);
+    let n = usable(store);
+    let next = last.offset + last.length;
+    let left = n - next;
+    Room { next, left }
 }

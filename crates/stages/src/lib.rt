@@ -1,5 +1,5 @@
 // Where a worker stands in its operation, what a thief has read, the tag's bits, and one restart more.
-// Uses `model`. It is used by `limits`, `opening`, `events`, `machine`, `owner`, `queues` and `listing`.
+// Uses `model`. It is used by `limits`, `opening`, `events`, `machine`, `queues` and `listing`.
 ghost use mathlib.Core.Path.{_≡_};
 ghost use Rattle.model.specs.Tests.{if_then_else_};
 ghost use Rattle.model.specs.World.{claimStage, stage, isIdle};

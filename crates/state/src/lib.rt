@@ -7,7 +7,7 @@ ghost use mathlib.Core.Path.{_≡_};
 ghost use Prim.Native.Nat.{_≤_, _<_};
 ghost use Rattle.model.specs.declared.Answer.the-variants.{Refused};
 ghost use Rattle.model.specs.Stores.{anchored, publishing, nonePending};
-ghost use Rattle.model.specs.Calls.{blank, noBench, linkSet};
+ghost use Rattle.model.specs.Calls.{blankAt, noBench, linkSet};
 ghost use Rattle.state.specs.Pieces.{opened};
 use model::Anchor;
 use model::Answer;
@@ -58,8 +58,9 @@ pub fn none_pending() -> Pending
     Pending { store }
 }
 
-// A state with no operation open, over one array of `size` tasks of `words` payload words.
+// A state with no operation open, over one array of `size` tasks of `words` payload words, at word `offset` of the store.
 pub fn made(
+    offset: u32,
     kind: Kind,
     linked: bool,
     width: u32,
@@ -70,7 +71,7 @@ pub fn made(
 ) -> Bench
     requires { ⌜ size ≤ 1024 ⌝ }
     requires { ⌜ words ≤ 4 ⌝ }
-    ensures { λ r. ⌜ r ≡ blank kind linked width size crew words delayed ⌝ }
+    ensures { λ r. ⌜ r ≡ blankAt offset kind linked width size crew words delayed ⌝ }
 {
     let long = (words + 1) * size;
     let none = none_pending();
@@ -79,7 +80,7 @@ pub fn made(
         length: 0,
     }; 11];
     arrays[0] = Region {
-        offset: 0,
+        offset: offset,
         length: long,
     };
     Bench {
@@ -117,7 +118,7 @@ pub fn made(
 pub fn none() -> Bench
     ensures { λ r. ⌜ r ≡ noBench ⌝ }
 {
-    made(Kind::Lifo, false, 0, 0, 0, 0, false)
+    made(0, Kind::Lifo, false, 0, 0, 0, 0, false)
 }
 
 // A worker gets its first line.

@@ -18,7 +18,7 @@ use Rattle.model.specs.declared.Operation.{Operation}
 use Rattle.model.specs.declared.Operation.the-variants.{Put, Take, Steal}
 use Rattle.model.specs.declared.Answer.the-variants.{GoesOn}
 use Rattle.model.specs.Tests.{if_then_else_, _and_, _or_}
-use Rattle.model.specs.Memory.{nowhere, zeros, wordAt, setWord, offsetAt, lengthAt, sizeAt}
+use Rattle.model.specs.Memory.{nowhere, zeros, wordAt, setWord, offsetAt, lengthAt, sizeAt, wordsTo}
 use Rattle.model.specs.Tasks.{task, wordIn, withWord, gathered}
 use Rattle.model.specs.Answers.{entryOf, ends}
 use Rattle.model.specs.Figures.{anchor}
@@ -94,7 +94,7 @@ pub failed-compare :
     × Alike beaten 1 2
     (stands false false (anchor 0 0 1) (first ∷ []) unlinked [] 1 (0 ∷ 1 ∷ 0 ∷ []) Idle StealRead (StealTest (anchor 0 0 1)) (1 ∷ 65 ∷ 0 ∷ 0 ∷ [])
     (1 ∷ 0 ∷ 1 ∷ 65 ∷ 2 ∷ 0 ∷ 1 ∷ 65 ∷ []))
-unfolding beaten bench does after freshOf beginOf stepOf validOf lineStep landedAll zeros wordAt setWord offsetAt lengthAt sizeAt gathered wordIn withWord if_then_else_ _and_ _or_
+unfolding beaten bench does after freshOf beginOf stepOf validOf wordsTo lineStep landedAll zeros wordAt setWord offsetAt lengthAt sizeAt gathered wordIn withWord if_then_else_ _and_ _or_
 failed-compare = (record { accepted = refl; ends-none = refl; claims-none = refl; lands-none = refl }, record { accepted = refl; ends-none = refl; claims-none = refl; lands-none = refl }, record { this = refl; other = refl })
 
 -- LINE 1 OF A STEAL THAT LINKS is quiet: the link is its worker's own. Both thieves are at it
@@ -107,7 +107,7 @@ pub first-line :
     × Alike linking 1 2
     (stands true false (anchor 0 1 0) (first ∷ []) (false ∷ true ∷ true ∷ []) [] 1 (0 ∷ 0 ∷ 0 ∷ []) Idle (StealTest (anchor 0 1 0)) (StealTest (anchor 0 1 0))
     (1 ∷ 65 ∷ 0 ∷ 0 ∷ []) (1 ∷ 0 ∷ 1 ∷ 65 ∷ []))
-unfolding linking bench does after freshOf beginOf stepOf validOf lineStep landedAll zeros wordAt setWord offsetAt lengthAt sizeAt gathered wordIn withWord if_then_else_ _and_ _or_
+unfolding linking bench does after freshOf beginOf stepOf validOf wordsTo lineStep landedAll zeros wordAt setWord offsetAt lengthAt sizeAt gathered wordIn withWord if_then_else_ _and_ _or_
 first-line = (record { accepted = refl; ends-none = refl; claims-none = refl; lands-none = refl }, record { accepted = refl; ends-none = refl; claims-none = refl; lands-none = refl }, record { this = refl; other = refl })
 
 -- A PUT'S WORD WITH DELAYED STORES is quiet: it joins the line. The owner is at the put's first word, thief 1 at line 1
@@ -120,7 +120,7 @@ pub waiting-word :
     × Alike joining 0 1
     (stands false true (anchor 0 0 0) (first ∷ []) unlinked (StoreWord 0 0 0 1 ∷ []) 1 (0 ∷ 0 ∷ 0 ∷ []) (PutWord (task 1 (one 65)) (anchor 0 0 0) 1)
     (StealTest (anchor 0 0 0)) Idle (0 ∷ 0 ∷ 0 ∷ 0 ∷ []) [])
-unfolding joining bench does after freshOf beginOf stepOf validOf lineStep landedAll zeros wordAt setWord offsetAt lengthAt sizeAt gathered wordIn withWord if_then_else_ _and_ _or_
+unfolding joining bench does after freshOf beginOf stepOf validOf wordsTo lineStep landedAll zeros wordAt setWord offsetAt lengthAt sizeAt gathered wordIn withWord if_then_else_ _and_ _or_
 waiting-word = (record { accepted = refl; ends-none = refl; claims-none = refl; lands-none = refl }, record { accepted = refl; ends-none = refl; claims-none = refl; lands-none = refl }, record { this = refl; other = refl })
 
 -- WHAT IS NOT QUIET, and what a reader would see: both orders, told apart by f
@@ -135,11 +135,11 @@ unfoldable pub handing : World
 handing = after (bench 1 2 false 4) (does 0 (Put (one 65)) 5 ++ does 1 Steal 5 ++ begin 2 Steal ∷ [])
 
 pub compare-is-not-quiet : Quiet handing 1 → ⊥
-unfolding handing bench does after freshOf beginOf stepOf validOf lineStep landedAll zeros wordAt setWord offsetAt lengthAt sizeAt gathered wordIn withWord if_then_else_ _and_ _or_
+unfolding handing bench does after freshOf beginOf stepOf validOf wordsTo lineStep landedAll zeros wordAt setWord offsetAt lengthAt sizeAt gathered wordIn withWord if_then_else_ _and_ _or_
 compare-is-not-quiet Q = absurd (true≢false (Q .ends-none))
 
 pub compare-does-not-swap : Swapped handing 1 2 → ⊥
-unfolding handing bench does after freshOf beginOf stepOf validOf lineStep landedAll zeros wordAt setWord offsetAt lengthAt sizeAt gathered wordIn withWord if_then_else_ _and_ _or_
+unfolding handing bench does after freshOf beginOf stepOf validOf wordsTo lineStep landedAll zeros wordAt setWord offsetAt lengthAt sizeAt gathered wordIn withWord if_then_else_ _and_ _or_
 compare-does-not-swap = differ handing 1 2 (λ X. ends (stepOf X 2 .answer)) false true refl refl (λ e. true≢false (sym e))
 
 -- a put's word at once. The tag, of one bit, has come round, so thief 1's compare will succeed: it reads the payload of put 2 if it
@@ -154,11 +154,11 @@ abbrev handed : World → ℕ
 handed X = wordIn (entryOf (stepOf (stepOf X 0 .world) 1 .answer) .task) 1
 
 pub word-is-not-quiet : Quiet writing 0 → ⊥
-unfolding writing bench does after freshOf beginOf stepOf validOf lineStep landedAll zeros wordAt setWord offsetAt lengthAt sizeAt gathered wordIn withWord if_then_else_ _and_ _or_
+unfolding writing bench does after freshOf beginOf stepOf validOf wordsTo lineStep landedAll zeros wordAt setWord offsetAt lengthAt sizeAt gathered wordIn withWord if_then_else_ _and_ _or_
 word-is-not-quiet Q = lands-some (Q .lands-none)
 
 pub word-does-not-swap : Swapped writing 0 1 → ⊥
-unfolding writing bench does after freshOf beginOf stepOf validOf lineStep landedAll zeros wordAt setWord offsetAt lengthAt sizeAt gathered wordIn withWord if_then_else_ _and_ _or_
+unfolding writing bench does after freshOf beginOf stepOf validOf wordsTo lineStep landedAll zeros wordAt setWord offsetAt lengthAt sizeAt gathered wordIn withWord if_then_else_ _and_ _or_
 word-does-not-swap = differ writing 0 1 handed 66 67 refl refl (omega arith)
 
 -- an ending test for EMPTY, with another's: the log has them in their order. Both thieves have read an empty queue
@@ -166,11 +166,11 @@ unfoldable pub testing : World
 testing = after (bench 1 2 false 4) (does 1 Steal 1 ++ does 2 Steal 1)
 
 pub empty-is-not-quiet : Quiet testing 1 → ⊥
-unfolding testing bench does after freshOf beginOf stepOf validOf lineStep landedAll zeros wordAt setWord offsetAt lengthAt sizeAt gathered wordIn withWord if_then_else_ _and_ _or_
+unfolding testing bench does after freshOf beginOf stepOf validOf wordsTo lineStep landedAll zeros wordAt setWord offsetAt lengthAt sizeAt gathered wordIn withWord if_then_else_ _and_ _or_
 empty-is-not-quiet Q = absurd (true≢false (Q .ends-none))
 
 pub empty-does-not-swap : Swapped testing 1 2 → ⊥
-unfolding testing bench does after freshOf beginOf stepOf validOf lineStep landedAll zeros wordAt setWord offsetAt lengthAt sizeAt gathered wordIn withWord if_then_else_ _and_ _or_
+unfolding testing bench does after freshOf beginOf stepOf validOf wordsTo lineStep landedAll zeros wordAt setWord offsetAt lengthAt sizeAt gathered wordIn withWord if_then_else_ _and_ _or_
 empty-does-not-swap = differ testing 1 2 (λ X. getD (X .log) 1 0) 2 1 refl refl (omega arith)
 
 -- X1. Two puts fill the array, and the owner is at X1 of a third; thief 1 is at line 1, or at its compare
@@ -190,16 +190,16 @@ pub claim-is-not-quiet :
     × Alike claiming 0 1
     (stands false false (anchor 0 2 2) (first ∷ record { offset = 4; length = 8 } ∷ []) unlinked [] 3 (0 ∷ 0 ∷ 0 ∷ []) (Note (ForPut (task 3 (one 67))))
     (StealTest (anchor 0 2 2)) Idle (1 ∷ 65 ∷ 2 ∷ 66 ∷ replicate 8 0) (1 ∷ 0 ∷ 1 ∷ 65 ∷ 1 ∷ 0 ∷ 2 ∷ 66 ∷ []))
-unfolding claiming bench does after freshOf beginOf stepOf validOf lineStep landedAll zeros wordAt setWord offsetAt lengthAt sizeAt gathered wordIn withWord if_then_else_ _and_ _or_
+unfolding claiming bench does after freshOf beginOf stepOf validOf wordsTo lineStep landedAll zeros wordAt setWord offsetAt lengthAt sizeAt gathered wordIn withWord if_then_else_ _and_ _or_
 claim-is-not-quiet = (λ Q. true≢false (Q .claims-none), record { this = refl; other = refl })
 
 -- if it answers FULL, it ends the put: the log has this and the thief's hand-out in their order
 pub full-is-not-quiet : Quiet filled 0 → ⊥
-unfolding filled bench does after freshOf beginOf stepOf validOf lineStep landedAll zeros wordAt setWord offsetAt lengthAt sizeAt gathered wordIn withWord if_then_else_ _and_ _or_
+unfolding filled bench does after freshOf beginOf stepOf validOf wordsTo lineStep landedAll zeros wordAt setWord offsetAt lengthAt sizeAt gathered wordIn withWord if_then_else_ _and_ _or_
 full-is-not-quiet Q = absurd (true≢false (Q .ends-none))
 
 pub full-does-not-swap : Swapped filled 0 1 → ⊥
-unfolding filled bench does after freshOf beginOf stepOf validOf lineStep landedAll zeros wordAt setWord offsetAt lengthAt sizeAt gathered wordIn withWord if_then_else_ _and_ _or_
+unfolding filled bench does after freshOf beginOf stepOf validOf wordsTo lineStep landedAll zeros wordAt setWord offsetAt lengthAt sizeAt gathered wordIn withWord if_then_else_ _and_ _or_
 full-does-not-swap = differ filled 0 1 (λ X. getD (X .log) 8 0) 2 4 refl refl (omega arith)
 
 -- THE SAME WORKER TWICE: line 1 is quiet, and the test behind it answers EMPTY
@@ -207,7 +207,7 @@ unfoldable pub lone : World
 lone = after (bench 1 2 false 4) (begin 1 Steal ∷ [])
 
 pub same-worker : Quiet lone 1 × (Swapped lone 1 1 → ⊥)
-unfolding lone bench does after freshOf beginOf stepOf validOf lineStep landedAll zeros wordAt setWord offsetAt lengthAt sizeAt gathered wordIn withWord if_then_else_ _and_ _or_
+unfolding lone bench does after freshOf beginOf stepOf validOf wordsTo lineStep landedAll zeros wordAt setWord offsetAt lengthAt sizeAt gathered wordIn withWord if_then_else_ _and_ _or_
 same-worker = (record { accepted = refl; ends-none = refl; claims-none = refl; lands-none = refl }, λ S. true≢false (ap ends (S .first)))
 
 -- THE RUN OF docs/SWAPS.md, as it was noted and with each worker's quiet lines together
@@ -234,9 +234,9 @@ done =
     (1 ∷ 0 ∷ 1 ∷ 65 ∷ 1 ∷ 0 ∷ 2 ∷ 66 ∷ 2 ∷ 1 ∷ 2 ∷ 66 ∷ 2 ∷ 0 ∷ 2 ∷ 66 ∷ 2 ∷ 1 ∷ 1 ∷ 65 ∷ 3 ∷ 2 ∷ 0 ∷ 0 ∷ [])
 
 pub as-noted : after (bench 1 2 false 4) noted ≡ done
-unfolding noted bench does after freshOf beginOf stepOf validOf lineStep landedAll zeros wordAt setWord offsetAt lengthAt sizeAt gathered wordIn withWord if_then_else_ _and_ _or_
+unfolding noted bench does after freshOf beginOf stepOf validOf wordsTo lineStep landedAll zeros wordAt setWord offsetAt lengthAt sizeAt gathered wordIn withWord if_then_else_ _and_ _or_
 as-noted = refl
 
 pub as-grouped : after (bench 1 2 false 4) grouped ≡ done
-unfolding grouped bench does after freshOf beginOf stepOf validOf lineStep landedAll zeros wordAt setWord offsetAt lengthAt sizeAt gathered wordIn withWord if_then_else_ _and_ _or_
+unfolding grouped bench does after freshOf beginOf stepOf validOf wordsTo lineStep landedAll zeros wordAt setWord offsetAt lengthAt sizeAt gathered wordIn withWord if_then_else_ _and_ _or_
 as-grouped = refl

@@ -8,17 +8,19 @@ use lib.ListN.{getD, set}
 use lib.Seq.{set-comm, getD-set-other}
 use Rattle.model.specs.declared.Line.{Line}
 use Rattle.model.specs.declared.Waiting.{Waiting}
+use Rattle.model.specs.declared.Room.{Room}
 use Rattle.model.specs.declared.Answer.{Answer}
 use Rattle.model.specs.Tests.{if_then_else_, _and_, _or_}
 use Rattle.model.specs.Lines.{Effect, failsCompare}
-use Rattle.model.specs.World.{World, Outcome, lineAt, isSteal1, isPast1}
-use Rattle.model.specs.Calls.{oneMore, raised, nextEffect, stepOf, step}
+use Rattle.model.specs.World.{World, Outcome, lineAt, isSteal1, isPast1, roomAlone}
+use Rattle.model.specs.Calls.{oneMore, raised, nextEffect, stepIn, stepOf, step}
 use Rattle.model.specs.Run.{played, after}
 use Rattle.theorems.specs.Reached.{Reached}
+use Rattle.theorems.proofs.Cases.{alone-is}
 use Rattle.theorems.proofs.WholeRun.{line-other}
 use Rattle.theorems.proofs.Reached.{reached-call, reached-valid}
-use Rattle.swaps.specs.Swaps.{Quiet, SwapQuiet, QuietStays, QuietRow, rowOf, answersOf, MovePastRow, QuietAsPlayed}
-use Rattle.swaps.proofs.WorkersOwn.{withLinks, movedWith, moved, movedOut, QuietAs, quiet-step, quiet-at, at-quiet, join-swap, fails-kept, same-effect, stays, stayed}
+use Rattle.swaps.specs.Swaps.{Quiet, SwappedBy, SwapQuiet, QuietStays, QuietRow, rowOf, answersOf, MovePastRow, QuietAsPlayed}
+use Rattle.swaps.proofs.WorkersOwn.{withLinks, movedWith, moved, movedOut, QuietAs, quiet-in, quiet-at, at-quiet, join-swap, fails-kept, same-effect, stays, stayed}
 
 -- TWO IN EITHER ORDER. In a list where each worker has its own place
 both-set : {A : Type 0} (l : List A) (i j : ℕ) (d : A) (f g : A → A) → i ≢ j
@@ -71,47 +73,73 @@ module _ (W : World) (i j : ℕ) (E F : Effect) (ne : i ≢ j) where
       ∙ ap (λ (n : List ℕ). movedWith W (Y .queue) (Y .waiting) n (X .workers)) counts-swap
       ∙ ap (movedWith W (Y .queue) (Y .waiting) (Y .restarts)) (set-comm (b .workers) j i (record { line = F .line }) (record { line = E .line }) (λ e. ne (sym e)))
 
--- WHAT WORKER j's QUIET STEP LEAVES
-abbrev leftBy : World → ℕ → World
-leftBy W j = moved W j (nextEffect W j)
+-- WHAT WORKER j's QUIET STEP LEAVES, where X1 would find the room ρ: also that room
+abbrev leftBy : Room → World → ℕ → World
+leftBy ρ W j = moved W j (nextEffect ρ W j)
 
-step-is : {W : World} → Reached W → (j : ℕ) → Quiet W j → stepOf W j ≡ movedOut W j (nextEffect W j)
-step-is {W} R j P = quiet-step W j (reached-valid R) (quiet-at W j P)
+abbrev QuietIn : Room → World → ℕ → Type 0
+QuietIn ρ W i = QuietAs W i (nextEffect ρ W i)
 
-left-is : {W : World} → Reached W → (j : ℕ) → Quiet W j → stepOf W j .world ≡ leftBy W j
-left-is R j P = ap (λ (D : Outcome). D .world) (step-is R j P)
+left-in : (ρ : Room) (W : World) (j : ℕ) → QuietIn ρ W j → stepIn ρ W j .world ≡ leftBy ρ W j
+left-in ρ W j P = ap (λ (D : Outcome). D .world) (quiet-in ρ W j P)
 
-reached-left : {W : World} → Reached W → (j : ℕ) → Quiet W j → Reached (leftBy W j)
-reached-left R j P = subst Reached (left-is R j P) (reached-call R (step j))
-
-still : (W : World) (i j : ℕ) → i ≢ j → QuietAs W i (nextEffect W i) → QuietAs W j (nextEffect W j) → QuietAs (leftBy W j) i (nextEffect (leftBy W j) i)
-still W i j ne Q P =
-    subst (QuietAs (leftBy W j) i) (sym (same-effect W i j (nextEffect W j) ne)) (stays W i j (nextEffect W i) (nextEffect W j) ne (P .line) Q)
+still : (ρ : Room) (W : World) (i j : ℕ) → i ≢ j → QuietIn ρ W i → QuietIn ρ W j → QuietIn ρ (leftBy ρ W j) i
+still ρ W i j ne Q P =
+    subst (QuietAs (leftBy ρ W j) i) (sym (same-effect ρ W i j (nextEffect ρ W j) ne)) (stays W i j (nextEffect ρ W i) (nextEffect ρ W j) ne (P .line) Q)
 
 -- worker i's behind worker j's
-second-is : {W : World} → Reached W → (i j : ℕ) → i ≢ j → Quiet W i → Quiet W j → stepOf (stepOf W j .world) i ≡ movedOut (leftBy W j) i (nextEffect W i)
-second-is {W} R i j ne Q P =
-    ap (λ (X : World). stepOf X i) (left-is R j P)
-    ∙ quiet-step (leftBy W j) i (reached-valid (reached-left R j P)) (still W i j ne (quiet-at W i Q) (quiet-at W j P))
-    ∙ ap (movedOut (leftBy W j) i) (same-effect W i j (nextEffect W j) ne)
+second-in : (ρ : Room) (W : World) (i j : ℕ) → i ≢ j → QuietIn ρ W i → QuietIn ρ W j → stepIn ρ (stepIn ρ W j .world) i ≡ movedOut (leftBy ρ W j) i (nextEffect ρ W i)
+second-in ρ W i j ne Q P =
+    ap (λ (X : World). stepIn ρ X i) (left-in ρ W j P) ∙ quiet-in ρ (leftBy ρ W j) i (still ρ W i j ne Q P)
+    ∙ ap (movedOut (leftBy ρ W j) i) (same-effect ρ W i j (nextEffect ρ W j) ne)
+
+-- in whatever room
+pub swap-in : (ρ : Room) (W : World) (i j : ℕ) → i ≢ j → QuietIn ρ W i → QuietIn ρ W j → SwappedBy (stepIn ρ) W i j
+swap-in ρ W i j ne Q P =
+    let a = second-in ρ W i j ne Q P in
+    let b = second-in ρ W j i (λ e. ne (sym e)) P Q in
+    record {
+      worlds = ap (λ (D : Outcome). D .world) a ∙ moved-swap W i j (nextEffect ρ W i) (nextEffect ρ W j) ne ∙ sym (ap (λ (D : Outcome). D .world) b);
+      first = ap (λ (D : Outcome). D .answer) a ∙ sym (ap (λ (D : Outcome). D .answer) (quiet-in ρ W i Q));
+      second = ap (λ (D : Outcome). D .answer) b ∙ sym (ap (λ (D : Outcome). D .answer) (quiet-in ρ W j P));
+    }
+
+-- ALONE. A step finds the room behind the arrays, and leaves it so
+step-is : {W : World} → Reached W → (j : ℕ) → stepOf W j ≡ stepIn (roomAlone W) W j
+step-is {W} R j = alone-is W (step j) (reached-valid R)
+
+left-is : {W : World} → Reached W → (j : ℕ) → Quiet W j → stepOf W j .world ≡ leftBy (roomAlone W) W j
+left-is {W} R j P = ap (λ (D : Outcome). D .world) (step-is R j) ∙ left-in (roomAlone W) W j (quiet-at W j P)
+
+reached-left : {W : World} → Reached W → (j : ℕ) → Quiet W j → Reached (leftBy (roomAlone W) W j)
+reached-left R j P = subst Reached (left-is R j P) (reached-call R (step j))
+
+second-is : {W : World} → Reached W → (i j : ℕ) → Quiet W j → stepOf (stepOf W j .world) i ≡ stepIn (roomAlone W) (stepIn (roomAlone W) W j .world) i
+second-is {W} R i j P =
+    ap (λ (X : World). stepOf X i) (left-is R j P) ∙ step-is (reached-left R j P) i
+    ∙ sym (ap (λ (X : World). stepIn (roomAlone W) X i) (left-in (roomAlone W) W j (quiet-at W j P)))
 
 pub swap-quiet : SwapQuiet
 swap-quiet W R i j ne Q P =
-    let a = second-is R i j ne Q P in
-    let b = second-is R j i (λ e. ne (sym e)) P Q in
+    let S = swap-in (roomAlone W) W i j ne (quiet-at W i Q) (quiet-at W j P) in
+    let a = second-is R i j P in
+    let b = second-is R j i Q in
     record {
-      worlds = ap (λ (D : Outcome). D .world) a ∙ moved-swap W i j (nextEffect W i) (nextEffect W j) ne ∙ sym (ap (λ (D : Outcome). D .world) b);
-      first = ap (λ (D : Outcome). D .answer) a ∙ sym (ap (λ (D : Outcome). D .answer) (step-is R i Q));
-      second = ap (λ (D : Outcome). D .answer) b ∙ sym (ap (λ (D : Outcome). D .answer) (step-is R j P));
+      worlds = ap (λ (D : Outcome). D .world) a ∙ S .worlds ∙ sym (ap (λ (D : Outcome). D .world) b);
+      first = ap (λ (D : Outcome). D .answer) a ∙ S .first ∙ sym (ap (λ (D : Outcome). D .answer) (step-is R i));
+      second = ap (λ (D : Outcome). D .answer) b ∙ S .second ∙ sym (ap (λ (D : Outcome). D .answer) (step-is R j));
     }
 
 pub quiet-stays : QuietStays
 quiet-stays W R i j ne P = (
-  λ Q. subst (λ (X : World). Quiet X i) (sym (left-is R j P)) (at-quiet (leftBy W j) i (reached-valid (reached-left R j P)) (still W i j ne (quiet-at W i Q) (quiet-at W j P))),
+  λ Q. subst (λ (X : World). Quiet X i) (sym (left-is R j P)) (at-quiet (leftBy ρ W j) i (reached-valid (reached-left R j P)) (still ρ W i j ne (quiet-at W i Q) (quiet-at W j P))),
   λ Q. at-quiet W i (reached-valid R)
-      (stayed W i j (nextEffect W i) (nextEffect W j) ne
-      (subst (QuietAs (leftBy W j) i) (same-effect W i j (nextEffect W j) ne) (quiet-at (leftBy W j) i (subst (λ (X : World). Quiet X i) (left-is R j P) Q)))),
+      (stayed W i j (nextEffect ρ W i) (nextEffect ρ W j) ne
+      (subst (QuietAs (leftBy ρ W j) i) (same-effect ρ W i j (nextEffect ρ W j) ne) (quiet-at (leftBy ρ W j) i (subst (λ (X : World). Quiet X i) (left-is R j P) Q)))),
 )
+  where
+    ρ : Room
+    ρ = roomAlone W
 
 -- A ROW
 pub move-past-row : MovePastRow

@@ -7,31 +7,32 @@ use mathlib.Core.List.{List, [], _∷_, _++_}
 use Prim.Native.Nat.{ℕ, zero, suc, _+_, _-_, _≤_, _<_}
 use native.Mathlib.Omega.{arith}
 use lib.Dec.{ltb}
-use lib.ListN.{length, getD, set, take, drop, take-append-drop}
+use lib.ListN.{length, getD, set}
 use lib.Seq.{getD-set-other}
 use borrow.Author.Tests.{lt-ltb, ltb-true, ltb-false, le-ltb}
 use Rattle.model.specs.declared.Kind.{Kind}
 use Rattle.model.specs.declared.Line.{Line}
 use Rattle.model.specs.declared.Line.the-variants.{Idle, PutRead, PutTail, PutTest, PutWord, PutFinish, Claim, Note, Copy, Publish, TakeRead, TakeTail, TakeTest, TakeWord, TakeFinish, StealRead, StealTail, StealTest, StealNote, StealWord, StealNext, StealCompare}
 use Rattle.model.specs.declared.Queue.{Queue}
+use Rattle.model.specs.declared.Room.{Room}
 use Rattle.model.specs.declared.Store.{Store}
 use Rattle.model.specs.declared.Store.the-variants.{StoreWord, StoreNote, StorePut, StoreOut, StoreHead, StoreTail}
-use Rattle.model.specs.declared.Pending.{Pending}
 use Rattle.model.specs.declared.Waiting.{Waiting}
 use Rattle.model.specs.declared.Worker.{Worker}
 use Rattle.model.specs.declared.Answer.the-variants.{GoesOn, HandedOut}
 use Rattle.model.specs.Tests.{if_then_else_}
+use Rattle.model.proofs.Landing.{joined-none}
 use Rattle.model.proofs.Tests.{if-true, if-false, fails}
 use Rattle.model.specs.Figures.{isSame, stealStore}
 use Rattle.model.specs.Answers.{entryOf, ends, entryLength, entryWords}
 use Rattle.model.specs.Memory.{setAll}
 use Rattle.model.specs.Stores.{Shared, shared, publishing, landedAll, claimedBy, inLine, joined}
 use Rattle.model.specs.Lines.{Effect, eff, goes, wordOf, writeWord, copyWords, copyOn, lineStep, failsCompare}
-use Rattle.model.specs.World.{World, Outcome, memory, tagBits, lineAt, isIdle}
+use Rattle.model.specs.World.{World, Outcome, memory, tagBits, lineAt, isIdle, roomAlone}
 use Rattle.model.specs.Limits.{validOf}
 use Rattle.model.specs.Listing.{isRefused}
-use Rattle.model.specs.Calls.{restarted, relinked, joining, landing, lineAfter, stepped, crowded, noRoom, nextEffect, stepOf}
-use Rattle.theorems.proofs.Cases.{pick}
+use Rattle.model.specs.Calls.{restarted, relinked, joining, landing, lineAfter, stepped, crowded, noRoom, nextEffect, stepIn, stepOf, step}
+use Rattle.theorems.proofs.Cases.{pick, alone-is, lone-cases}
 use Rattle.theorems.proofs.WholeRun.{line-other}
 use Rattle.swaps.specs.Swaps.{Quiet}
 
@@ -67,7 +68,7 @@ moved W i E =
 abbrev pub movedOut : World → ℕ → Effect → Outcome
 movedOut W i E = record { world = moved W i E; answer = E .answer }
 
--- WHAT A QUIET STEP IS, of a state within the limits: its line does E
+-- WHAT A QUIET STEP IS, of a state within the limits: its line does E. It claims nothing, so it does not matter where X1 finds room
 pub record QuietAs (W : World) (i : ℕ) (E : Effect) : Type 0 where
   pub member : i < W .bench .crew
   pub busy : isIdle (lineAt (W .bench .workers) i) ≡ false
@@ -105,47 +106,48 @@ stepped-with W i E S c x =
       answer = E .answer;
     }
 
-stepped-quietly : (W : World) (i : ℕ) (E : Effect) → QuietAs W i E → stepped W i E ≡ movedOut W i E
+stepped-quietly : (ρ : Room) (W : World) (i : ℕ) (E : Effect) → QuietAs W i E → stepped ρ W i E ≡ movedOut W i E
 unfolding stepped-with if_then_else_ landedAll
-stepped-quietly W i E Q =
-    ap (λ (c : Bool). stepped-with W i E (landedAll (W .bench .words) (claimedBy c (memory W)) (landing (W .bench .delayed) i (E .stores))) c (ends (E .answer))) (Q .claims-none)
+stepped-quietly ρ W i E Q =
+    ap (λ (c : Bool). stepped-with W i E (landedAll (W .bench .words) (claimedBy ρ c (memory W)) (landing (W .bench .delayed) i (E .stores))) c (ends (E .answer))) (Q .claims-none)
     ∙ ap (λ (ss : List Store). stepped-with W i E (landedAll (W .bench .words) (memory W) ss) false (ends (E .answer))) (Q .lands-none)
     ∙ ap (stepped-with W i E (memory W) false) (Q .ends-none)
 
-pub quiet-step : (W : World) (i : ℕ) → validOf W ≡ true → QuietAs W i (nextEffect W i) → stepOf W i ≡ movedOut W i (nextEffect W i)
-unfolding stepOf
-quiet-step W i v Q =
-    if-true _ v ∙ if-true _ (lt-ltb i (W .bench .crew) (Q .member)) ∙ if-false _ (Q .busy) ∙ if-false _ (Q .line) ∙ if-false _ (fails _ (Q .ends-none))
-    ∙ stepped-quietly W i (nextEffect W i) Q
+pub quiet-in : (ρ : Room) (W : World) (i : ℕ) → QuietAs W i (nextEffect ρ W i) → stepIn ρ W i ≡ movedOut W i (nextEffect ρ W i)
+quiet-in ρ W i Q =
+    if-true _ (lt-ltb i (W .bench .crew) (Q .member)) ∙ if-false _ (Q .busy) ∙ if-false _ (Q .line) ∙ if-false _ (fails _ (Q .ends-none))
+    ∙ stepped-quietly ρ W i (nextEffect ρ W i) Q
 
 -- and such a step has passed the tests
-abbrev QuietBy : World → ℕ → Outcome → Type 0
-QuietBy W i D = isRefused (D .answer) ≡ false → ends (D .answer) ≡ false → QuietAs W i (nextEffect W i)
+abbrev QuietBy : Room → World → ℕ → Outcome → Type 0
+QuietBy ρ W i D = isRefused (D .answer) ≡ false → ends (D .answer) ≡ false → QuietAs W i (nextEffect ρ W i)
 
-pub quiet-at : (W : World) (i : ℕ) → Quiet W i → QuietAs W i (nextEffect W i)
-unfolding stepOf
-quiet-at W i Q =
-    let P = QuietBy W i in
-    pick P (validOf W) _ _
-    (λ v. pick P (ltb i (W .bench .crew)) _ _
+pub quiet-by : (ρ : Room) (W : World) (i : ℕ) → nextEffect ρ W i .claims ≡ false → landing (W .bench .delayed) i (nextEffect ρ W i .stores) ≡ [] → QuietBy ρ W i (stepIn ρ W i)
+quiet-by ρ W i c l =
+    let P = QuietBy ρ W i in
+    pick P (ltb i (W .bench .crew)) _ _
     (λ u. pick P (isIdle (lineAt (W .bench .workers) i)) _ _ (λ e a. absurd (true≢false a))
-    (λ b. pick P (crowded W i (nextEffect W i)) _ _ (λ e a. absurd (true≢false a))
-    (λ k. pick P (noRoom W (nextEffect W i)) _ _ (λ e a. absurd (true≢false a))
+    (λ b. pick P (crowded W i (nextEffect ρ W i)) _ _ (λ e a. absurd (true≢false a))
+    (λ k. pick P (noRoom W (nextEffect ρ W i)) _ _ (λ e a. absurd (true≢false a))
     (λ n a e. record {
       member = ltb-true i (W .bench .crew) u;
       busy = b;
       line = k;
       accepted = a;
       ends-none = e;
-      claims-none = Q .claims-none;
-      lands-none = Q .lands-none;
+      claims-none = c;
+      lands-none = l;
     }))))
-    (λ u a. absurd (true≢false a)))
-    (λ v a. absurd (true≢false a)) (Q .accepted) (Q .ends-none)
+    (λ u a. absurd (true≢false a))
 
-pub at-quiet : (W : World) (i : ℕ) → validOf W ≡ true → QuietAs W i (nextEffect W i) → Quiet W i
+-- alone
+pub quiet-at : (W : World) (i : ℕ) → Quiet W i → QuietAs W i (nextEffect (roomAlone W) W i)
+quiet-at W i Q =
+    lone-cases (QuietBy (roomAlone W) W i) W (λ a. absurd (true≢false a)) (step i) (quiet-by (roomAlone W) W i (Q .claims-none) (Q .lands-none)) (Q .accepted) (Q .ends-none)
+
+pub at-quiet : (W : World) (i : ℕ) → validOf W ≡ true → QuietAs W i (nextEffect (roomAlone W) W i) → Quiet W i
 at-quiet W i v Q =
-    let is : stepOf W i .answer ≡ nextEffect W i .answer = ap (λ (D : Outcome). D .answer) (quiet-step W i v Q) in
+    let is : stepOf W i .answer ≡ nextEffect (roomAlone W) W i .answer = ap (λ (D : Outcome). D .answer) (alone-is W (step i) v ∙ quiet-in (roomAlone W) W i Q) in
     record { accepted = ap isRefused is ∙ Q .accepted; ends-none = ap ends is ∙ Q .ends-none; claims-none = Q .claims-none; lands-none = Q .lands-none }
 
 -- LINKS. Worker i looks at its own alone
@@ -166,56 +168,49 @@ same-copies κ v q L m i zero = refl
 same-copies κ v q L m i (suc n) =
     ap (λ (ss : List Store). ss ++ writeWord κ v q (q .published) i n (wordOf κ v q m (q .published - 1) i n) ∷ []) (same-copies κ v q L m i n)
 
-own-link : (κ : Kind) (w v : ℕ) (q : Queue) (L : List Bool) (m : List ℕ) (i : ℕ) (l : Line) → getD L i false ≡ getD (q .links) i false
-    → (lineStep κ w v (withLinks q L) m i l ≡ lineStep κ w v q m i l) × (failsCompare κ (withLinks q L) i l ≡ failsCompare κ q i l)
+own-link : (ρ : Room) (κ : Kind) (w v : ℕ) (q : Queue) (L : List Bool) (m : List ℕ) (i : ℕ) (l : Line) → getD L i false ≡ getD (q .links) i false
+    → (lineStep ρ κ w v (withLinks q L) m i l ≡ lineStep ρ κ w v q m i l) × (failsCompare κ (withLinks q L) i l ≡ failsCompare κ q i l)
 unfolding lineStep
-own-link κ w v q L m i Idle e = (refl, refl)
-own-link κ w v q L m i (PutRead t) e = (refl, refl)
-own-link κ w v q L m i (PutTail t h) e = (refl, refl)
-own-link κ w v q L m i (PutTest t r) e = (refl, refl)
-own-link κ w v q L m i (PutWord t r j) e = (refl, refl)
-own-link κ w v q L m i (PutFinish t r) e = (refl, refl)
-own-link κ w v q L m i (Claim g) e = (refl, refl)
-own-link κ w v q L m i (Note g) e = (refl, refl)
-own-link κ w v q L m i (Copy g h n k) e = (ap (λ (ss : List Store). eff ss (copyOn g h n k) GoesOn) (same-copies κ v q L m (h + k) (v + 1)), refl)
-own-link κ w v q L m i (Publish g) e = (refl, refl)
-own-link κ w v q L m i TakeRead e = (refl, refl)
-own-link κ w v q L m i (TakeTail h) e = (refl, refl)
-own-link κ w v q L m i (TakeTest r) e = (refl, refl)
-own-link κ w v q L m i (TakeWord r t j) e = (refl, refl)
-own-link κ w v q L m i (TakeFinish r t) e = (refl, refl)
-own-link κ w v q L m i StealRead e = (refl, refl)
-own-link κ w v q L m i (StealTail h) e = (refl, refl)
-own-link κ w v q L m i (StealTest r) e = (refl, refl)
-own-link κ w v q L m i (StealNote r) e = (refl, refl)
-own-link κ w v q L m i (StealWord r k t j) e = (refl, refl)
-own-link κ w v q L m i (StealNext r t) e = (refl, refl)
-own-link κ w v q L m i (StealCompare r f t) e = (
+own-link ρ κ w v q L m i Idle e = (refl, refl)
+own-link ρ κ w v q L m i (PutRead t) e = (refl, refl)
+own-link ρ κ w v q L m i (PutTail t h) e = (refl, refl)
+own-link ρ κ w v q L m i (PutTest t r) e = (refl, refl)
+own-link ρ κ w v q L m i (PutWord t r j) e = (refl, refl)
+own-link ρ κ w v q L m i (PutFinish t r) e = (refl, refl)
+own-link ρ κ w v q L m i (Claim g) e = (refl, refl)
+own-link ρ κ w v q L m i (Note g) e = (refl, refl)
+own-link ρ κ w v q L m i (Copy g h n k) e = (ap (λ (ss : List Store). eff ss (copyOn g h n k) GoesOn) (same-copies κ v q L m (h + k) (v + 1)), refl)
+own-link ρ κ w v q L m i (Publish g) e = (refl, refl)
+own-link ρ κ w v q L m i TakeRead e = (refl, refl)
+own-link ρ κ w v q L m i (TakeTail h) e = (refl, refl)
+own-link ρ κ w v q L m i (TakeTest r) e = (refl, refl)
+own-link ρ κ w v q L m i (TakeWord r t j) e = (refl, refl)
+own-link ρ κ w v q L m i (TakeFinish r t) e = (refl, refl)
+own-link ρ κ w v q L m i StealRead e = (refl, refl)
+own-link ρ κ w v q L m i (StealTail h) e = (refl, refl)
+own-link ρ κ w v q L m i (StealTest r) e = (refl, refl)
+own-link ρ κ w v q L m i (StealNote r) e = (refl, refl)
+own-link ρ κ w v q L m i (StealWord r k t j) e = (refl, refl)
+own-link ρ κ w v q L m i (StealNext r t) e = (refl, refl)
+own-link ρ κ w v q L m i (StealCompare r f t) e = (
   ap (λ (x : Bool). if (if q .linked then x else isSame κ (q .anchor) r) then eff (stealStore κ r f ∷ []) Idle (HandedOut i t) else goes StealRead) e,
   ap (λ (x : Bool). not (if q .linked then x else isSame κ (q .anchor) r)) e,
 )
 
 -- also with stores put down before it looks
-own-view : (κ : Kind) (w v i : ℕ) (l : Line) (ss : List Store) (q : Queue) (L : List Bool) (m : List ℕ) → getD L i false ≡ getD (q .links) i false
+own-view : (ρ : Room) (κ : Kind) (w v i : ℕ) (l : Line) (ss : List Store) (q : Queue) (L : List Bool) (m : List ℕ) → getD L i false ≡ getD (q .links) i false
     → let S = landedAll v (shared (withLinks q L) m) ss in let S′ = landedAll v (shared q m) ss in
-    lineStep κ w v (S .queue) (S .store) i l ≡ lineStep κ w v (S′ .queue) (S′ .store) i l
+    lineStep ρ κ w v (S .queue) (S .store) i l ≡ lineStep ρ κ w v (S′ .queue) (S′ .store) i l
 unfolding landedAll
-own-view κ w v i l [] q L m e = own-link κ w v q L m i l e .0
-own-view κ w v i l (StoreWord k s j x ∷ ss) q L m e = own-view κ w v i l ss q L _ e
-own-view κ w v i l (StoreNote k ∷ ss) q L m e = own-view κ w v i l ss (publishing q k) L m e
-own-view κ w v i l (StorePut a ∷ ss) q L m e = refl
-own-view κ w v i l (StoreOut a ∷ ss) q L m e = refl
-own-view κ w v i l (StoreHead h ∷ ss) q L m e = refl
-own-view κ w v i l (StoreTail t ∷ ss) q L m e = refl
+own-view ρ κ w v i l [] q L m e = own-link ρ κ w v q L m i l e .0
+own-view ρ κ w v i l (StoreWord k s j x ∷ ss) q L m e = own-view ρ κ w v i l ss q L _ e
+own-view ρ κ w v i l (StoreNote k ∷ ss) q L m e = own-view ρ κ w v i l ss (publishing q k) L m e
+own-view ρ κ w v i l (StorePut a ∷ ss) q L m e = refl
+own-view ρ κ w v i l (StoreOut a ∷ ss) q L m e = refl
+own-view ρ κ w v i l (StoreHead h ∷ ss) q L m e = refl
+own-view ρ κ w v i l (StoreTail t ∷ ss) q L m e = refl
 
 -- THE WAITING LINE is the owner's: of two workers' stores one's do not join
-join-is : (s : List Pending) (c n : ℕ) → n ≡ c → _≡_ {A = Waiting} (record { stores = take c s ++ drop n s; count = n }) (record { stores = s; count = c })
-join-is s c n e =
-    ap (λ (k : ℕ). record { stores = take c s ++ drop k s; count = k }) e ∙ ap (λ (l : List Pending). record { stores = l; count = c }) (take-append-drop c s)
-
-join-none : (l : Waiting) → joined l [] ≡ l
-join-none l = join-is (l .stores) (l .count) (l .count + 0) (omega arith)
-
 one-joins : (δ : Bool) (i j : ℕ) (S T : List Store) → i ≢ j → (joining δ i S ≡ []) ⊎ (joining δ j T ≡ [])
 one-joins true zero zero S T ne = absurd (ne refl)
 one-joins true zero (suc j) S T ne = inr refl
@@ -223,15 +218,15 @@ one-joins true (suc i) j S T ne = inl refl
 one-joins false i j S T ne = inl refl
 
 thief-joins : (δ : Bool) (k : ℕ) (l : Waiting) (S : List Store) → joined l (joining δ (suc k) S) ≡ l
-thief-joins true k l S = join-none l
-thief-joins false k l S = join-none l
+thief-joins true k l S = joined-none l
+thief-joins false k l S = joined-none l
 
 pub join-swap : (δ : Bool) (l : Waiting) (i j : ℕ) (S T : List Store) → i ≢ j → joined (joined l (joining δ j T)) (joining δ i S) ≡ joined (joined l (joining δ i S)) (joining δ j T)
 join-swap δ l i j S T ne = go (joining δ i S) (joining δ j T) (one-joins δ i j S T ne)
   where
     go : (A B : List Store) → (A ≡ []) ⊎ (B ≡ []) → joined (joined l B) A ≡ joined (joined l A) B
-    go A B (inl e) = ap (joined (joined l B)) e ∙ join-none (joined l B) ∙ sym (ap (λ (x : List Store). joined (joined l x) B) e ∙ ap (λ (x : Waiting). joined x B) (join-none l))
-    go A B (inr e) = ap (λ (x : List Store). joined (joined l x) A) e ∙ ap (λ (x : Waiting). joined x A) (join-none l) ∙ sym (ap (joined (joined l A)) e ∙ join-none (joined l A))
+    go A B (inl e) = ap (joined (joined l B)) e ∙ joined-none (joined l B) ∙ sym (ap (λ (x : List Store). joined (joined l x) B) e ∙ ap (λ (x : Waiting). joined x B) (joined-none l))
+    go A B (inr e) = ap (λ (x : List Store). joined (joined l x) A) e ∙ ap (λ (x : Waiting). joined x A) (joined-none l) ∙ sym (ap (joined (joined l A)) e ∙ joined-none (joined l A))
 
 crowd : (δ : Bool) (c i j : ℕ) (S T : List Store) → i ≢ j → c + length (joining δ i S) ≤ 8 → c + length (joining δ j T) ≤ 8 → (c + length (joining δ j T)) + length (joining δ i S) ≤ 8
 crowd δ c i j S T ne h g = go (one-joins δ i j S T ne)
@@ -255,24 +250,24 @@ module _ (W : World) (i j : ℕ) (F : Effect) (ne : i ≢ j) where
   pub fails-kept : failsCompare (W .bench .kind) (moved W j F .bench .queue) i (lineAt (moved W j F .bench .workers) i) ≡ failsCompare (W .bench .kind) (W .bench .queue) i (lineAt (W .bench .workers) i)
   fails-kept =
       ap (failsCompare (W .bench .kind) (moved W j F .bench .queue) i) line-kept
-      ∙ own-link (W .bench .kind) (tagBits (W .bench)) (W .bench .words) (W .bench .queue) (moved W j F .bench .queue .links) (W .store) i (lineAt (W .bench .workers) i) own-kept .1
+      ∙ own-link (roomAlone W) (W .bench .kind) (tagBits (W .bench)) (W .bench .words) (W .bench .queue) (moved W j F .bench .queue .links) (W .store) i (lineAt (W .bench .workers) i) own-kept .1
 
 -- its line does the same
-pub same-effect : (W : World) (i j : ℕ) (F : Effect) → i ≢ j → nextEffect (moved W j F) i ≡ nextEffect W i
-same-effect W zero zero F ne = absurd (ne refl)
-same-effect W zero (suc k) F ne =
+pub same-effect : (ρ : Room) (W : World) (i j : ℕ) (F : Effect) → i ≢ j → nextEffect ρ (moved W j F) i ≡ nextEffect ρ W i
+same-effect ρ W zero zero F ne = absurd (ne refl)
+same-effect ρ W zero (suc k) F ne =
     let b = W .bench in
     let L = moved W (suc k) F .bench .queue .links in
     ap (λ (u : Waiting).
     let S = landedAll (b .words) (shared (withLinks (b .queue) L) (W .store)) (inLine u) in
-    lineStep (b .kind) (tagBits b) (b .words) (S .queue) (S .store) 0 (lineAt (moved W (suc k) F .bench .workers) 0)) (thief-joins (b .delayed) k (b .waiting) (F .stores))
-    ∙ own-view (b .kind) (tagBits b) (b .words) 0 _ (inLine (b .waiting)) (b .queue) L (W .store) (own-kept W 0 (suc k) F ne)
-    ∙ ap (λ (l : Line). let S = landedAll (b .words) (memory W) (inLine (b .waiting)) in lineStep (b .kind) (tagBits b) (b .words) (S .queue) (S .store) 0 l) (line-kept W 0 (suc k) F ne)
-same-effect W (suc i) j F ne =
+    lineStep ρ (b .kind) (tagBits b) (b .words) (S .queue) (S .store) 0 (lineAt (moved W (suc k) F .bench .workers) 0)) (thief-joins (b .delayed) k (b .waiting) (F .stores))
+    ∙ own-view ρ (b .kind) (tagBits b) (b .words) 0 _ (inLine (b .waiting)) (b .queue) L (W .store) (own-kept W 0 (suc k) F ne)
+    ∙ ap (λ (l : Line). let S = landedAll (b .words) (memory W) (inLine (b .waiting)) in lineStep ρ (b .kind) (tagBits b) (b .words) (S .queue) (S .store) 0 l) (line-kept W 0 (suc k) F ne)
+same-effect ρ W (suc i) j F ne =
     let b = W .bench in
     let L = moved W j F .bench .queue .links in
-    own-link (b .kind) (tagBits b) (b .words) (b .queue) L (W .store) (suc i) _ (own-kept W (suc i) j F ne) .0
-    ∙ ap (lineStep (b .kind) (tagBits b) (b .words) (b .queue) (W .store) (suc i)) (line-kept W (suc i) j F ne)
+    own-link ρ (b .kind) (tagBits b) (b .words) (b .queue) L (W .store) (suc i) _ (own-kept W (suc i) j F ne) .0
+    ∙ ap (lineStep ρ (b .kind) (tagBits b) (b .words) (b .queue) (W .store) (suc i)) (line-kept W (suc i) j F ne)
 
 -- and it is quiet as before
 module _ (W : World) (i j : ℕ) (E F : Effect) (ne : i ≢ j) where

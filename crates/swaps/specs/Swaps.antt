@@ -6,7 +6,7 @@ use mathlib.Core.List.{List, [], _∷_, map}
 use Prim.Native.Nat.{ℕ}
 use Rattle.model.specs.declared.Answer.{Answer}
 use Rattle.model.specs.Answers.{ends}
-use Rattle.model.specs.World.{World}
+use Rattle.model.specs.World.{World, Outcome, roomAlone}
 use Rattle.model.specs.Calls.{landing, nextEffect, stepOf, Call, step}
 use Rattle.model.specs.Run.{Played, played, after}
 use Rattle.model.specs.Listing.{isRefused}
@@ -18,14 +18,17 @@ use Rattle.theorems.specs.Reached.{Reached}
 pub record Quiet (W : World) (i : ℕ) : Type 0 where
   pub accepted : isRefused (stepOf W i .answer) ≡ false
   pub ends-none : ends (stepOf W i .answer) ≡ false
-  pub claims-none : nextEffect W i .claims ≡ false
-  pub lands-none : landing (W .bench .delayed) i (nextEffect W i .stores) ≡ []
+  pub claims-none : nextEffect (roomAlone W) W i .claims ≡ false
+  pub lands-none : landing (W .bench .delayed) i (nextEffect (roomAlone W) W i .stores) ≡ []
 
 -- TWO STEPS in either order: equal states, stores and logs, and each answers what it would answer first
-pub record Swapped (W : World) (i j : ℕ) : Type 0 where
-  pub worlds : stepOf (stepOf W j .world) i .world ≡ stepOf (stepOf W i .world) j .world
-  pub first : stepOf (stepOf W j .world) i .answer ≡ stepOf W i .answer
-  pub second : stepOf (stepOf W i .world) j .answer ≡ stepOf W j .answer
+pub record SwappedBy (S : World → ℕ → Outcome) (W : World) (i j : ℕ) : Type 0 where
+  pub worlds : S (S W j .world) i .world ≡ S (S W i .world) j .world
+  pub first : S (S W j .world) i .answer ≡ S W i .answer
+  pub second : S (S W i .world) j .answer ≡ S W j .answer
+
+abbrev pub Swapped : World → ℕ → ℕ → Type 0
+Swapped W i j = SwappedBy stepOf W i j
 
 abbrev pub SwapQuiet : Type 0
 SwapQuiet = (W : World) → Reached W → (i j : ℕ) → i ≢ j → Quiet W i → Quiet W j → Swapped W i j

@@ -7,18 +7,20 @@ use native.Mathlib.Omega.{arith}
 use lib.ListN.{take, drop}
 use Rattle.model.specs.declared.Pending.{Pending}
 use Rattle.model.specs.declared.Task.{Task}
+use Rattle.model.specs.declared.Room.{Room}
 use Rattle.model.specs.Tests.{if_then_else_}
 use Rattle.model.specs.Stores.{landedAll}
 use Rattle.model.specs.World.{World, Outcome, memory, ownersView}
-use Rattle.model.specs.Calls.{Call, begin, step, dropLink, drain, ask, dropAsk, callOf}
-use Rattle.model.specs.Run.{Played, played, after}
+use Rattle.model.specs.Calls.{Call, begin, step, dropLink, drain, ask, dropAsk, callIn}
+use Rattle.model.specs.Run.{Played}
 use Rattle.theorems.specs.Demand3.{At, Finishes, Concerned, waits, drainsAs, drains, between, finishes, arrivesAs, puts}
-use Rattle.theorems.specs.AsBefore.{finished, AsBefore, NothingDelayed}
-use Rattle.theorems.proofs.Cases.{drain-cases}
+use Rattle.theorems.specs.AsBefore.{finished, Undelayed, NothingDelayed}
+use Rattle.theorems.proofs.Cases.{drain-by}
 use Rattle.theorems.proofs.Valid.{Whole}
-use Rattle.theorems.proofs.WholeRun.{call-whole, whole-run}
+use Rattle.theorems.proofs.WholeRun.{storing, others-whole, call-whole}
+use Rattle.theorems.proofs.Company.{Turn, others, own, playedIn, afterIn, InCompany, whole-run}
 use Rattle.theorems.proofs.SoundRun.{call-like}
-use Rattle.theorems.proofs.Fresh.{fresh-started}
+use Rattle.theorems.proofs.Fresh.{fresh-started, from-company}
 
 -- a call of such a queue
 pub record AtOnce (s : Played) : Type 0 where
@@ -30,27 +32,29 @@ abbrev AllAtOnce : List Played → Type 0
 AllAtOnce [] = Unit {0}
 AllAtOnce (s ∷ T) = AtOnce s × AllAtOnce T
 
-call-at-once : (W : World) (c : Call) → Whole W → W .bench .delayed ≡ false → AtOnce (record { before = W; call = c; answer = callOf W c .answer })
+call-at-once : (ρ : Room) (W : World) (c : Call) → Whole W → W .bench .delayed ≡ false → AtOnce (record { before = W; call = c; answer = callIn ρ W c .answer })
 unfolding if_then_else_
-call-at-once W (begin i op) H e = record { waiting = rw e; drained = refl; arrived = rw e }
-call-at-once W (step i) H e = record { waiting = rw e; drained = refl; arrived = rw e }
-call-at-once W (dropLink i) H e = record { waiting = rw e; drained = refl; arrived = rw e }
-call-at-once W (ask i) H e = record { waiting = rw e; drained = refl; arrived = rw e }
-call-at-once W (dropAsk i) H e = record { waiting = rw e; drained = refl; arrived = rw e }
-call-at-once W drain H e =
-    drain-cases (λ (D : Outcome). AtOnce (record { before = W; call = drain; answer = D .answer })) W
-    (λ r l. record { waiting = rw e; drained = refl; arrived = refl }) (λ some. absurd (omega (arith, H .mode e)))
+call-at-once ρ W (begin i op) H e = record { waiting = rw e; drained = refl; arrived = rw e }
+call-at-once ρ W (step i) H e = record { waiting = rw e; drained = refl; arrived = rw e }
+call-at-once ρ W (dropLink i) H e = record { waiting = rw e; drained = refl; arrived = rw e }
+call-at-once ρ W (ask i) H e = record { waiting = rw e; drained = refl; arrived = rw e }
+call-at-once ρ W (dropAsk i) H e = record { waiting = rw e; drained = refl; arrived = rw e }
+call-at-once ρ W drain H e =
+    drain-by (λ (D : Outcome). AtOnce (record { before = W; call = drain; answer = D .answer })) W
+    (λ r l. record { waiting = rw e; drained = refl; arrived = refl }) ρ (λ some. absurd (omega (arith, H .mode e)))
 
 -- the lists of them, and their parts
-stays : (cs : List Call) (W : World) → W .bench .delayed ≡ false → after W cs .bench .delayed ≡ false
-unfolding after
+stays : (ts : List Turn) (W : World) → W .bench .delayed ≡ false → afterIn W ts .bench .delayed ≡ false
+unfolding afterIn
 stays [] W e = e
-stays (c ∷ cs) W e = stays cs (callOf W c .world) (call-like W c .delayed ∙ e)
+stays (others m ∷ ts) W e = stays ts (storing W m) e
+stays (own ρ c ∷ ts) W e = stays ts (callIn ρ W c .world) (call-like ρ W c .delayed ∙ e)
 
-all-at-once : (cs : List Call) (W : World) → Whole W → W .bench .delayed ≡ false → AllAtOnce (played W cs)
-unfolding played
-all-at-once [] W H e = tt
-all-at-once (c ∷ cs) W H e = (call-at-once W c H e, all-at-once cs (callOf W c .world) (call-whole H c) (call-like W c .delayed ∙ e))
+all-at-once : (ts : List Turn) (W : World) → Whole W → InCompany W ts → W .bench .delayed ≡ false → AllAtOnce (playedIn W ts)
+unfolding playedIn InCompany
+all-at-once [] W H C e = tt
+all-at-once (others m ∷ ts) W H (O, C) e = all-at-once ts (storing W m) (others-whole H O) C e
+all-at-once (own ρ c ∷ ts) W H (R, C) e = (call-at-once ρ W c H e, all-at-once ts (callIn ρ W c .world) (call-whole ρ H R c) C (call-like ρ W c .delayed ∙ e))
 
 at-once-take : (T : List Played) (n : ℕ) → AllAtOnce T → AllAtOnce (take n T)
 at-once-take T zero A = tt
@@ -84,17 +88,19 @@ reads : (W : World) → W .bench .waiting .count ≡ 0 → ownersView W ≡ memo
 unfolding landedAll
 reads W e = ap (λ (n : ℕ). landedAll (W .bench .words) (memory W) (map (λ (p : Pending). p .store) (take n (W .bench .waiting .stores)))) e
 
-pub as-before : (cs : List Call) (W : World) → Whole W → W .bench .delayed ≡ false → AsBefore W cs
-as-before cs W H e =
-    let A = all-at-once cs W H e in
-    let none = whole-run cs W H .mode (stays cs W e) in
+-- in company, and alone
+pub as-before : (ts : List Turn) (W : World) → Whole W → InCompany W ts → W .bench .delayed ≡ false → Undelayed (playedIn W ts) (afterIn W ts)
+as-before ts W H C e =
+    let T = playedIn W ts in
+    let A = all-at-once ts W H C e in
+    let none = whole-run ts W H C .mode (stays ts W e) in
     record {
       none-wait = none;
-      reads-memory = reads (after W cs) none;
-      none-drained = no-drains (played W cs) A;
-      counted = λ l j. puts-finished (between l j (played W cs)) (at-once-take _ (j - suc l) (at-once-drop (played W cs) (suc l) A));
-      concerned = λ i k l t a. concerns (played W cs) i k l t A a;
+      reads-memory = reads (afterIn W ts) none;
+      none-drained = no-drains T A;
+      counted = λ l j. puts-finished (between l j T) (at-once-take _ (j - suc l) (at-once-drop T (suc l) A));
+      concerned = λ i k l t a. concerns T i k l t A a;
     }
 
 pub nothing-delayed : NothingDelayed
-nothing-delayed s m l e now cs = as-before cs _ (fresh-started s m l e .whole) now
+nothing-delayed s m l e now = from-company Undelayed s m l e (λ ts C. as-before ts _ (fresh-started s m l e .whole) C now)

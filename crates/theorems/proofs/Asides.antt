@@ -1,12 +1,11 @@
--- Words set aside: those of an ask fit the store, and a commit's X1 has them.
+-- Words set aside: those of an ask, and a commit's X1 has them.
 use mathlib.Core.Path.{_≡_, refl, sym, _∙_, ap}
 use mathlib.Core.Bool.{Bool, true, false, true≢false}
 use mathlib.Core.List.{List}
-use Prim.Native.Nat.{ℕ, _+_, _-_, _*_, _<_}
+use Prim.Native.Nat.{ℕ, _+_, _-_, _*_, _≤_, _<_}
 use native.Mathlib.Omega.{arith}
 use lib.Dec.{eqb, leb}
-use lib.ListN.{length}
-use borrow.Author.Tests.{eqb-true, eqb-false, eq-eqb}
+use borrow.Author.Tests.{eqb-true, eqb-false, eq-eqb, le-leb}
 use Rattle.model.specs.declared.Kind.{Kind}
 use Rattle.model.specs.declared.Kind.the-variants.{Lifo, Fifo, Deque}
 use Rattle.model.specs.declared.Task.{Task}
@@ -16,9 +15,10 @@ use Rattle.model.specs.declared.Growth.the-variants.{ForPut, ForCommit}
 use Rattle.model.specs.declared.Line.{Line}
 use Rattle.model.specs.declared.Line.the-variants.{Idle, PutRead, PutTail, PutTest, PutWord, PutFinish, Claim, Note, Copy, Publish, TakeRead, TakeTail, TakeTest, TakeWord, TakeFinish, StealRead, StealTail, StealTest, StealNote, StealWord, StealNext, StealCompare}
 use Rattle.model.specs.declared.Queue.{Queue}
+use Rattle.model.specs.declared.Room.{Room}
 use Rattle.model.specs.declared.Region.{Region}
 use Rattle.model.specs.Tests.{if_then_else_, _and_}
-use Rattle.model.specs.Memory.{offsetAt, lengthAt, sizeAt}
+use Rattle.model.specs.Memory.{lengthAt, sizeAt}
 use Rattle.model.specs.Tasks.{withWord}
 use Rattle.model.specs.Figures.{takeIndex, stealIndex, isFull, isEmpty, putRead, takeRead, stealRead, note, stealLast}
 use Rattle.model.specs.Stores.{nextLength}
@@ -28,41 +28,38 @@ use Rattle.model.specs.Limits.{asideOk}
 use Rattle.model.proofs.Tests.{and-both}
 
 -- the owner is at line o, reads the queue v, and n words are set aside
-abbrev pub Aside : ℕ → Queue → List ℕ → Line → ℕ → Type 0
-Aside ω v m o n =
-    (isCommit1 o ≡ true → 0 < n) × (0 < n → (n ≡ nextLength v) × (fits ω v m ≡ true) × (isExpanding o ≡ false))
+abbrev pub Aside : ℕ → Queue → Line → ℕ → Type 0
+Aside ω v o n =
+    (isCommit1 o ≡ true → 0 < n) × (0 < n → (n ≡ nextLength v) × (leb (2 * size ω v) 1024 ≡ true) × (isExpanding o ≡ false))
 
-pub none-aside : (ω : ℕ) (v : Queue) (m : List ℕ) (o : Line) → isCommit1 o ≡ false → Aside ω v m o 0
-none-aside ω v m o e = ((λ c. absurd (true≢false (sym c ∙ e))), λ l. absurd (omega arith))
+pub none-aside : (ω : ℕ) (v : Queue) (o : Line) → isCommit1 o ≡ false → Aside ω v o 0
+none-aside ω v o e = ((λ c. absurd (true≢false (sym c ∙ e))), λ l. absurd (omega arith))
 
-pub ok-aside : (ω : ℕ) (v : Queue) (m : List ℕ) (o : Line) (n : ℕ) → Aside ω v m o n → asideOk ω v m o n ≡ true
+pub ok-aside : (ω : ℕ) (v : Queue) (o : Line) (n : ℕ) → Aside ω v o n → asideOk ω v o n ≡ true
 unfolding if_then_else_
-ok-aside ω v m o n A = go (eqb n 0) refl (isCommit1 o) refl
+ok-aside ω v o n A = go (eqb n 0) refl (isCommit1 o) refl
   where
-    go : (x : Bool) → eqb n 0 ≡ x → (y : Bool) → isCommit1 o ≡ y → asideOk ω v m o n ≡ true
+    go : (x : Bool) → eqb n 0 ≡ x → (y : Bool) → isCommit1 o ≡ y → asideOk ω v o n ≡ true
     go true e true c = absurd (omega (arith, A .0 c, eqb-true n 0 e))
     go true e false c = rw (e, c)
     go false e y c =
         let S = A .1 (omega (arith, eqb-false n 0 e)) in
         rw e (and-both _ _ (eq-eqb n (nextLength v) (S .0)) (and-both _ _ (S .1) (rw (S .2))))
 
--- FITS, by its parts
-abbrev parts : ℕ → List Region → ℕ → ℕ → ℕ → Bool
-parts ω l c p L = leb (2 * sizeAt ω l (p - 1)) 1024 and leb (offsetAt l (c - 1) + lengthAt l (c - 1) + 2 * lengthAt l (c - 1)) L
+-- a room that has the words set aside has the array that they are for
+pub aside-fits : (ρ : Room) (ω : ℕ) (v : Queue) (o : Line) (n : ℕ) → Aside ω v o n → n ≤ ρ .left → isCommit1 o ≡ true → fits ρ ω v ≡ true
+aside-fits ρ ω v o n A l c =
+    let S = A .1 (A .0 c) in
+    and-both _ _ (S .1) (le-leb (nextLength v) (ρ .left) (omega (arith, S .0, l)))
 
-pub fits-same : (ω : ℕ) (v v′ : Queue) (m m′ : List ℕ) → v′ .arrays ≡ v .arrays → v′ .claimed ≡ v .claimed → v′ .published ≡ v .published → length m′ ≡ length m → fits ω v m ≡ true → fits ω v′ m′ ≡ true
-fits-same ω v v′ m m′ a c p l f =
-    ap (λ (x : List Region). parts ω x (v′ .claimed) (v′ .published) (length m′)) a ∙ ap (λ (x : ℕ). parts ω (v .arrays) x (v′ .published) (length m′)) c
-    ∙ ap (λ (x : ℕ). parts ω (v .arrays) (v .claimed) x (length m′)) p ∙ ap (parts ω (v .arrays) (v .claimed) (v .published)) l ∙ f
-
-pub aside-move : (ω : ℕ) (v v′ : Queue) (m m′ : List ℕ) (o o′ : Line) (n : ℕ) → v′ .arrays ≡ v .arrays → v′ .claimed ≡ v .claimed → length m′ ≡ length m
-    → (isExpanding o ≡ false → v′ .published ≡ v .published) → (isCommit1 o′ ≡ true → 0 < n) → (isExpanding o ≡ false → isExpanding o′ ≡ false) → Aside ω v m o n → Aside ω v′ m′ o′ n
-aside-move ω v v′ m m′ o o′ n a c l p some calm A = (
+pub aside-move : (ω : ℕ) (v v′ : Queue) (o o′ : Line) (n : ℕ) → v′ .arrays ≡ v .arrays → v′ .claimed ≡ v .claimed
+    → (isExpanding o ≡ false → v′ .published ≡ v .published) → (isCommit1 o′ ≡ true → 0 < n) → (isExpanding o ≡ false → isExpanding o′ ≡ false) → Aside ω v o n → Aside ω v′ o′ n
+aside-move ω v v′ o o′ n a c p some calm A = (
   some,
   λ h.
       let S = A .1 h in (
         S .0 ∙ sym (ap (λ (x : List Region). 2 * lengthAt x (v′ .claimed - 1)) a ∙ ap (λ (x : ℕ). 2 * lengthAt (v .arrays) (x - 1)) c),
-        fits-same ω v v′ m m′ a c (p (S .2)) l (S .1),
+        ap (λ (x : List Region). leb (2 * sizeAt ω x (v′ .published - 1)) 1024) a ∙ ap (λ (x : ℕ). leb (2 * sizeAt ω (v .arrays) (x - 1)) 1024) (p (S .2)) ∙ S .1,
         calm (S .2),
       ),
 )
@@ -129,35 +126,35 @@ noted Fifo z a g = commit-not (eqb (a .count - a .head) 0) (Publish g) (Copy g (
 noted Deque z a g = commit-not (eqb (a .count) 0) (Publish g) (Copy g (a .head) (a .count) 0) refl refl
 
 -- the lines outside X1 to X4
-abbrev Next : Kind → ℕ → ℕ → Queue → List ℕ → ℕ → Line → Type 0
-Next κ w ω q m i o = (isCommit1 (lineStep κ w ω q m i o .line) ≡ false) × (lineStep κ w ω q m i o .claims ≡ false → isExpanding o ≡ false → isExpanding (lineStep κ w ω q m i o .line) ≡ false)
+abbrev Next : Room → Kind → ℕ → ℕ → Queue → List ℕ → ℕ → Line → Type 0
+Next ρ κ w ω q m i o = (isCommit1 (lineStep ρ κ w ω q m i o .line) ≡ false) × (lineStep ρ κ w ω q m i o .claims ≡ false → isExpanding o ≡ false → isExpanding (lineStep ρ κ w ω q m i o .line) ≡ false)
 
-pub line-next : (κ : Kind) (w ω : ℕ) (q : Queue) (m : List ℕ) (i : ℕ) (o : Line) → Next κ w ω q m i o
+pub line-next : (ρ : Room) (κ : Kind) (w ω : ℕ) (q : Queue) (m : List ℕ) (i : ℕ) (o : Line) → Next ρ κ w ω q m i o
 unfolding lineStep
-line-next κ w ω q m i Idle = (refl, λ f e. refl)
-line-next κ w ω q m i (PutRead t) = let r = put-1 κ (q .anchor) t in (r .0, λ f e. r .1)
-line-next κ w ω q m i (PutTail t h) = (refl, λ f e. refl)
-line-next κ w ω q m i (PutTest t r) = let x = either (isFull κ (size ω q) r) (Claim (ForPut t)) (PutWord t r 0) (refl, refl) (refl, refl) in (x .0, λ f e. x .1)
-line-next κ w ω q m i (PutWord t r j) = let x = either (eqb j ω) (PutFinish t r) (PutWord t r (j + 1)) (refl, refl) (refl, refl) in (x .0, λ f e. x .1)
-line-next κ w ω q m i (PutFinish t r) = (refl, λ f e. refl)
-line-next κ w ω q m i (Claim g) = (commit-end (fits ω q m) _ _ refl refl, λ f e. unclaimed (fits ω q m) _ _ refl refl f)
-line-next κ w ω q m i (Note g) = (noted κ (size ω q) (q .anchor) g, λ f e. absurd (true≢false e))
-line-next κ w ω q m i (Copy g h n k) = (commit-not (eqb (k + 1) n) (Publish g) (Copy g h n (k + 1)) refl refl, λ f e. absurd (true≢false e))
-line-next κ w ω q m i (Publish (ForPut t)) = (refl, λ f e. refl)
-line-next κ w ω q m i (Publish ForCommit) = (refl, λ f e. refl)
-line-next κ w ω q m i TakeRead = let r = take-1 κ (q .anchor) in (r .0, λ f e. r .1)
-line-next κ w ω q m i (TakeTail h) = (refl, λ f e. refl)
-line-next κ w ω q m i (TakeTest r) = (commit-end (isEmpty κ r) _ _ refl refl, λ f e. either-end (isEmpty κ r) _ _ (refl, refl) (refl, refl) .1)
-line-next κ w ω q m i (TakeWord r t j) =
+line-next ρ κ w ω q m i Idle = (refl, λ f e. refl)
+line-next ρ κ w ω q m i (PutRead t) = let r = put-1 κ (q .anchor) t in (r .0, λ f e. r .1)
+line-next ρ κ w ω q m i (PutTail t h) = (refl, λ f e. refl)
+line-next ρ κ w ω q m i (PutTest t r) = let x = either (isFull κ (size ω q) r) (Claim (ForPut t)) (PutWord t r 0) (refl, refl) (refl, refl) in (x .0, λ f e. x .1)
+line-next ρ κ w ω q m i (PutWord t r j) = let x = either (eqb j ω) (PutFinish t r) (PutWord t r (j + 1)) (refl, refl) (refl, refl) in (x .0, λ f e. x .1)
+line-next ρ κ w ω q m i (PutFinish t r) = (refl, λ f e. refl)
+line-next ρ κ w ω q m i (Claim g) = (commit-end (fits ρ ω q) _ _ refl refl, λ f e. unclaimed (fits ρ ω q) _ _ refl refl f)
+line-next ρ κ w ω q m i (Note g) = (noted κ (size ω q) (q .anchor) g, λ f e. absurd (true≢false e))
+line-next ρ κ w ω q m i (Copy g h n k) = (commit-not (eqb (k + 1) n) (Publish g) (Copy g h n (k + 1)) refl refl, λ f e. absurd (true≢false e))
+line-next ρ κ w ω q m i (Publish (ForPut t)) = (refl, λ f e. refl)
+line-next ρ κ w ω q m i (Publish ForCommit) = (refl, λ f e. refl)
+line-next ρ κ w ω q m i TakeRead = let r = take-1 κ (q .anchor) in (r .0, λ f e. r .1)
+line-next ρ κ w ω q m i (TakeTail h) = (refl, λ f e. refl)
+line-next ρ κ w ω q m i (TakeTest r) = (commit-end (isEmpty κ r) _ _ refl refl, λ f e. either-end (isEmpty κ r) _ _ (refl, refl) (refl, refl) .1)
+line-next ρ κ w ω q m i (TakeWord r t j) =
     let u = withWord t j (wordOf κ ω q m (q .published - 1) (takeIndex κ r) j) in
     let x = either (eqb j ω) (TakeFinish r u) (TakeWord r u (j + 1)) (refl, refl) (refl, refl) in (x .0, λ f e. x .1)
-line-next κ w ω q m i (TakeFinish r t) = (refl, λ f e. refl)
-line-next κ w ω q m i StealRead = let r = steal-1 κ (q .anchor) in (r .0, λ f e. r .1)
-line-next κ w ω q m i (StealTail h) = (refl, λ f e. refl)
-line-next κ w ω q m i (StealTest r) = (commit-end (isEmpty κ r) _ _ refl refl, λ f e. either-end (isEmpty κ r) _ _ (refl, refl) (refl, refl) .1)
-line-next κ w ω q m i (StealNote r) = (refl, λ f e. refl)
-line-next κ w ω q m i (StealWord r k t j) =
+line-next ρ κ w ω q m i (TakeFinish r t) = (refl, λ f e. refl)
+line-next ρ κ w ω q m i StealRead = let r = steal-1 κ (q .anchor) in (r .0, λ f e. r .1)
+line-next ρ κ w ω q m i (StealTail h) = (refl, λ f e. refl)
+line-next ρ κ w ω q m i (StealTest r) = (commit-end (isEmpty κ r) _ _ refl refl, λ f e. either-end (isEmpty κ r) _ _ (refl, refl) (refl, refl) .1)
+line-next ρ κ w ω q m i (StealNote r) = (refl, λ f e. refl)
+line-next ρ κ w ω q m i (StealWord r k t j) =
     let u = withWord t j (wordOf κ ω q m k (stealIndex κ r) j) in
     let x = either (eqb j ω) (stealLast κ r u) (StealWord r k u (j + 1)) (last κ r u) (refl, refl) in (x .0, λ f e. x .1)
-line-next κ w ω q m i (StealNext r t) = (refl, λ f e. refl)
-line-next κ w ω q m i (StealCompare r e′ t) = (commit-end (succeeds κ q i r) _ _ refl refl, λ f e. either-end (succeeds κ q i r) _ _ (refl, refl) (refl, refl) .1)
+line-next ρ κ w ω q m i (StealNext r t) = (refl, λ f e. refl)
+line-next ρ κ w ω q m i (StealCompare r e′ t) = (commit-end (succeeds κ q i r) _ _ refl refl, λ f e. either-end (succeeds κ q i r) _ _ (refl, refl) (refl, refl) .1)

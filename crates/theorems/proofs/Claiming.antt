@@ -1,5 +1,5 @@
 -- X1 while stores wait: the directory's new pair and the zeroed words lie behind all that the waiting stores touch.
-use mathlib.Core.Path.{_≡_, refl, sym, _∙_, ap, subst, subst₂}
+use mathlib.Core.Path.{_≡_, refl, sym, _∙_, ap, subst}
 use mathlib.Core.Bool.{Bool, true}
 use mathlib.Core.Logic.{_≢_, _⊎_, inl, inr}
 use mathlib.Core.List.{List, [], _∷_}
@@ -9,6 +9,7 @@ use lib.Dec.{leb}
 use lib.ListN.{length, getD, set, length-set}
 use lib.Seq.{getD-set-other, getD-set-same, set-out}
 use borrow.Author.Tests.{leb-true}
+use Rattle.model.specs.declared.Room.{Room}
 use Rattle.model.specs.declared.Growth.{Growth}
 use Rattle.model.specs.declared.Kind.{Kind}
 use Rattle.model.specs.declared.Kind.the-variants.{Lifo, Fifo, Deque}
@@ -31,8 +32,8 @@ use Rattle.theorems.proofs.Words.{addr, addr-in, cell, set-place, set-h
 use Rattle.theorems.proofs.Remainders.{le-or-lt}
 use Rattle.theorems.proofs.Window.{View, word, taskAt, core-words}
 use Rattle.theorems.proofs.Order.{Order, Marks}
-use Rattle.theorems.proofs.Seen.{frame-dir}
-use Rattle.theorems.proofs.Directory.{both, tidy-below, roomy}
+use Rattle.theorems.proofs.Seen.{frame-dir, Older}
+use Rattle.theorems.proofs.Directory.{both, tidy-below, roomy, Free}
 use Rattle.theorems.proofs.Owed.{view, sight, layView, tagOf, Claimed, Copied, Clear, Fits, Owed, Label}
 use Rattle.theorems.proofs.Invariant.{Base, move-none, thief-holds, grow-same}
 use Rattle.theorems.proofs.Laying.{base-line, base-store}
@@ -43,7 +44,7 @@ use Rattle.theorems.proofs.ShapeLay.{shape-settle}
 use Rattle.model.specs.Tests.{if_then_else_}
 
 -- the same view over another store and directory
-abbrev renew : View → List ℕ → List Region → View
+abbrev pub renew : View → List ℕ → List Region → View
 renew u m d = record { words = u .words; store = m; directory = d; published = u .published; base = u .base; slots = u .slots; own-lo = u .own-lo; own-hi = u .own-hi }
 
 pub set-agree : (m m′ : List ℕ) (a x b : ℕ) → length m′ ≡ length m → getD m′ b 0 ≡ getD m b 0 → getD (set m′ a x) b 0 ≡ getD (set m a x) b 0
@@ -61,14 +62,14 @@ set-agree m m′ a x b len e = go (le-or-lt a b) (le-or-lt b a) (le-or-lt (lengt
         is : b ≡ a
         is = omega arith
 
--- c arrays of the directory, below word E, are the same; so are the words below it
-pub record Agrees (c E : ℕ) (u : View) (m : List ℕ) (d : List Region) : Type 0 where
+-- c arrays of the directory, the published ones among them, are the same; so are the words in them
+pub record Agrees (c : ℕ) (u : View) (m : List ℕ) (d : List Region) : Type 0 where
   pub len : length m ≡ length (u .store)
-  pub low : (a : ℕ) → a < E → getD m a 0 ≡ getD (u .store) a 0
+  pub low : (k a : ℕ) → k < c → offsetAt (u .directory) k ≤ a → a < offsetAt (u .directory) k + (u .words + 1) * sizeAt (u .words) (u .directory) k → getD m a 0 ≡ getD (u .store) a 0
   pub offs : (k : ℕ) → k < c → offsetAt d k ≡ offsetAt (u .directory) k
   pub sizes : (k : ℕ) → k < c → sizeAt (u .words) d k ≡ sizeAt (u .words) (u .directory) k
-  pub ends : (k : ℕ) → k < c → offsetAt (u .directory) k + (u .words + 1) * sizeAt (u .words) (u .directory) k ≤ E
-  pub here : u .base + (u .words + 1) * u .slots ≤ E
+  pub among : u .published ≤ c
+  pub here : (k : ℕ) × (k < c) × (offsetAt (u .directory) k ≡ u .base) × (sizeAt (u .words) (u .directory) k ≡ u .slots)
   pub pos : 0 < u .slots
 
 -- the arrays that a store needs are among them
@@ -80,114 +81,125 @@ Reach c u (StoreOut r) = Unit {0}
 Reach c u (StoreHead i) = Unit {0}
 Reach c u (StoreTail i) = Unit {0}
 
-module _ {c E : ℕ} {u : View} {m : List ℕ} {d : List Region} (A : Agrees c E u m d) where
-  cell-same : (b z i j : ℕ) → 0 < z → b + (u .words + 1) * z ≤ E → j < u .words + 1 → cell (u .words) m b z i j ≡ cell (u .words) (u .store) b z i j
+module _ {c : ℕ} {u : View} {m : List ℕ} {d : List Region} (A : Agrees c u m d) where
+  pub cell-same : (k b z i j : ℕ) → k < c → offsetAt (u .directory) k ≡ b → sizeAt (u .words) (u .directory) k ≡ z → 0 < z → j < u .words + 1 → cell (u .words) m b z i j ≡ cell (u .words) (u .store) b z i j
   unfolding cell
-  cell-same b z i j hz l hj = A .low (addr (u .words) b z i j) (omega (arith, addr-in (u .words) b z i j hz hj))
+  cell-same k b z i j l eb ez hz hj =
+      A .low k (addr (u .words) b z i j) l (omega (arith, eb)) (omega (arith, eb, ap (λ (x : ℕ). (u .words + 1) * x) ez, addr-in (u .words) b z i j hz hj))
 
-  task-same : (i : ℕ) → taskAt (renew u m d) i ≡ taskAt u i
-  task-same i = same-words (u .words + 1) _ _ (λ j h. cell-same (u .base) (u .slots) i j (A .pos) (A .here) h)
+  pub cell-here : (i j : ℕ) → j < u .words + 1 → cell (u .words) m (u .base) (u .slots) i j ≡ cell (u .words) (u .store) (u .base) (u .slots) i j
+  cell-here i j hj = let H = A .here in cell-same (H .0) (u .base) (u .slots) i j (H .1) (H .2) (H .3) (A .pos) hj
 
-  agrees-word : (κ : Kind) (b s j x : ℕ) → Agrees c E (layView κ (StoreWord b s j x) u) (set m (offsetAt (u .directory) b + (u .words + 1) * s + j) x) d
+  pub task-same : (i : ℕ) → taskAt (renew u m d) i ≡ taskAt u i
+  task-same i = same-words (u .words + 1) _ _ (λ j h. cell-here i j h)
+
+  older-same : (b z : ℕ) → Older (renew u m d) b z → Older u b z
+  older-same b z (k, h, p, q) = (k, h, sym (A .offs k (omega (arith, A .among))) ∙ p, sym (A .sizes k (omega (arith, A .among))) ∙ q)
+
+  agrees-word : (κ : Kind) (b s j x : ℕ) → Agrees c (layView κ (StoreWord b s j x) u) (set m (offsetAt (u .directory) b + (u .words + 1) * s + j) x) d
   agrees-word κ b s j x =
       record {
         len = length-set m _ x ∙ A .len ∙ sym (length-set (u .store) _ x);
-        low = λ a l. set-agree (u .store) m _ x a (A .len) (A .low a l);
+        low = λ k a h l r. set-agree (u .store) m _ x a (A .len) (A .low k a h l r);
         offs = A .offs;
         sizes = A .sizes;
-        ends = A .ends;
+        among = A .among;
         here = A .here;
         pos = A .pos;
       }
 
-  agrees-window : (ol oh : ℕ) → Agrees c E (record { words = u .words; store = u .store; directory = u .directory; published = u .published; base = u .base; slots = u .slots; own-lo = ol; own-hi = oh }) m d
-  agrees-window ol oh = record { len = A .len; low = A .low; offs = A .offs; sizes = A .sizes; ends = A .ends; here = A .here; pos = A .pos }
+  agrees-window : (ol oh : ℕ) → Agrees c (record { words = u .words; store = u .store; directory = u .directory; published = u .published; base = u .base; slots = u .slots; own-lo = ol; own-hi = oh }) m d
+  agrees-window ol oh = record { len = A .len; low = A .low; offs = A .offs; sizes = A .sizes; among = A .among; here = A .here; pos = A .pos }
 
-  agrees-note : (κ : Kind) (k : ℕ) → k ≡ u .published → u .published < c → sizeAt (u .words) (u .directory) (u .published) ≡ 2 * u .slots → Agrees c E (layView κ (StoreNote k) u) m d
+  agrees-note : (κ : Kind) (k : ℕ) → k ≡ u .published → u .published < c → sizeAt (u .words) (u .directory) (u .published) ≡ 2 * u .slots → Agrees c (layView κ (StoreNote k) u) m d
   agrees-note κ k is l z =
       record {
         len = A .len;
         low = A .low;
         offs = A .offs;
         sizes = A .sizes;
-        ends = A .ends;
-        here = A .ends (k + 1 - 1) (omega arith);
+        among = omega arith;
+        here = (k + 1 - 1, omega arith, refl, refl);
         pos = omega (arith, ap (sizeAt (u .words) (u .directory)) {x = k + 1 - 1} {y = u .published} (omega arith), A .pos);
       }
 
-  claimed-same : u .published < c → Claimed u → Claimed (renew u m d)
-  claimed-same l (r, s, o, z, p) = (omega (arith, A .len), s, A .offs (u .published) l ∙ o, A .sizes (u .published) l ∙ z, p)
+  pub claimed-same : u .published < c → Claimed u → Claimed (renew u m d)
+  claimed-same l (r, s, o, z, p) = (omega (arith, A .len, A .offs (u .published) l, r), s, omega (arith, A .offs (u .published) l, o), A .sizes (u .published) l ∙ z, p)
 
-  copied-same : u .published < c → Claimed u → (lo hi : ℕ) → Copied u lo hi → Copied (renew u m d) lo hi
+  pub copied-same : u .published < c → Claimed u → (lo hi : ℕ) → Copied u lo hi → Copied (renew u m d) lo hi
   copied-same l (r, s, o, z, p) lo hi C i j a b hj =
-      cell-same (u .base + (u .words + 1) * u .slots) (2 * u .slots) i j (omega (arith, A .pos)) (subst₂ (λ (x y : ℕ). x + (u .words + 1) * y ≤ E) o z (A .ends (u .published) l)) hj
-      ∙ C i j a b hj ∙ sym (cell-same (u .base) (u .slots) i j (A .pos) (A .here) hj)
+      ap (λ (x : ℕ). cell (u .words) m x (2 * u .slots) i j) (A .offs (u .published) l)
+      ∙ cell-same (u .published) (offsetAt (u .directory) (u .published)) (2 * u .slots) i j l refl z (omega (arith, A .pos)) hj
+      ∙ C i j a b hj ∙ sym (cell-here i j hj)
+
+  clear-same : (a : ℕ) → Clear u a → Clear (renew u m d) a
+  clear-same a C = (λ b z y p q. C .0 b z (older-same b z y) p q, C .1)
 
   fits-same : (κ : Kind) (w : ℕ) (δ : Bool) (g : ℕ) (h : History) (s : Store) → Reach c u s → Fits κ w δ u g h s → Fits κ w δ (renew u m d) g h s
-  fits-same κ w δ g h (StoreWord b s j x) l f = subst (λ (o : ℕ). Clear u (o + (u .words + 1) * s + j)) (sym (A .offs b l)) f
+  fits-same κ w δ g h (StoreWord b s j x) l f = subst (λ (o : ℕ). Clear (renew u m d) (o + (u .words + 1) * s + j)) (sym (A .offs b l)) (clear-same _ f)
   fits-same κ w δ g h (StoreNote k) l (e, C, D) = (e, claimed-same l C, copied-same l C (u .own-lo) (u .own-hi) D)
   fits-same κ w δ g h (StorePut r) l (a, b, e, (f, t)) = (a, b, e, (f, subst (λ (t : Task). Answered δ t h) (sym (task-same (u .own-hi))) t))
   fits-same κ w δ g h (StoreOut r) l (a, b, e, f, t) = (a, b, e, f, subst (λ (t : Task). Out t h) (sym (task-same (u .own-hi - 1))) t)
   fits-same κ w δ g h (StoreHead i) l (a, b, e, t) = (a, b, e, subst (λ (t : Task). Out t h) (sym (task-same (u .own-lo))) t)
   fits-same κ w δ g h (StoreTail i) l (a, b, (e, t)) = (a, b, (e, subst (λ (t : Task). Answered δ t h) (sym (task-same (u .own-hi))) t))
 
-abbrev Labels : Kind → View → View → List Store → Type 0
+abbrev pub Labels : Kind → View → View → List Store → Type 0
 Labels κ v v′ ss = (k : ℕ) (t : Task) → Label κ v ss k t → Label κ v′ ss k t
 
-abbrev Both : Kind → ℕ → Bool → ℕ → History → List Store → View → View → Type 0
+abbrev pub Both : Kind → ℕ → Bool → ℕ → History → List Store → View → View → Type 0
 Both κ w δ g h ss u u′ = Owed κ w δ u′ g h ss × Labels κ u u′ ss
 
-same-cons : (κ : Kind) (w : ℕ) (δ : Bool) (c E g : ℕ) (h : History) (s : Store) (ss : List Store) (u : View) (m m′ : List ℕ) (d : List Region) → Agrees c E u m d
+same-cons : (κ : Kind) (w : ℕ) (δ : Bool) (c g : ℕ) (h : History) (s : Store) (ss : List Store) (u : View) (m m′ : List ℕ) (d : List Region) → Agrees c u m d
     → Reach c u s → Fits κ w δ u g h s → renew (layView κ s u) m′ d ≡ layView κ s (renew u m d)
     → Both κ w δ (tagOf s g) h ss (layView κ s u) (renew (layView κ s u) m′ d) → Both κ w δ g h (s ∷ ss) u (renew u m d)
-same-cons κ w δ c E g h s ss u m m′ d A l f is R = ((fits-same A κ w δ g h s l f, subst (λ (v : View). Owed κ w δ v (tagOf s g) h ss) is (R .0)), labels)
+same-cons κ w δ c g h s ss u m m′ d A l f is R = ((fits-same A κ w δ g h s l f, subst (λ (v : View). Owed κ w δ v (tagOf s g) h ss) is (R .0)), labels)
   where
     labels : Labels κ u (renew u m d) (s ∷ ss)
     labels zero t q = (q .0, task-same A (u .own-hi) ∙ q .1)
     labels (suc k) t q = subst (λ (v : View). Label κ v ss k t) is (R .1 k t q)
 
-pub owed-same : (κ : Kind) (w ω : ℕ) (δ : Bool) (l : List Region) (c low τ g E : ℕ) (h : History) (ss : List Store) (u : View) (m : List ℕ) (d : List Region) → Agrees c E u m d
+pub owed-same : (κ : Kind) (w ω : ℕ) (δ : Bool) (l : List Region) (c low τ g : ℕ) (h : History) (ss : List Store) (u : View) (m : List ℕ) (d : List Region) → Agrees c u m d
     → Path κ w ω l c low (u .published) τ ss → Owed κ w δ u g h ss → Both κ w δ g h ss u (renew u m d)
-owed-same κ w ω δ l c low τ g E h [] u m d A P O = (tt, λ k x y. y)
-owed-same κ w ω δ l c low τ g E h (StoreWord b s j x ∷ ss) u m d A (p, P) (f, O) =
-    same-cons κ w δ c E g h (StoreWord b s j x) ss u m (set m (offsetAt (u .directory) b + (u .words + 1) * s + j) x) d A (p .0) f (rw (A .offs b (p .0)))
-    (owed-same κ w ω δ l c low τ g E h ss (layView κ (StoreWord b s j x) u) _ d (agrees-word A κ b s j x) P O)
-owed-same κ w ω δ l c low τ g E h (StoreNote k ∷ ss) u m d A (p, P) (f, O) =
-    same-cons κ w δ c E g h (StoreNote k) ss u m m d A (p .1) f (rw (A .offs (k + 1 - 1) (omega (arith, p .0, p .1)), A .sizes (k + 1 - 1) (omega (arith, p .0, p .1))))
-    (owed-same κ w ω δ l c low τ g E h ss (layView κ (StoreNote k) u) m d (agrees-note A κ k (f .0) (p .1) (f .1 .3)) P O)
-owed-same κ w ω δ l c low τ g E h (StorePut r ∷ ss) u m d A (p, P) (f, O) =
-    same-cons κ w δ c E g h (StorePut r) ss u m m d A tt f refl (owed-same κ w ω δ l c low τ (r .tag) E h ss (layView κ (StorePut r) u) m d (agrees-window A (u .own-lo) _) P O)
-owed-same κ w ω δ l c low τ g E h (StoreOut r ∷ ss) u m d A (p, P) (f, O) =
-    same-cons κ w δ c E g h (StoreOut r) ss u m m d A tt f refl (owed-same κ w ω δ l c low τ (r .tag) E h ss (layView κ (StoreOut r) u) m d (agrees-window A (u .own-lo) _) P O)
-owed-same κ w ω δ l c low τ g E h (StoreHead i ∷ ss) u m d A (p, P) (f, O) =
-    same-cons κ w δ c E g h (StoreHead i) ss u m m d A tt f refl (owed-same κ w ω δ l c i τ g E h ss (layView κ (StoreHead i) u) m d (agrees-window A i (u .own-hi)) P O)
-owed-same κ w ω δ l c low τ g E h (StoreTail i ∷ ss) u m d A (p, P) (f, O) =
-    same-cons κ w δ c E g h (StoreTail i) ss u m m d A tt f refl (owed-same κ w ω δ l c low i g E h ss (layView κ (StoreTail i) u) m d (agrees-window A (u .own-lo) i) P O)
+owed-same κ w ω δ l c low τ g h [] u m d A P O = (tt, λ k x y. y)
+owed-same κ w ω δ l c low τ g h (StoreWord b s j x ∷ ss) u m d A (p, P) (f, O) =
+    same-cons κ w δ c g h (StoreWord b s j x) ss u m (set m (offsetAt (u .directory) b + (u .words + 1) * s + j) x) d A (p .0) f (rw (A .offs b (p .0)))
+    (owed-same κ w ω δ l c low τ g h ss (layView κ (StoreWord b s j x) u) _ d (agrees-word A κ b s j x) P O)
+owed-same κ w ω δ l c low τ g h (StoreNote k ∷ ss) u m d A (p, P) (f, O) =
+    same-cons κ w δ c g h (StoreNote k) ss u m m d A (p .1) f (rw (A .offs (k + 1 - 1) (omega (arith, p .0, p .1)), A .sizes (k + 1 - 1) (omega (arith, p .0, p .1))))
+    (owed-same κ w ω δ l c low τ g h ss (layView κ (StoreNote k) u) m d (agrees-note A κ k (f .0) (p .1) (f .1 .3)) P O)
+owed-same κ w ω δ l c low τ g h (StorePut r ∷ ss) u m d A (p, P) (f, O) =
+    same-cons κ w δ c g h (StorePut r) ss u m m d A tt f refl (owed-same κ w ω δ l c low τ (r .tag) h ss (layView κ (StorePut r) u) m d (agrees-window A (u .own-lo) _) P O)
+owed-same κ w ω δ l c low τ g h (StoreOut r ∷ ss) u m d A (p, P) (f, O) =
+    same-cons κ w δ c g h (StoreOut r) ss u m m d A tt f refl (owed-same κ w ω δ l c low τ (r .tag) h ss (layView κ (StoreOut r) u) m d (agrees-window A (u .own-lo) _) P O)
+owed-same κ w ω δ l c low τ g h (StoreHead i ∷ ss) u m d A (p, P) (f, O) =
+    same-cons κ w δ c g h (StoreHead i) ss u m m d A tt f refl (owed-same κ w ω δ l c i τ g h ss (layView κ (StoreHead i) u) m d (agrees-window A i (u .own-hi)) P O)
+owed-same κ w ω δ l c low τ g h (StoreTail i ∷ ss) u m d A (p, P) (f, O) =
+    same-cons κ w δ c g h (StoreTail i) ss u m m d A tt f refl (owed-same κ w ω δ l c low i g h ss (layView κ (StoreTail i) u) m d (agrees-window A (u .own-lo) i) P O)
 
 -- FIFO's numbers
-number-same : {c E : ℕ} {u : View} {m : List ℕ} {d : List Region} (A : Agrees c E u m d) (i : ℕ) → word (renew u m d) i 0 ≡ word u i 0
-number-same {c} {E} {u} A i = cell-same A (u .base) (u .slots) i 0 (A .pos) (A .here) (omega arith)
+number-same : {c : ℕ} {u : View} {m : List ℕ} {d : List Region} (A : Agrees c u m d) (i : ℕ) → word (renew u m d) i 0 ≡ word u i 0
+number-same {c} {u} A i = cell-here A i 0 (omega arith)
 
-marks-same : (w ω : ℕ) (δ : Bool) (l : List Region) (c low τ g E : ℕ) (h : History) (num : ℕ → ℕ) (ss : List Store) (u : View) (m : List ℕ) (d : List Region) → Agrees c E u m d
+marks-same : (w ω : ℕ) (δ : Bool) (l : List Region) (c low τ g : ℕ) (h : History) (num : ℕ → ℕ) (ss : List Store) (u : View) (m : List ℕ) (d : List Region) → Agrees c u m d
     → Path Fifo w ω l c low (u .published) τ ss → Owed Fifo w δ u g h ss → Marks u num ss → Marks (renew u m d) num ss
-marks-same w ω δ l c low τ g E h num [] u m d A P O M = tt
-marks-same w ω δ l c low τ g E h num (StoreWord b s j x ∷ ss) u m d A (p, P) (f, O) (k, M) =
-    (tt, rw (A .offs b (p .0)) (marks-same w ω δ l c low τ g E h num ss (layView Fifo (StoreWord b s j x) u) (set m (offsetAt (u .directory) b + (u .words + 1) * s + j) x) d (agrees-word A Fifo b s j x) P O M))
-marks-same w ω δ l c low τ g E h num (StoreNote n ∷ ss) u m d A (p, P) (f, O) (k, M) = (
+marks-same w ω δ l c low τ g h num [] u m d A P O M = tt
+marks-same w ω δ l c low τ g h num (StoreWord b s j x ∷ ss) u m d A (p, P) (f, O) (k, M) =
+    (tt, rw (A .offs b (p .0)) (marks-same w ω δ l c low τ g h num ss (layView Fifo (StoreWord b s j x) u) (set m (offsetAt (u .directory) b + (u .words + 1) * s + j) x) d (agrees-word A Fifo b s j x) P O M))
+marks-same w ω δ l c low τ g h num (StoreNote n ∷ ss) u m d A (p, P) (f, O) (k, M) = (
   tt,
   rw (A .offs (n + 1 - 1) (omega (arith, p .0, p .1)), A .sizes (n + 1 - 1) (omega (arith, p .0, p .1)))
-      (marks-same w ω δ l c low τ g E h num ss (layView Fifo (StoreNote n) u) m d (agrees-note A Fifo n (f .0) (p .1) (f .1 .3)) P O M),
+      (marks-same w ω δ l c low τ g h num ss (layView Fifo (StoreNote n) u) m d (agrees-note A Fifo n (f .0) (p .1) (f .1 .3)) P O M),
 )
-marks-same w ω δ l c low τ g E h num (StorePut r ∷ ss) u m d A (p, P) (f, O) (k, M) = absurd (f .0)
-marks-same w ω δ l c low τ g E h num (StoreOut r ∷ ss) u m d A (p, P) (f, O) (k, M) = absurd (f .0)
-marks-same w ω δ l c low τ g E h num (StoreHead i ∷ ss) u m d A (p, P) (f, O) (k, M) = (tt, marks-same w ω δ l c i τ g E h num ss (layView Fifo (StoreHead i) u) m d (agrees-window A i (u .own-hi)) P O M)
-marks-same w ω δ l c low τ g E h num (StoreTail i ∷ ss) u m d A (p, P) (f, O) (k, M) =
-    (number-same A (u .own-hi) ∙ k, marks-same w ω δ l c low i g E h num ss (layView Fifo (StoreTail i) u) m d (agrees-window A (u .own-lo) i) P O M)
+marks-same w ω δ l c low τ g h num (StorePut r ∷ ss) u m d A (p, P) (f, O) (k, M) = absurd (f .0)
+marks-same w ω δ l c low τ g h num (StoreOut r ∷ ss) u m d A (p, P) (f, O) (k, M) = absurd (f .0)
+marks-same w ω δ l c low τ g h num (StoreHead i ∷ ss) u m d A (p, P) (f, O) (k, M) = (tt, marks-same w ω δ l c i τ g h num ss (layView Fifo (StoreHead i) u) m d (agrees-window A i (u .own-hi)) P O M)
+marks-same w ω δ l c low τ g h num (StoreTail i ∷ ss) u m d A (p, P) (f, O) (k, M) =
+    (number-same A (u .own-hi) ∙ k, marks-same w ω δ l c low i g h num ss (layView Fifo (StoreTail i) u) m d (agrees-window A (u .own-lo) i) P O M)
 
-order-same : (κ : Kind) (w ω : ℕ) (δ : Bool) (l : List Region) (c low τ g E a : ℕ) (h : History) (ss : List Store) (u : View) (m : List ℕ) (d : List Region) → Agrees c E u m d
+pub order-same : (κ : Kind) (w ω : ℕ) (δ : Bool) (l : List Region) (c low τ g a : ℕ) (h : History) (ss : List Store) (u : View) (m : List ℕ) (d : List Region) → Agrees c u m d
     → Path κ w ω l c low (u .published) τ ss → Owed κ w δ u g h ss → Order κ u a ss h → Order κ (renew u m d) a ss h
-order-same Lifo w ω δ l c low τ g E a h ss u m d A P O R = tt
-order-same Fifo w ω δ l c low τ g E a h ss u m d A P O R =
+order-same Lifo w ω δ l c low τ g a h ss u m d A P O R = tt
+order-same Fifo w ω δ l c low τ g a h ss u m d A P O R =
     record {
       num = R .num;
       top = R .top;
@@ -195,9 +207,9 @@ order-same Fifo w ω δ l c low τ g E a h ss u m d A P O R =
       own = R .own;
       climb = R .climb;
       words = λ i p q. number-same A i ∙ R .words i p q;
-      marks = marks-same w ω δ l c low τ g E h (R .num) ss u m d A P O (R .marks);
+      marks = marks-same w ω δ l c low τ g h (R .num) ss u m d A P O (R .marks);
     }
-order-same Deque w ω δ l c low τ g E a h ss u m d A P O R = tt
+order-same Deque w ω δ l c low τ g a h ss u m d A P O R = tt
 
 -- another directory with the same published arrays
 base-dir : {κ : Kind} {w ω : ℕ} {δ : Bool} {Q : Queue} {μ : List ℕ} {ol oh : ℕ} {φ : ℕ → Line} {h : History} (B : Base κ w ω δ Q μ ol oh [] φ h) (d : List Region) (c : ℕ) (rr : List Store)
@@ -212,6 +224,7 @@ base-dir {κ} {w} {ω} {δ} {Q} {μ} {ol} {oh} {φ} {h} B d c rr same pos O =
       tops = B .tops;
       core = core-words μ d (Q .published) _ _ (B .core) (omega (arith, ez, B .core .fit)) (λ i j p q r. rw (eb, ez));
       sized = rw ez (B .sized);
+      sorted = λ k l. omega (arith, eb, same k (omega arith) .0, ap (λ (x : ℕ). (ω + 1) * x) (same k (omega arith) .1), B .sorted k l);
       room = rw (eb, ez) (B .room);
       tag = B .tag;
       owed = O;
@@ -231,28 +244,28 @@ base-dir {κ} {w} {ω} {δ} {Q} {μ} {ol} {oh} {φ} {h} B d c rr same pos O =
     ez = last .1
 
 -- X1
-pub record ClaimedWhile (κ : Kind) (w ω : ℕ) (δ : Bool) (Q : Queue) (μ : List ℕ) (ol oh : ℕ) (ss : List Store) (φ : ℕ → Line) (h : History) : Type 0 where
-  pub base : Base κ w ω δ (claiming Q) (zeros μ (taken Q) (nextLength Q)) ol oh ss φ h
-  pub labels : Labels κ (view ω Q μ ol oh) (view ω (claiming Q) (zeros μ (taken Q) (nextLength Q)) ol oh) ss
-  pub order : Order κ (view ω Q μ ol oh) (Q .anchor .head) ss h → Order κ (view ω (claiming Q) (zeros μ (taken Q) (nextLength Q)) ol oh) (Q .anchor .head) ss h
-  pub claimed : Claimed (sight κ ω ss (claiming Q) (zeros μ (taken Q) (nextLength Q)) ol oh)
+pub record ClaimedWhile (ρ : Room) (κ : Kind) (w ω : ℕ) (δ : Bool) (Q : Queue) (μ : List ℕ) (ol oh : ℕ) (ss : List Store) (φ : ℕ → Line) (h : History) : Type 0 where
+  pub base : Base κ w ω δ (claiming ρ Q) (zeros μ (ρ .next) (nextLength Q)) ol oh ss φ h
+  pub labels : Labels κ (view ω Q μ ol oh) (view ω (claiming ρ Q) (zeros μ (ρ .next) (nextLength Q)) ol oh) ss
+  pub order : Order κ (view ω Q μ ol oh) (Q .anchor .head) ss h → Order κ (view ω (claiming ρ Q) (zeros μ (ρ .next) (nextLength Q)) ol oh) (Q .anchor .head) ss h
+  pub claimed : Claimed (sight κ ω ss (claiming ρ Q) (zeros μ (ρ .next) (nextLength Q)) ol oh)
 
-pub base-claim : (κ : Kind) (w ω : ℕ) (δ : Bool) (used low : ℕ) (Q : Queue) (μ : List ℕ) (ol oh : ℕ) (ss : List Store) (t : Growth) (φ : ℕ → Line) (h : History)
-    → Shape κ w ω used low Q μ ss (Claim t) φ → fits ω (laid ss Q) (words ω (Q .arrays) ss μ) ≡ true → Base κ w ω δ Q μ ol oh ss φ h → ClaimedWhile κ w ω δ Q μ ol oh ss φ h
+pub base-claim : (ρ : Room) (κ : Kind) (w ω : ℕ) (δ : Bool) (used low : ℕ) (Q : Queue) (μ : List ℕ) (ol oh : ℕ) (ss : List Store) (t : Growth) (φ : ℕ → Line) (h : History)
+    → Shape κ w ω used low Q μ ss (Claim t) φ → fits ρ ω (laid ss Q) ≡ true → Free ρ Q μ → Base κ w ω δ Q μ ol oh ss φ h → ClaimedWhile ρ κ w ω δ Q μ ol oh ss φ h
 unfolding if_then_else_
-base-claim κ w ω δ used low Q μ ol oh ss t φ h S e B =
+base-claim ρ κ w ω δ used low Q μ ol oh ss t φ h S e Z B =
     record {
       base =
-          base-dir (base-store (base-line B [] tt) μ′ [] len (λ i j p q r. cell-same A (off Q) (size ω Q) i j (A .pos) (A .here) r) (λ a l. A .low a (omega (arith, A .here))) tt)
-          (claiming Q .arrays) (Q .claimed + 1) ss (λ k l. (place k (omega (arith, S .arrays .below)) .0, place k (omega (arith, S .arrays .below)) .2)) (S .arrays .some) owed;
+          base-dir (base-store (base-line B [] tt) μ′ [] len (λ i j p q r. cell-here A i j r) (λ b z a y p q. A .low (y .0) a (omega (arith, y .1, S .arrays .below)) (omega (arith, y .2)) (omega (arith, y .2, ap (λ (x : ℕ). (ω + 1) * x) (y .3)))) tt)
+          (claiming ρ Q .arrays) (Q .claimed + 1) ss (λ k l. (place k (omega (arith, S .arrays .below)) .0, place k (omega (arith, S .arrays .below)) .2)) (S .arrays .some) owed;
       labels = λ k x y. subst (λ (u : View). Label κ u ss k x) same-view (R .1 k x y);
       order = λ Y.
           subst (λ (u : View). Order κ u (Q .anchor .head) ss h) same-view
-          (order-same κ w ω δ (Q .arrays) (Q .claimed) low (tail κ (Q .anchor)) (Q .anchor .tag) (taken Q) (Q .anchor .head) h ss (view ω Q μ ol oh) (zeros μ (taken Q) (nextLength Q)) (claiming Q .arrays) A (S .path) (B .owed) Y);
+          (order-same κ w ω δ (Q .arrays) (Q .claimed) low (tail κ (Q .anchor)) (Q .anchor .tag) (Q .anchor .head) h ss (view ω Q μ ol oh) (zeros μ (ρ .next) (nextLength Q)) (claiming ρ Q .arrays) A (S .path) (B .owed) Y);
       claimed = (
-        omega (arith, words-length ω (claiming Q .arrays) ss μ′, len, room, last .0, slots, top, next),
+        omega (arith, words-length ω (claiming ρ Q .arrays) ss μ′, len, room, new .0, slots, next),
         omega (arith, last .2, small),
-        omega (arith, last .0, slots, new .0, top),
+        omega (arith, last .0, slots, new .0, top, Z .behind),
         omega (arith, last .2, new .2),
         omega (arith, S .arrays .some, places-in .0),
       );
@@ -262,7 +275,7 @@ base-claim κ w ω δ used low Q μ ol oh ss t φ h S e B =
     v = laid ss Q
 
     μ′ : List ℕ
-    μ′ = zeros μ (taken Q) (nextLength Q)
+    μ′ = zeros μ (ρ .next) (nextLength Q)
 
     is : Q .claimed ≡ v .published
     is = sym (at-rest _ _ _ (S .own .claims) (claim-expands t))
@@ -270,17 +283,17 @@ base-claim κ w ω δ used low Q μ ol oh ss t φ h S e B =
     places-in : (Q .published ≤ v .published) × (v .published ≤ Q .claimed)
     places-in = path-places κ w ω _ _ low (Q .published) _ ss (S .arrays .below) (S .path)
 
-    two : (leb (2 * size ω v) 1024 ≡ true) × (leb (taken Q + nextLength Q) (length (words ω (Q .arrays) ss μ)) ≡ true)
+    two : (leb (2 * size ω v) 1024 ≡ true) × (leb (nextLength Q) (ρ .left) ≡ true)
     two = both (leb (2 * size ω v) 1024) _ e
 
     small : 2 * size ω v ≤ 1024
     small = leb-true _ _ (two .0)
 
-    room : taken Q + nextLength Q ≤ length μ
-    room = let z : taken Q + nextLength Q ≤ length (words ω (Q .arrays) ss μ) = leb-true _ _ (two .1) in omega (arith, z, words-length ω (Q .arrays) ss μ)
+    room : ρ .next + nextLength Q ≤ length μ
+    room = omega (arith, leb-true (nextLength Q) (ρ .left) (two .1), Z .inside)
 
-    len : length (zeros μ (taken Q) (nextLength Q)) ≡ length μ
-    len = zeros-length μ (taken Q) (nextLength Q) room
+    len : length (zeros μ (ρ .next) (nextLength Q)) ≡ length μ
+    len = zeros-length μ (ρ .next) (nextLength Q) room
 
     long : (k : ℕ) → k < Q .claimed → lengthAt (Q .arrays) k ≡ (ω + 1) * sizeAt ω (Q .arrays) k
     long k l = tidy-long ω (Q .arrays) k (tidy-front ω (Q .arrays) (Q .claimed) k (S .arrays .tidied) l)
@@ -295,47 +308,47 @@ base-claim κ w ω δ used low Q μ ol oh ss t φ h S e B =
     next : nextLength Q ≡ 2 * ((ω + 1) * size ω v)
     next = omega (arith, long-v)
 
-    place : (k : ℕ) → k < Q .claimed → (offsetAt (claiming Q .arrays) k ≡ offsetAt (Q .arrays) k) × (lengthAt (claiming Q .arrays) k ≡ lengthAt (Q .arrays) k) × (sizeAt ω (claiming Q .arrays) k ≡ sizeAt ω (Q .arrays) k)
-    place k l = set-place ω (Q .arrays) (Q .claimed) k (taken Q) (nextLength Q) (omega arith)
+    place : (k : ℕ) → k < Q .claimed → (offsetAt (claiming ρ Q .arrays) k ≡ offsetAt (Q .arrays) k) × (lengthAt (claiming ρ Q .arrays) k ≡ lengthAt (Q .arrays) k) × (sizeAt ω (claiming ρ Q .arrays) k ≡ sizeAt ω (Q .arrays) k)
+    place k l = set-place ω (Q .arrays) (Q .claimed) k (ρ .next) (nextLength Q) (omega arith)
 
     ends : (k : ℕ) → k < Q .claimed → offsetAt (Q .arrays) k + (ω + 1) * sizeAt ω (Q .arrays) k ≤ taken Q
     ends k l = omega (arith, tidy-below ω (Q .arrays) (Q .claimed) k (Q .claimed - 1) (S .arrays .tidied) (omega arith) (omega arith) .0, long k l)
 
-    A : Agrees (Q .claimed) (taken Q) (view ω Q μ ol oh) (zeros μ (taken Q) (nextLength Q)) (claiming Q .arrays)
+    A : Agrees (Q .claimed) (view ω Q μ ol oh) (zeros μ (ρ .next) (nextLength Q)) (claiming ρ Q .arrays)
     A =
         record {
           len = len;
-          low = λ a l. zeros-low μ (taken Q) (nextLength Q) a l (omega (arith, room));
+          low = λ k a h l r. zeros-low μ (ρ .next) (nextLength Q) a (omega (arith, ends k h, Z .behind)) (omega (arith, room));
           offs = λ k l. place k l .0;
           sizes = λ k l. place k l .2;
-          ends = ends;
-          here = ends (Q .published - 1) (omega (arith, S .arrays .some, S .arrays .below));
+          among = S .arrays .below;
+          here = (Q .published - 1, omega (arith, S .arrays .some, S .arrays .below), refl, refl);
           pos = size-pos (B .sized);
         }
 
-    R : Both κ w δ (Q .anchor .tag) h ss (view ω Q μ ol oh) (renew (view ω Q μ ol oh) (zeros μ (taken Q) (nextLength Q)) (claiming Q .arrays))
-    R = owed-same κ w ω δ (Q .arrays) (Q .claimed) low (tail κ (Q .anchor)) (Q .anchor .tag) (taken Q) h ss (view ω Q μ ol oh) (zeros μ (taken Q) (nextLength Q)) (claiming Q .arrays) A (S .path) (B .owed)
+    R : Both κ w δ (Q .anchor .tag) h ss (view ω Q μ ol oh) (renew (view ω Q μ ol oh) (zeros μ (ρ .next) (nextLength Q)) (claiming ρ Q .arrays))
+    R = owed-same κ w ω δ (Q .arrays) (Q .claimed) low (tail κ (Q .anchor)) (Q .anchor .tag) h ss (view ω Q μ ol oh) (zeros μ (ρ .next) (nextLength Q)) (claiming ρ Q .arrays) A (S .path) (B .owed)
 
-    now : (offsetAt (claiming Q .arrays) (Q .published - 1) ≡ off Q) × (lengthAt (claiming Q .arrays) (Q .published - 1) ≡ lengthAt (Q .arrays) (Q .published - 1)) × (sizeAt ω (claiming Q .arrays) (Q .published - 1) ≡ size ω Q)
+    now : (offsetAt (claiming ρ Q .arrays) (Q .published - 1) ≡ off Q) × (lengthAt (claiming ρ Q .arrays) (Q .published - 1) ≡ lengthAt (Q .arrays) (Q .published - 1)) × (sizeAt ω (claiming ρ Q .arrays) (Q .published - 1) ≡ size ω Q)
     now = place (Q .published - 1) (omega (arith, S .arrays .some, S .arrays .below))
 
-    same-view : renew (view ω Q μ ol oh) (zeros μ (taken Q) (nextLength Q)) (claiming Q .arrays) ≡ view ω (claiming Q) (zeros μ (taken Q) (nextLength Q)) ol oh
+    same-view : renew (view ω Q μ ol oh) (zeros μ (ρ .next) (nextLength Q)) (claiming ρ Q .arrays) ≡ view ω (claiming ρ Q) (zeros μ (ρ .next) (nextLength Q)) ol oh
     same-view = rw (now .0, now .2)
 
-    owed : Owed κ w δ (view ω (claiming Q) (zeros μ (taken Q) (nextLength Q)) ol oh) (Q .anchor .tag) h ss
+    owed : Owed κ w δ (view ω (claiming ρ Q) (zeros μ (ρ .next) (nextLength Q)) ol oh) (Q .anchor .tag) h ss
     owed = subst (λ (u : View). Owed κ w δ u (Q .anchor .tag) h ss) same-view (R .0)
 
-    last : (offsetAt (claiming Q .arrays) (v .published - 1) ≡ off v) × (lengthAt (claiming Q .arrays) (v .published - 1) ≡ lengthAt (Q .arrays) (v .published - 1)) × (sizeAt ω (claiming Q .arrays) (v .published - 1) ≡ size ω v)
+    last : (offsetAt (claiming ρ Q .arrays) (v .published - 1) ≡ off v) × (lengthAt (claiming ρ Q .arrays) (v .published - 1) ≡ lengthAt (Q .arrays) (v .published - 1)) × (sizeAt ω (claiming ρ Q .arrays) (v .published - 1) ≡ size ω v)
     last = place (v .published - 1) (omega (arith, S .arrays .some, places-in .0, is))
 
-    slots : (ω + 1) * sizeAt ω (claiming Q .arrays) (v .published - 1) ≡ (ω + 1) * size ω v
+    slots : (ω + 1) * sizeAt ω (claiming ρ Q .arrays) (v .published - 1) ≡ (ω + 1) * size ω v
     slots = ap (λ (x : ℕ). (ω + 1) * x) (last .2)
 
     n11 : Q .claimed < 11
     n11 = omega (arith, roomy (shape-settle κ ss S .arrays) small, is)
 
-    here : (offsetAt (claiming Q .arrays) (Q .claimed) ≡ taken Q) × (lengthAt (claiming Q .arrays) (Q .claimed) ≡ nextLength Q) × (sizeAt ω (claiming Q .arrays) (Q .claimed) ≡ 2 * size ω v)
-    here = set-here ω (Q .arrays) (Q .claimed) (taken Q) (2 * size ω v) (nextLength Q) (omega (arith, n11, S .arrays .slots)) (omega (arith, next))
+    here : (offsetAt (claiming ρ Q .arrays) (Q .claimed) ≡ ρ .next) × (lengthAt (claiming ρ Q .arrays) (Q .claimed) ≡ nextLength Q) × (sizeAt ω (claiming ρ Q .arrays) (Q .claimed) ≡ 2 * size ω v)
+    here = set-here ω (Q .arrays) (Q .claimed) (ρ .next) (2 * size ω v) (nextLength Q) (omega (arith, n11, S .arrays .slots)) (omega (arith, next))
 
-    new : (offsetAt (claiming Q .arrays) (v .published) ≡ taken Q) × (lengthAt (claiming Q .arrays) (v .published) ≡ nextLength Q) × (sizeAt ω (claiming Q .arrays) (v .published) ≡ 2 * size ω v)
-    new = subst (λ (n : ℕ). (offsetAt (claiming Q .arrays) n ≡ taken Q) × (lengthAt (claiming Q .arrays) n ≡ nextLength Q) × (sizeAt ω (claiming Q .arrays) n ≡ 2 * size ω v)) is here
+    new : (offsetAt (claiming ρ Q .arrays) (v .published) ≡ ρ .next) × (lengthAt (claiming ρ Q .arrays) (v .published) ≡ nextLength Q) × (sizeAt ω (claiming ρ Q .arrays) (v .published) ≡ 2 * size ω v)
+    new = subst (λ (n : ℕ). (offsetAt (claiming ρ Q .arrays) n ≡ ρ .next) × (lengthAt (claiming ρ Q .arrays) n ≡ nextLength Q) × (sizeAt ω (claiming ρ Q .arrays) n ≡ 2 * size ω v)) is here

@@ -7,7 +7,7 @@ use lib.ListN.{replicate}
 use Rattle.model.specs.declared.Operation.the-variants.{Put, Take, Steal}
 use Rattle.model.specs.Tests.{if_then_else_, _and_, _or_}
 use Rattle.model.specs.Tasks.{wordIn, withWord, gathered}
-use Rattle.model.specs.Memory.{zeros, wordAt, setWord, offsetAt, lengthAt, sizeAt}
+use Rattle.model.specs.Memory.{zeros, wordAt, setWord, offsetAt, lengthAt, sizeAt, wordsTo}
 use Rattle.model.specs.Stores.{landedAll}
 use Rattle.model.specs.Lines.{lineStep}
 use Rattle.model.specs.Limits.{validOf}
@@ -34,7 +34,7 @@ round =
 
 -- THE PREMISE counts puts that drain: two come to memory in the attempt, as many as bring the tag round, though none finishes in it
 pub two-drain : puts (between 34 47 (played start round)) ≡ 2
-unfolding played freshOf beginOf stepOf drainOf validOf lineStep landedAll zeros wordAt setWord offsetAt lengthAt sizeAt gathered wordIn withWord if_then_else_ _and_ _or_
+unfolding played freshOf beginOf stepOf drainOf validOf wordsTo lineStep landedAll zeros wordAt setWord offsetAt lengthAt sizeAt gathered wordIn withWord if_then_else_ _and_ _or_
 two-drain = refl
 
 -- A put finishes at place 5, its store of the anchor the last of three, and a thief does line 1 at place 7
@@ -43,7 +43,7 @@ unseen = five (begin 0 (Put (one 65))) ++ begin 1 Steal ∷ step 1 ∷ step 1 �
 
 -- a thief's EMPTY does not concern that put; an EMPTY of the owner's would
 pub not-concerned : Concerned (played start unseen) 1 5 7 → ⊥
-unfolding played freshOf beginOf stepOf drainOf validOf lineStep landedAll zeros wordAt setWord offsetAt lengthAt sizeAt gathered wordIn withWord if_then_else_ _and_ _or_
+unfolding played freshOf beginOf stepOf drainOf validOf wordsTo lineStep landedAll zeros wordAt setWord offsetAt lengthAt sizeAt gathered wordIn withWord if_then_else_ _and_ _or_
 not-concerned c = omega (arith, c)
 
 pub owner-concerned : Concerned (played start unseen) 0 5 7
@@ -56,5 +56,5 @@ seen = five (begin 0 (Put (one 65))) ++ replicate 3 drain ++ begin 1 Steal ∷ s
 pub drained-after-three :
     At (played start seen) 5 (λ s. waits s ≡ 3) × (drains (between 5 9 (played start seen)) ≡ 3)
     × (drains (between 5 8 (played start seen)) ≡ 2)
-unfolding played freshOf beginOf stepOf drainOf validOf lineStep landedAll zeros wordAt setWord offsetAt lengthAt sizeAt gathered wordIn withWord if_then_else_ _and_ _or_
+unfolding played freshOf beginOf stepOf drainOf validOf wordsTo lineStep landedAll zeros wordAt setWord offsetAt lengthAt sizeAt gathered wordIn withWord if_then_else_ _and_ _or_
 drained-after-three = (refl, refl, refl)

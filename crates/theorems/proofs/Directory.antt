@@ -9,18 +9,20 @@ use lib.Dec.{eqb, leb}
 use lib.Pow.{pow-mono}
 use lib.ListN.{length, getD, set, take, drop, replicate, List·getD-append, length-set, length-replicate, getD-replicate}
 use lib.Seq.{getD-set-other, getD-set-same, getD-append-add, length-take-le, set-out}
-use borrow.Author.Tests.{eq-eqb, le-leb}
+use borrow.Author.Tests.{eq-eqb, le-leb, leb-true}
+use Rattle.model.specs.declared.Room.{Room}
 use Rattle.model.specs.declared.Region.{Region}
 use Rattle.model.specs.declared.Queue.{Queue}
+use Rattle.model.specs.declared.Bench.{Bench}
 use Rattle.model.specs.declared.Anchor.{Anchor}
 use Rattle.model.specs.declared.Store.the-variants.{StoreNote}
 use Rattle.model.specs.Tests.{_and_}
-use Rattle.model.proofs.Tests.{and-both}
+use Rattle.model.proofs.Tests.{and-both, and-right}
 use Rattle.model.specs.Memory.{wordAt, setWord, zeros, nowhere, offsetAt, lengthAt, sizeAt}
-use Rattle.model.specs.Stores.{taken, nextLength, claiming}
-use Rattle.model.specs.Lines.{size}
+use Rattle.model.specs.Stores.{nextLength, claiming, taken}
+use Rattle.model.specs.Lines.{size, fits}
 use Rattle.model.specs.Limits.{isSize, tidy}
-use Rattle.model.proofs.Directory.{Size, tidy-last, tidy-front, tidy-start, tidy-long, tidy-twice, tidy-size}
+use Rattle.model.proofs.Directory.{Size, tidy-last, tidy-front, tidy-long, tidy-twice, tidy-size}
 use Rattle.theorems.proofs.Remainders.{le-or-lt}
 use Rattle.theorems.proofs.Folds.{laid}
 use Rattle.theorems.proofs.Words.{off, len, earlier-slot, first-apart, zeros-low, zeros-length, set-place, set-here}
@@ -30,19 +32,8 @@ unfolding _and_
 both true b q = (refl, q)
 both false b q = absurd (let z : _≡_ {A = ℕ} 0 1 = cc in omega arith)
 
--- an array's offset is that of a whole task, and its size a power of two
-abbrev pub Proper : ℕ → List Region → ℕ → Type 0
-Proper ω l k = Size (sizeAt ω l k) × ((e : ℕ) × (offsetAt l k ≡ (ω + 1) * e))
-
-whole-at : (ω : ℕ) (l : List Region) (k : ℕ) → tidy ω l (suc k) ≡ true → (e : ℕ) × (offsetAt l k ≡ (ω + 1) * e)
-whole-at ω l zero t = (0, omega (arith, tidy-start ω l t .0))
-whole-at ω l (suc k) t =
-    let u = tidy-front ω l (suc (suc k)) k t (omega arith) in
-    let (e, q) = whole-at ω l k u in
-    (e + sizeAt ω l k, omega (arith, tidy-last ω l k t .place, tidy-long ω l k u, q))
-
-pub tidy-proper : (ω : ℕ) (l : List Region) (n k : ℕ) → tidy ω l n ≡ true → k < n → Proper ω l k
-tidy-proper ω l n k t h = let u = tidy-front ω l n k t h in (tidy-size ω l k u, whole-at ω l k u)
+pub tidy-proper : (ω : ℕ) (l : List Region) (n k : ℕ) → tidy ω l n ≡ true → k < n → Size (sizeAt ω l k)
+tidy-proper ω l n k t h = tidy-size ω l k (tidy-front ω l n k t h)
 
 -- an earlier array ends no later, and is no larger
 abbrev pub Below : ℕ → List Region → ℕ → ℕ → Type 0
@@ -59,23 +50,28 @@ tidy-below ω l n k (suc j) q h g = go (le-or-lt (suc j) k) (λ a. tidy-below ω
     go (inl a) f = subst (Below ω l (suc j)) {x = suc j} {y = k} (omega arith) (omega arith)
     go (inr a) f = let r = f a in (omega (arith, tidy-last ω l j t .place, r .0), omega (arith, tidy-twice ω l j t, r .1))
 
+-- sorted: an earlier array ends before a later one
+pub tidy-sorted : (ω : ℕ) (l : List Region) (n k j : ℕ) → tidy ω l n ≡ true → k < j → j < n → offsetAt l k + lengthAt l k ≤ offsetAt l j
+tidy-sorted ω l n k zero q h g = absurd (omega arith)
+tidy-sorted ω l n k (suc j) q h g = omega (arith, tidy-last ω l j (tidy-front ω l n (suc j) q g) .place, tidy-below ω l n k j q (omega arith) (omega arith) .0)
+
 abbrev last : ℕ → Region → Region → Bool
-last ω r s = eqb (s .offset) (r .offset + r .length) and (eqb (s .length) (2 * r .length) and leb (2 * (r .length / (ω + 1))) 1024)
+last ω r s = leb (r .offset + r .length) (s .offset) and (eqb (s .length) (2 * r .length) and leb (2 * (r .length / (ω + 1))) 1024)
 
 -- the test looks at the first n entries alone
 tidy-ext : (ω : ℕ) (l l′ : List Region) (n : ℕ) → ((k : ℕ) → k < n → getD l′ k nowhere ≡ getD l k nowhere) → tidy ω l′ n ≡ tidy ω l n
 unfolding offsetAt lengthAt sizeAt
 tidy-ext ω l l′ zero f = refl
 tidy-ext ω l l′ (suc zero) f =
-    ap (λ (r : Region). eqb (r .offset) 0 and (eqb (r .length) ((ω + 1) * (r .length / (ω + 1))) and isSize 10 (r .length / (ω + 1)))) (f 0 (omega arith))
+    ap (λ (r : Region). eqb (r .length) ((ω + 1) * (r .length / (ω + 1))) and isSize 10 (r .length / (ω + 1))) (f 0 (omega arith))
 tidy-ext ω l l′ (suc (suc m)) f =
     ap (λ (x : Bool). x and last ω (getD l′ m nowhere) (getD l′ (suc m) nowhere)) (tidy-ext ω l l′ (suc m) (λ k h. f k (omega arith)))
     ∙ ap (λ (r : Region). tidy ω l (suc m) and last ω r (getD l′ (suc m) nowhere)) (f m (omega arith))
     ∙ ap (λ (r : Region). tidy ω l (suc m) and last ω (getD l m nowhere) r) (f (suc m) (omega arith))
 
--- the number words of the first t words of the store
-abbrev pub Numbers : ℕ → List ℕ → ℕ → Type 0
-Numbers ω m t = (a : ℕ) → (ω + 1) * a < t → getD m ((ω + 1) * a) 0 ≤ 65535
+-- the number words of the first n arrays
+abbrev pub Numbers : ℕ → List ℕ → List Region → ℕ → Type 0
+Numbers ω m l n = (k t : ℕ) → k < n → t < sizeAt ω l k → wordAt m ω (offsetAt l k) t 0 ≤ 65535
 
 pub record Arrays (ω : ℕ) (q : Queue) (m : List ℕ) : Type 0 where
   pub some : 0 < q .published
@@ -86,33 +82,50 @@ pub record Arrays (ω : ℕ) (q : Queue) (m : List ℕ) : Type 0 where
   pub kept : q .initial ≡ sizeAt ω (q .arrays) 0
   pub power : 2 ^ (q .published - 1) ≤ size ω q
   pub room : taken q ≤ length m
-  pub numbers : Numbers ω m (taken q)
+  pub numbers : Numbers ω m (q .arrays) (q .claimed)
+
+-- the room that X1 finds lies behind the queue's arrays, and in the store
+pub record Free (ρ : Room) (q : Queue) (m : List ℕ) : Type 0 where
+  pub behind : taken q ≤ ρ .next
+  pub inside : ρ .next + ρ .left ≤ length m
+
+-- and the words that are set aside are left in it
+pub record Admits (ρ : Room) (b : Bench) (m : List ℕ) : Type 0 where
+  pub free : Free ρ (b .queue) m
+  pub aside : b .aside ≤ ρ .left
+
+-- where X1 fits, its array's words are left
+pub fits-left : (ρ : Room) (ω : ℕ) (q : Queue) → fits ρ ω q ≡ true → nextLength q ≤ ρ .left
+fits-left ρ ω q e = leb-true (nextLength q) (ρ .left) (and-right (leb (2 * size ω q) 1024) _ e)
+
+-- the store changed outside the queue's arrays
+pub record Others (q : Queue) (m m′ : List ℕ) : Type 0 where
+  pub long : length m′ ≡ length m
+  pub same : (k a : ℕ) → k < q .claimed → offsetAt (q .arrays) k ≤ a → a < offsetAt (q .arrays) k + lengthAt (q .arrays) k → getD m′ a 0 ≡ getD m a 0
 
 module _ {ω : ℕ} {q : Queue} {m : List ℕ} (A : Arrays ω q m) where
   tidied-to : (k : ℕ) → k < q .published → tidy ω (q .arrays) (suc k) ≡ true
   tidied-to k h = tidy-front ω (q .arrays) (q .claimed) k (A .tidied) (omega (arith, A .below))
 
-  pub now : Proper ω (q .arrays) (q .published - 1)
+  pub now : Size (size ω q)
   now = tidy-proper ω (q .arrays) (q .claimed) (q .published - 1) (A .tidied) (omega (arith, A .some, A .below))
 
   pub long : len q ≡ (ω + 1) * size ω q
   long = tidy-long ω (q .arrays) (q .published - 1) (tidied-to (q .published - 1) (omega (arith, A .some)))
 
-  -- a published array's end
-  pub end : (k : ℕ) → k < q .published → offsetAt (q .arrays) k + lengthAt (q .arrays) k ≤ taken q
-  end k h = tidy-below ω (q .arrays) (q .claimed) k (q .claimed - 1) (A .tidied) (omega (arith, A .below)) (omega (arith, A .below)) .0
+  pub long-at : (k : ℕ) → k < q .claimed → lengthAt (q .arrays) k ≡ (ω + 1) * sizeAt ω (q .arrays) k
+  long-at k h = tidy-long ω (q .arrays) k (tidy-front ω (q .arrays) (q .claimed) k (A .tidied) h)
+
+  -- an array's end
+  pub end : (k : ℕ) → k < q .claimed → offsetAt (q .arrays) k + lengthAt (q .arrays) k ≤ taken q
+  end k h = tidy-below ω (q .arrays) (q .claimed) k (q .claimed - 1) (A .tidied) (omega arith) (omega arith) .0
 
   pub larger : (k : ℕ) → k < q .published → sizeAt ω (q .arrays) k ≤ size ω q
   larger k h = tidy-below ω (q .arrays) (q .claimed) k (q .published - 1) (A .tidied) (omega arith) (omega (arith, A .below, A .some)) .1
 
   -- a number that is read
   pub number : (k t : ℕ) → k < q .published → t < sizeAt ω (q .arrays) k → wordAt m ω (offsetAt (q .arrays) k) t 0 ≤ 65535
-  unfolding wordAt
-  number k t h l =
-      let P = tidy-proper ω (q .arrays) (q .claimed) k (A .tidied) (omega (arith, A .below)) in
-      subst (λ (x : ℕ). getD m x 0 ≤ 65535) {x = (ω + 1) * (P .1 .0 + t)} {y = offsetAt (q .arrays) k + (ω + 1) * t + 0} (omega (arith, P .1 .1))
-      (A .numbers (P .1 .0 + t)
-      (omega (arith, P .1 .1, end k h, tidy-long ω (q .arrays) k (tidied-to k h), earlier-slot (ω + 1) t (sizeAt ω (q .arrays) k) 0 l (omega arith))))
+  number k t h l = A .numbers k t (omega (arith, A .below)) l
 
   pub number-now : (t : ℕ) → t < size ω q → wordAt m ω (off q) t 0 ≤ 65535
   number-now t l = number (q .published - 1) t (omega (arith, A .some)) l
@@ -140,14 +153,24 @@ set-word m a i x hx ha = go (le-or-lt a i) (le-or-lt i a) (le-or-lt (length m) i
         is : a ≡ i
         is = omega arith
 
--- word j of a task, at an array's offset
-pub numbers-word : (ω : ℕ) (m : List ℕ) (t b s j x e : ℕ) → b ≡ (ω + 1) * e → j < ω + 1 → (j ≡ 0 → x ≤ 65535) → Numbers ω m t → Numbers ω (setWord m ω b s j x) t
-unfolding setWord
-numbers-word ω m t b s zero x e q hj hx N a h = set-word m ((ω + 1) * a) _ x (hx refl) (N a h)
-numbers-word ω m t b s (suc j) x e q hj hx N a h =
-    rw (getD-set-other m (b + (ω + 1) * s + suc j) ((ω + 1) * a) x 0 (omega (arith, q, first-apart (ω + 1) a (e + s) (suc j) (omega arith) hj))) (N a h)
+-- word j of a task in slot s of array b
+pub numbers-word : (ω : ℕ) (m : List ℕ) (l : List Region) (n b s j x : ℕ) → tidy ω l n ≡ true → b < n → s < sizeAt ω l b → j ≤ ω → (j ≡ 0 → x ≤ 65535) → Numbers ω m l n → Numbers ω (setWord m ω (offsetAt l b) s j x) l n
+unfolding setWord wordAt
+numbers-word ω m l n b s zero x T hb hs hj hx N k t h g = set-word m _ _ x (hx refl) (N k t h g)
+numbers-word ω m l n b s (suc j) x T hb hs hj hx N k t h g =
+    rw (getD-set-other m (offsetAt l b + (ω + 1) * s + suc j) (offsetAt l k + (ω + 1) * t + 0) x 0 (ne (le-or-lt k b) (le-or-lt b k))) (N k t h g)
+  where
+    long : (i : ℕ) → i < n → lengthAt l i ≡ (ω + 1) * sizeAt ω l i
+    long i hi = tidy-long ω l i (tidy-front ω l n i T hi)
 
-zeros-new : (m : List ℕ) (a n i : ℕ) → a ≤ i → i < a + n → a ≤ length m → getD (zeros m a n) i 0 ≡ 0
+    ne : (k ≤ b) ⊎ (b < k) → (b ≤ k) ⊎ (k < b) → offsetAt l k + (ω + 1) * t + 0 ≢ offsetAt l b + (ω + 1) * s + suc j
+    ne (inr a) c = omega (arith, tidy-sorted ω l n b k T a h, long b hb, earlier-slot (ω + 1) s (sizeAt ω l b) (suc j) hs (omega arith))
+    ne (inl a) (inr c) = omega (arith, tidy-sorted ω l n k b T c hb, long k h, earlier-slot (ω + 1) t (sizeAt ω l k) 0 g (omega arith))
+    ne (inl a) (inl c) =
+        subst (λ (y : ℕ). offsetAt l y + (ω + 1) * t + 0 ≢ offsetAt l b + (ω + 1) * s + suc j) {x = b} {y = k} (omega arith)
+        (omega (arith, first-apart (ω + 1) t s (suc j) (omega arith) (omega arith)))
+
+pub zeros-new : (m : List ℕ) (a n i : ℕ) → a ≤ i → i < a + n → a ≤ length m → getD (zeros m a n) i 0 ≡ 0
 unfolding zeros
 zeros-new m a n i l h g =
     subst (λ (x : ℕ). getD (take a m ++ (replicate n 0 ++ drop (a + n) m)) x 0 ≡ 0) here
@@ -156,13 +179,6 @@ zeros-new m a n i l h g =
   where
     here : length (take a m) + (i - a) ≡ i
     here = omega (arith, length-take-le a m g)
-
-pub numbers-zeros : (ω : ℕ) (m : List ℕ) (t n : ℕ) → t ≤ length m → Numbers ω m t → Numbers ω (zeros m t n) (t + n)
-numbers-zeros ω m t n g N a h = go (le-or-lt t ((ω + 1) * a))
-  where
-    go : (t ≤ (ω + 1) * a) ⊎ ((ω + 1) * a < t) → getD (zeros m t n) ((ω + 1) * a) 0 ≤ 65535
-    go (inl l) = rw (zeros-new m t n ((ω + 1) * a) l h g) (omega arith)
-    go (inr l) = rw (zeros-low m t n ((ω + 1) * a) l g) (N a l)
 
 -- another anchor, other links
 pub arrays-anchor : {ω : ℕ} {q : Queue} {m : List ℕ} (a : Anchor) (ls : List Bool) → Arrays ω q m
@@ -181,7 +197,7 @@ arrays-anchor a ls A =
     }
 
 -- another store of the same length
-pub arrays-store : {ω : ℕ} {q : Queue} {m : List ℕ} (m′ : List ℕ) → Arrays ω q m → length m′ ≡ length m → Numbers ω m′ (taken q) → Arrays ω q m′
+pub arrays-store : {ω : ℕ} {q : Queue} {m : List ℕ} (m′ : List ℕ) → Arrays ω q m → length m′ ≡ length m → Numbers ω m′ (q .arrays) (q .claimed) → Arrays ω q m′
 arrays-store {ω} {q} {m} m′ A e N =
     record {
       some = A .some;
@@ -195,44 +211,72 @@ arrays-store {ω} {q} {m} m′ A e N =
       numbers = N;
     }
 
+-- what others write
+pub arrays-others : {ω : ℕ} {q : Queue} {m m′ : List ℕ} → Arrays ω q m → Others q m m′ → Arrays ω q m′
+unfolding wordAt
+arrays-others {ω} {q} {m} {m′} A O =
+    arrays-store m′ A (O .long)
+    (λ k t h g. rw (O .same k (offsetAt (q .arrays) k + (ω + 1) * t + 0) h (omega arith) (omega (arith, long-at A k h, earlier-slot (ω + 1) t (sizeAt ω (q .arrays) k) 0 g (omega arith)))) (A .numbers k t h g))
+
 -- X1: q is the queue in memory
-pub arrays-claim : {ω : ℕ} {q : Queue} {m : List ℕ} → Arrays ω q m → q .claimed < 11 → 2 * sizeAt ω (q .arrays) (q .claimed - 1) ≤ 1024 → taken q + nextLength q ≤ length m
-    → Arrays ω (claiming q) (zeros m (taken q) (nextLength q))
-arrays-claim {ω} {q} {m} A n11 small room =
+pub arrays-claim : (ρ : Room) {ω : ℕ} {q : Queue} {m : List ℕ} → Arrays ω q m → q .claimed < 11 → 2 * sizeAt ω (q .arrays) (q .claimed - 1) ≤ 1024 → Free ρ q m → nextLength q ≤ ρ .left
+    → Arrays ω (claiming ρ q) (zeros m (ρ .next) (nextLength q))
+unfolding wordAt
+arrays-claim ρ {ω} {q} {m} A n11 small R left =
     record {
       some = A .some;
       below = omega (arith, A .below);
       few = omega (arith, n11);
       slots = length-set (q .arrays) (q .claimed) _ ∙ A .slots;
       tidied = tidied′;
-      kept = A .kept ∙ sym (set-place ω (q .arrays) (q .claimed) 0 (taken q) (nextLength q) (omega (arith, pos)) .2);
+      kept = A .kept ∙ sym (set-place ω (q .arrays) (q .claimed) 0 (ρ .next) (nextLength q) (omega (arith, pos)) .2);
       power = rw (now′ .2) (A .power);
-      room = subst (λ (x : ℕ). x ≤ length (zeros m (taken q) (nextLength q))) (sym top) (omega (arith, zeros-length m (taken q) (nextLength q) room));
-      numbers = subst (Numbers ω (zeros m (taken q) (nextLength q))) (sym top) (numbers-zeros ω m (taken q) (nextLength q) (omega (arith, room)) (A .numbers));
+      room = subst (λ (x : ℕ). x ≤ length (zeros m (ρ .next) (nextLength q))) (sym top) (omega (arith, zeros-length m (ρ .next) (nextLength q) room));
+      numbers = λ k t h g. at k t (le-or-lt (q .claimed) k) h g;
     }
   where
     l′ : List Region
-    l′ = set (q .arrays) (q .claimed) (record { offset = taken q; length = nextLength q })
+    l′ = set (q .arrays) (q .claimed) (record { offset = ρ .next; length = nextLength q })
 
     pos : 0 < q .claimed
     pos = omega (arith, A .some, A .below)
 
+    room : (ρ .next) + nextLength q ≤ length m
+    room = omega (arith, R .inside)
+
     long′ : lengthAt (q .arrays) (q .claimed - 1) ≡ (ω + 1) * sizeAt ω (q .arrays) (q .claimed - 1)
     long′ = tidy-long ω (q .arrays) (q .claimed - 1) (tidy-front ω (q .arrays) (q .claimed) (q .claimed - 1) (A .tidied) (omega (arith, pos)))
 
-    new : (offsetAt l′ (q .claimed) ≡ taken q) × (lengthAt l′ (q .claimed) ≡ nextLength q) × (sizeAt ω l′ (q .claimed) ≡ 2 * sizeAt ω (q .arrays) (q .claimed - 1))
-    new = set-here ω (q .arrays) (q .claimed) (taken q) (2 * sizeAt ω (q .arrays) (q .claimed - 1)) (nextLength q) (omega (arith, n11, A .slots)) (omega (arith, long′))
+    new : (offsetAt l′ (q .claimed) ≡ ρ .next) × (lengthAt l′ (q .claimed) ≡ nextLength q) × (sizeAt ω l′ (q .claimed) ≡ 2 * sizeAt ω (q .arrays) (q .claimed - 1))
+    new = set-here ω (q .arrays) (q .claimed) (ρ .next) (2 * sizeAt ω (q .arrays) (q .claimed - 1)) (nextLength q) (omega (arith, n11, A .slots)) (omega (arith, long′))
 
     last : (offsetAt l′ (q .claimed - 1) ≡ offsetAt (q .arrays) (q .claimed - 1)) × (lengthAt l′ (q .claimed - 1) ≡ lengthAt (q .arrays) (q .claimed - 1)) × (sizeAt ω l′ (q .claimed - 1) ≡ sizeAt ω (q .arrays) (q .claimed - 1))
-    last = set-place ω (q .arrays) (q .claimed) (q .claimed - 1) (taken q) (nextLength q) (omega (arith, pos))
+    last = set-place ω (q .arrays) (q .claimed) (q .claimed - 1) (ρ .next) (nextLength q) (omega (arith, pos))
 
     now′ : (offsetAt l′ (q .published - 1) ≡ off q) × (lengthAt l′ (q .published - 1) ≡ len q) × (sizeAt ω l′ (q .published - 1) ≡ size ω q)
-    now′ = set-place ω (q .arrays) (q .claimed) (q .published - 1) (taken q) (nextLength q) (omega (arith, A .some, A .below))
+    now′ = set-place ω (q .arrays) (q .claimed) (q .published - 1) (ρ .next) (nextLength q) (omega (arith, A .some, A .below))
+
+    at : (k t : ℕ) → (q .claimed ≤ k) ⊎ (k < q .claimed) → k < q .claimed + 1 → t < sizeAt ω l′ k
+        → getD (zeros m (ρ .next) (nextLength q)) (offsetAt l′ k + (ω + 1) * t + 0) 0 ≤ 65535
+    at k t (inl a) h g =
+        rw (zeros-new m (ρ .next) (nextLength q) (offsetAt l′ k + (ω + 1) * t + 0) (omega (arith, here .0))
+        (omega (arith, here .0, here .1, long′, earlier-slot (ω + 1) t (sizeAt ω l′ k) 0 g (omega arith), ap (λ (z : ℕ). (ω + 1) * z) (here .1))) (omega (arith, room))) (omega arith)
+      where
+        here : (offsetAt l′ k ≡ ρ .next) × (sizeAt ω l′ k ≡ 2 * sizeAt ω (q .arrays) (q .claimed - 1))
+        here = subst (λ (x : ℕ). (offsetAt l′ x ≡ ρ .next) × (sizeAt ω l′ x ≡ 2 * sizeAt ω (q .arrays) (q .claimed - 1))) {x = q .claimed} {y = k} (omega arith) (new .0, new .2)
+    at k t (inr a) h g =
+        let there = set-place ω (q .arrays) (q .claimed) k (ρ .next) (nextLength q) (omega arith) in
+        rw (
+          there .0,
+          zeros-low m (ρ .next) (nextLength q) (offsetAt (q .arrays) k + (ω + 1) * t + 0)
+              (omega (arith, there .2, end A k a, R .behind, long-at A k a, earlier-slot (ω + 1) t (sizeAt ω (q .arrays) k) 0 (omega (arith, there .2)) (omega arith))) (omega (arith, room)),
+        )
+        (A .numbers k t a (omega (arith, there .2)))
 
     pred : q .claimed + 1 - 1 ≡ q .claimed
     pred = omega arith
 
-    top : taken (claiming q) ≡ taken q + nextLength q
+    top : taken (claiming ρ q) ≡ ρ .next + nextLength q
     top = ap (λ (x : ℕ). offsetAt l′ x + lengthAt l′ x) pred ∙ omega (arith, new .0, new .1)
 
     old : tidy ω l′ (q .claimed) ≡ true
@@ -241,7 +285,7 @@ arrays-claim {ω} {q} {m} A n11 small room =
     more : (k : ℕ) → suc k ≡ q .claimed → tidy ω l′ (suc (suc k)) ≡ true
     more k h =
         and-both (tidy ω l′ (suc k)) _ (subst (λ (x : ℕ). tidy ω l′ x ≡ true) (sym h) old)
-        (and-both (eqb (offsetAt l′ (suc k)) (offsetAt l′ k + lengthAt l′ k)) _ (eq-eqb _ _ place)
+        (and-both (leb (offsetAt l′ k + lengthAt l′ k) (offsetAt l′ (suc k))) _ (le-leb _ _ place)
         (and-both (eqb (lengthAt l′ (suc k)) (2 * lengthAt l′ k)) _ (eq-eqb _ _ longer) (le-leb _ _ small′)))
       where
         k-is : k ≡ q .claimed - 1
@@ -250,8 +294,8 @@ arrays-claim {ω} {q} {m} A n11 small room =
         ck : lengthAt l′ k ≡ lengthAt (q .arrays) (q .claimed - 1)
         ck = ap (lengthAt l′) k-is ∙ last .1
 
-        place : offsetAt l′ (suc k) ≡ offsetAt l′ k + lengthAt l′ k
-        place = ap (offsetAt l′) h ∙ new .0 ∙ omega (arith, ck, ap (offsetAt l′) k-is, last .0)
+        place : offsetAt l′ k + lengthAt l′ k ≤ offsetAt l′ (suc k)
+        place = omega (arith, ap (offsetAt l′) h, new .0, ck, ap (offsetAt l′) k-is, last .0, R .behind)
 
         longer : lengthAt l′ (suc k) ≡ 2 * lengthAt l′ k
         longer = ap (lengthAt l′) h ∙ new .1 ∙ omega (arith, ck)

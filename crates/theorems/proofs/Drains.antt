@@ -5,6 +5,7 @@ use mathlib.Core.Logic.{_≢_, _⊎_, inl, inr}
 use mathlib.Core.List.{List, [], _∷_, List·Memᴰ, List·Memᴰ·head, List·Memᴰ·tail, List·Memᴰ·cases-cons}
 use Prim.Native.Nat.{ℕ, zero, suc, _+_, _-_, _%_, _≤_, _<_}
 use native.Mathlib.Omega.{arith}
+use Rattle.model.specs.declared.Room.{Room}
 use Rattle.model.specs.declared.Kind.{Kind}
 use Rattle.model.specs.declared.Kind.the-variants.{Lifo, Fifo, Deque}
 use Rattle.model.specs.declared.Line.{Line}
@@ -193,29 +194,29 @@ pub due-same : (δ : Bool) (κ : Kind) (v : View) (ss : List Store) (h : History
 due-same true κ v ss h e z f D = subst (λ (l : List Store). Due κ v l (e ∷ h)) (no-more ss) (due-next κ v ss [] h e z (λ t n q. absurd (f t n q)) D)
 due-same false κ v ss h e z f D = none-waits e h f D
 
-pub thief-step : (κ : Kind) (w ω : ℕ) (δ : Bool) (y : ℕ) (Q : Queue) (μ : List ℕ) (ss : List Store) (o : Line) (φ : ℕ → Line) (h : History) (k : ℕ) (I : Inv κ w ω δ Q μ ss o φ h) → 0 < Q .published → ω ≤ 4 → (Q .linked ≡ false → 0 < w) → LinkSound κ Q h k (φ k)
-    → let E = lineStep κ w ω Q μ (suc k) (φ k) in let e = event-of ω δ y (step (suc k)) (φ k) (E .answer) in
+pub thief-step : (ρ : Room) (κ : Kind) (w ω : ℕ) (δ : Bool) (y : ℕ) (Q : Queue) (μ : List ℕ) (ss : List Store) (o : Line) (φ : ℕ → Line) (h : History) (k : ℕ) (I : Inv κ w ω δ Q μ ss o φ h) → 0 < Q .published → ω ≤ 4 → (Q .linked ≡ false → 0 < w) → LinkSound κ Q h k (φ k)
+    → let E = lineStep ρ κ w ω Q μ (suc k) (φ k) in let e = event-of ω δ y (step (suc k)) (φ k) (E .answer) in
     PremiseAt κ w e h
     → ((φ′ : ℕ → Line) → φ′ k ≡ E .line → ((i : ℕ) → i ≢ k → φ′ i ≡ φ i) → Inv κ w ω δ (laid (E .stores) Q) (words ω (Q .arrays) (E .stores) μ) ss o φ′ (e ∷ h)) × GoodEvent δ e h
-thief-step κ w ω δ y Q μ ss o φ h k I pos wide some L f = (λ φ′ is rest. record { own-lo = I .own-lo; own-hi = I .own-hi; base = K .0 φ′ is rest; own = own; due = due; order = order }, K .1)
+thief-step ρ κ w ω δ y Q μ ss o φ h k I pos wide some L f = (λ φ′ is rest. record { own-lo = I .own-lo; own-hi = I .own-hi; base = K .0 φ′ is rest; own = own; due = due; order = order }, K .1)
   where
     E : Effect
-    E = lineStep κ w ω Q μ (suc k) (φ k)
+    E = lineStep ρ κ w ω Q μ (suc k) (φ k)
 
     e : Event
-    e = event-of ω δ y (step (suc k)) (φ k) (lineStep κ w ω Q μ (suc k) (φ k) .answer)
+    e = event-of ω δ y (step (suc k)) (φ k) (lineStep ρ κ w ω Q μ (suc k) (φ k) .answer)
 
-    K : ThiefKept κ w ω δ y Q μ (I .own-lo) (I .own-hi) ss φ h k (φ k) (lineStep κ w ω Q μ (suc k) (φ k))
-    K = thief-kept κ w ω δ y Q μ (I .own-lo) (I .own-hi) ss φ h k (φ k) (I .base) (I .base .th k) pos wide some L f
+    K : ThiefKept κ w ω δ y Q μ (I .own-lo) (I .own-hi) ss φ h k (φ k) (lineStep ρ κ w ω Q μ (suc k) (φ k))
+    K = thief-kept ρ κ w ω δ y Q μ (I .own-lo) (I .own-hi) ss φ h k (φ k) (I .base) (I .base .th k) pos wide some L f
 
-    A : Apart (lineStep κ w ω Q μ (suc k) (φ k) .answer) e
-    A = apart ω δ y k (φ k) (lineStep κ w ω Q μ (suc k) (φ k) .answer) (λ i t q. let P = finish-only κ w ω Q μ (suc k) (φ k) i t q in subst (λ (θ : Line). ThiefOk κ w (view ω Q μ (I .own-lo) (I .own-hi)) (Q .anchor .tag) h (suc k) θ) (P .1) (I .base .th k))
+    A : Apart (lineStep ρ κ w ω Q μ (suc k) (φ k) .answer) e
+    A = apart ω δ y k (φ k) (lineStep ρ κ w ω Q μ (suc k) (φ k) .answer) (λ i t q. let P = finish-only ρ κ w ω Q μ (suc k) (φ k) i t q in subst (λ (θ : Line). ThiefOk κ w (view ω Q μ (I .own-lo) (I .own-hi)) (Q .anchor .tag) h (suc k) θ) (P .1) (I .base .th k))
 
-    own : OwnerOk κ (sight κ ω ss (laid (lineStep κ w ω Q μ (suc k) (φ k) .stores) Q) (words ω (Q .arrays) (lineStep κ w ω Q μ (suc k) (φ k) .stores) μ) (I .own-lo) (I .own-hi)) (tags ss (laid (lineStep κ w ω Q μ (suc k) (φ k) .stores) Q .anchor .tag)) (e ∷ h) o
+    own : OwnerOk κ (sight κ ω ss (laid (lineStep ρ κ w ω Q μ (suc k) (φ k) .stores) Q) (words ω (Q .arrays) (lineStep ρ κ w ω Q μ (suc k) (φ k) .stores) μ) (I .own-lo) (I .own-hi)) (tags ss (laid (lineStep ρ κ w ω Q μ (suc k) (φ k) .stores) Q .anchor .tag)) (e ∷ h) o
     own = rw (K .2 .0, K .2 .1, K .2 .2) (own-later κ _ _ h e (A .away) (told-before e h (A .mute)) o (I .own))
 
-    order : Order κ (view ω (laid (lineStep κ w ω Q μ (suc k) (φ k) .stores) Q) (words ω (Q .arrays) (lineStep κ w ω Q μ (suc k) (φ k) .stores) μ) (I .own-lo) (I .own-hi)) (laid (lineStep κ w ω Q μ (suc k) (φ k) .stores) Q .anchor .head) ss (e ∷ h)
+    order : Order κ (view ω (laid (lineStep ρ κ w ω Q μ (suc k) (φ k) .stores) Q) (words ω (Q .arrays) (lineStep ρ κ w ω Q μ (suc k) (φ k) .stores) μ) (I .own-lo) (I .own-hi)) (laid (lineStep ρ κ w ω Q μ (suc k) (φ k) .stores) Q .anchor .head) ss (e ∷ h)
     order = rw (K .2 .1, K .2 .2) (K .3 (I .order))
 
-    due : DueIf δ κ (view ω (laid (lineStep κ w ω Q μ (suc k) (φ k) .stores) Q) (words ω (Q .arrays) (lineStep κ w ω Q μ (suc k) (φ k) .stores) μ) (I .own-lo) (I .own-hi)) ss (e ∷ h)
+    due : DueIf δ κ (view ω (laid (lineStep ρ κ w ω Q μ (suc k) (φ k) .stores) Q) (words ω (Q .arrays) (lineStep ρ κ w ω Q μ (suc k) (φ k) .stores) μ) (I .own-lo) (I .own-hi)) ss (e ∷ h)
     due = rw (K .2 .1, K .2 .2) (due-same δ κ _ ss h e (A .still) (A .none) (I .due))

@@ -4,6 +4,7 @@ use mathlib.Core.Bool.{Bool, true, false}
 use mathlib.Core.List.{List, [], _∷_, _++_}
 use Prim.Native.Nat.{ℕ, zero, suc, _+_, _*_}
 use lib.ListN.{set, replicate}
+use Rattle.model.specs.declared.Room.{Room}
 use Rattle.model.specs.declared.Kind.{Kind}
 use Rattle.model.specs.declared.Anchor.{Anchor}
 use Rattle.model.specs.declared.Region.{Region}
@@ -13,7 +14,7 @@ use Rattle.model.specs.declared.Store.the-variants.{StoreWord, StoreNote, Store
 use Rattle.model.specs.Memory.{setWord, zeros, offsetAt}
 use Rattle.model.specs.Figures.{anchor}
 use Rattle.model.specs.Lines.{copyWords}
-use Rattle.model.specs.Stores.{Shared, shared, landed, landedAll, taken, nextLength, claiming, claimedBy}
+use Rattle.model.specs.Stores.{Shared, shared, landed, landedAll, nextLength, claiming, claimedBy}
 
 -- one store put down; with ω payload words, l is the directory
 abbrev pub wordsOf : ℕ → List Region → Store → List ℕ → List ℕ
@@ -138,30 +139,30 @@ NonePut [] = Unit {0}
 NonePut (s ∷ ss) = NotPut s × NonePut ss
 
 -- what X1 does to memory
-abbrev pub arraysAfter : Bool → Queue → List Region
-arraysAfter true q = claiming q .arrays
-arraysAfter false q = q .arrays
+abbrev pub arraysAfter : Room → Bool → Queue → List Region
+arraysAfter ρ true q = claiming ρ q .arrays
+arraysAfter ρ false q = q .arrays
 
 abbrev pub claimedAfter : Bool → Queue → ℕ
 claimedAfter true q = q .claimed + 1
 claimedAfter false q = q .claimed
 
-abbrev pub queueAfter : Bool → Queue → Queue
-queueAfter x q =
+abbrev pub queueAfter : Room → Bool → Queue → Queue
+queueAfter ρ x q =
     record {
       linked = q .linked;
       anchor = q .anchor;
-      arrays = arraysAfter x q;
+      arrays = arraysAfter ρ x q;
       published = q .published;
       claimed = claimedAfter x q;
       initial = q .initial;
       links = q .links;
     }
 
-abbrev pub storeAfter : Bool → Queue → List ℕ → List ℕ
-storeAfter true q m = zeros m (taken q) (nextLength q)
-storeAfter false q m = m
+abbrev pub storeAfter : Room → Bool → Queue → List ℕ → List ℕ
+storeAfter ρ true q m = zeros m (ρ .next) (nextLength q)
+storeAfter ρ false q m = m
 
-pub claimed-is : (x : Bool) (q : Queue) (m : List ℕ) → claimedBy x (shared q m) ≡ shared (queueAfter x q) (storeAfter x q m)
-claimed-is true q m = refl
-claimed-is false q m = refl
+pub claimed-is : (ρ : Room) (x : Bool) (q : Queue) (m : List ℕ) → claimedBy ρ x (shared q m) ≡ shared (queueAfter ρ x q) (storeAfter ρ x q m)
+claimed-is ρ true q m = refl
+claimed-is ρ false q m = refl

@@ -20,6 +20,7 @@ use Rattle.model.specs.declared.Anchor.{Anchor}
 use Rattle.model.specs.declared.Region.{Region}
 use Rattle.model.specs.declared.Pending.{Pending}
 use Rattle.model.specs.declared.Queue.{Queue}
+use Rattle.model.specs.declared.Room.{Room}
 use Rattle.model.specs.declared.Store.{Store}
 use Rattle.model.specs.declared.Store.the-variants.{StoreWord, StoreNote, StorePut, StoreOut, StoreHead, StoreTail}
 use Rattle.model.specs.declared.Waiting.{Waiting}
@@ -34,10 +35,9 @@ use Rattle.model.specs.Stores.{inLine, joined}
 use Rattle.model.specs.Lines.{Effect, size, copyWords, fits, succeeds, holdsLink, lineStep}
 use Rattle.model.specs.World.{World, Outcome, tagBits, lineAt, isExpanding}
 use Rattle.model.specs.Limits.{tidy, linkOk}
-use Rattle.model.specs.Calls.{rightHand, joining, landing, firstLine, begun, Call, callOf}
+use Rattle.model.specs.Calls.{rightHand, joining, landing, firstLine, begun, Call, callIn}
 use Rattle.theorems.proofs.Folds.{AllWords, words-keep, copy-words, places, anchorAfter, laid, words, arraysAfter, storeAfter}
-use Rattle.theorems.proofs.Words.{off}
-use Rattle.theorems.proofs.Directory.{Arrays, now, long}
+use Rattle.theorems.proofs.Directory.{Arrays, Others, now, long}
 use Rattle.theorems.proofs.Indices.{StandsFor, Start}
 use Rattle.theorems.proofs.Window.{View}
 use Rattle.theorems.proofs.Owed.{Claimed, Copied, words-join, anchor-join}
@@ -47,11 +47,13 @@ use Rattle.theorems.proofs.ShapeStep.{claim-only}
 use Rattle.theorems.proofs.Asides.{line-next}
 use Rattle.theorems.proofs.Invariant.{Copying}
 use Rattle.theorems.proofs.OwnerLines.{CopiedOne, copy-step}
+use Rattle.theorems.proofs.Claiming.{copied-same}
+use Rattle.theorems.proofs.InvOthers.{agrees-others, others-seen}
 use Rattle.theorems.proofs.Held.{line-join, line-drain}
 use Rattle.theorems.proofs.Links.{link-parts}
-use Rattle.theorems.proofs.Cases.{effectOf, stepTo, drainTo, MayBegin, MayStep, call-cases}
+use Rattle.theorems.proofs.Cases.{effectOf, stepTo, drainTo, MayBegin, MayStep, call-by}
 use Rattle.theorems.proofs.Valid.{thieves, Whole}
-use Rattle.theorems.proofs.WholeRun.{line-same, line-other, in-crew, in-line, thief-calm, thief-lands}
+use Rattle.theorems.proofs.WholeRun.{line-same, line-other, in-crew, in-line, thief-calm, thief-lands, storing}
 
 -- THE WINDOW AGAINST THE ARRAYS. What is under way: the copy of k of the n indices from a on, a copy that is done, or neither
 pub data Work : Type 0 where
@@ -214,33 +216,33 @@ unfolding if_then_else_
 finds κ q i r true f e = f e
 finds κ q i r false f e = e
 
-thief-steals : (κ : Kind) (w ω : ℕ) (q : Queue) (m : List ℕ) (low i : ℕ) (θ : Line) → Bounded κ w (size ω q) low (q .anchor) → (holdsLink q i ≡ true → linkOk κ q θ ≡ true)
-    → ThiefShape κ w ω q (tail κ (q .anchor)) θ → Steals κ ω q m (lineStep κ w ω q m i θ .stores)
+thief-steals : (ρ : Room) (κ : Kind) (w ω : ℕ) (q : Queue) (m : List ℕ) (low i : ℕ) (θ : Line) → Bounded κ w (size ω q) low (q .anchor) → (holdsLink q i ≡ true → linkOk κ q θ ≡ true)
+    → ThiefShape κ w ω q (tail κ (q .anchor)) θ → Steals κ ω q m (lineStep ρ κ w ω q m i θ .stores)
 unfolding lineStep
-thief-steals κ w ω q m low i Idle b f s = none-stolen κ ω q m
-thief-steals κ w ω q m low i StealRead b f s = none-stolen κ ω q m
-thief-steals κ w ω q m low i (StealTail h) b f s = none-stolen κ ω q m
-thief-steals κ w ω q m low i (StealTest r) b f s = either-stolen κ ω q m _ _ _ (λ e. none-stolen κ ω q m) (none-stolen κ ω q m)
-thief-steals κ w ω q m low i (StealNote r) b f s = none-stolen κ ω q m
-thief-steals κ w ω q m low i (StealWord r k t j) b f s = none-stolen κ ω q m
-thief-steals κ w ω q m low i (StealNext r t) b f s = none-stolen κ ω q m
-thief-steals κ w ω q m low i (StealCompare r e t) b f s =
+thief-steals ρ κ w ω q m low i Idle b f s = none-stolen κ ω q m
+thief-steals ρ κ w ω q m low i StealRead b f s = none-stolen κ ω q m
+thief-steals ρ κ w ω q m low i (StealTail h) b f s = none-stolen κ ω q m
+thief-steals ρ κ w ω q m low i (StealTest r) b f s = either-stolen κ ω q m _ _ _ (λ e. none-stolen κ ω q m) (none-stolen κ ω q m)
+thief-steals ρ κ w ω q m low i (StealNote r) b f s = none-stolen κ ω q m
+thief-steals ρ κ w ω q m low i (StealWord r k t j) b f s = none-stolen κ ω q m
+thief-steals ρ κ w ω q m low i (StealNext r t) b f s = none-stolen κ ω q m
+thief-steals ρ κ w ω q m low i (StealCompare r e t) b f s =
     either-stolen κ ω q m (succeeds κ q i r) _ _
     (λ x. stolen κ w ω q m low r e t b (finds κ q i r (q .linked) (λ h. link-parts κ q (StealCompare r e t) (f h) .2) x) s) (none-stolen κ ω q m)
-thief-steals κ w ω q m low i (PutRead t) b f s = absurd s
-thief-steals κ w ω q m low i (PutTail t h) b f s = absurd s
-thief-steals κ w ω q m low i (PutTest t r) b f s = absurd s
-thief-steals κ w ω q m low i (PutWord t r j) b f s = absurd s
-thief-steals κ w ω q m low i (PutFinish t r) b f s = absurd s
-thief-steals κ w ω q m low i (Claim g) b f s = absurd s
-thief-steals κ w ω q m low i (Note g) b f s = absurd s
-thief-steals κ w ω q m low i (Copy g h n k) b f s = absurd s
-thief-steals κ w ω q m low i (Publish g) b f s = absurd s
-thief-steals κ w ω q m low i TakeRead b f s = absurd s
-thief-steals κ w ω q m low i (TakeTail h) b f s = absurd s
-thief-steals κ w ω q m low i (TakeTest r) b f s = absurd s
-thief-steals κ w ω q m low i (TakeWord r t j) b f s = absurd s
-thief-steals κ w ω q m low i (TakeFinish r t) b f s = absurd s
+thief-steals ρ κ w ω q m low i (PutRead t) b f s = absurd s
+thief-steals ρ κ w ω q m low i (PutTail t h) b f s = absurd s
+thief-steals ρ κ w ω q m low i (PutTest t r) b f s = absurd s
+thief-steals ρ κ w ω q m low i (PutWord t r j) b f s = absurd s
+thief-steals ρ κ w ω q m low i (PutFinish t r) b f s = absurd s
+thief-steals ρ κ w ω q m low i (Claim g) b f s = absurd s
+thief-steals ρ κ w ω q m low i (Note g) b f s = absurd s
+thief-steals ρ κ w ω q m low i (Copy g h n k) b f s = absurd s
+thief-steals ρ κ w ω q m low i (Publish g) b f s = absurd s
+thief-steals ρ κ w ω q m low i TakeRead b f s = absurd s
+thief-steals ρ κ w ω q m low i (TakeTail h) b f s = absurd s
+thief-steals ρ κ w ω q m low i (TakeTest r) b f s = absurd s
+thief-steals ρ κ w ω q m low i (TakeWord r t j) b f s = absurd s
+thief-steals ρ κ w ω q m low i (TakeFinish r t) b f s = absurd s
 
 -- WHAT THE OWNER READS, in a queue with none waiting. The anchor's window
 pub anchors-window : (κ : Kind) (w z low : ℕ) (a : Anchor) → Bounded κ w z low a → InWindow κ a (λ lo hi. hi ≤ lo + z)
@@ -251,7 +253,7 @@ anchors-window Deque w z low a b = (a .head, a .head + a .count, (sym (mod-eq-of
 -- the claimed array lies behind the current one
 pub claimed-array : (ω : ℕ) (q : Queue) (m : List ℕ) (lo hi : ℕ) → Arrays ω q m → q .claimed ≡ q .published + 1 → Claimed (seen ω (q .arrays) (q .published) m lo hi)
 claimed-array ω q m lo hi A e = (
-  omega (arith, A .room, place, N .longer, is-o, is-l, long A, ap (offsetAt (q .arrays)) last, ap (lengthAt (q .arrays)) last),
+  omega (arith, A .room, N .longer, is-l, long A, ap (offsetAt (q .arrays)) last, ap (lengthAt (q .arrays)) last),
   N .small,
   omega (arith, is-o, N .place, long A),
   ap (sizeAt ω (q .arrays)) is ∙ tidy-twice ω (q .arrays) (q .published - 1) t,
@@ -275,9 +277,6 @@ claimed-array ω q m lo hi A e = (
 
     is-l : lengthAt (q .arrays) (q .published) ≡ lengthAt (q .arrays) (suc (q .published - 1))
     is-l = ap (lengthAt (q .arrays)) is
-
-    place : offsetAt (q .arrays) (suc (q .published - 1)) ≡ off q + lengthAt (q .arrays) (q .published - 1)
-    place = N .place
 
 -- X2: the indices from lo on are noted, n of them, from b
 noted-works : (κ : Kind) (ω : ℕ) (a : Anchor) (l : List Region) (p : ℕ) (m : List ℕ) (g : Growth) (b n lo hi : ℕ) (x : Bool) → eqb n 0 ≡ x → StandsFor κ a lo hi → lo ≤ hi → Start κ b lo → hi ≤ lo + n
@@ -320,7 +319,7 @@ copy-works κ ω q m g b n k x e A c (lo, hi, r, le, C) = rw (same-anchor rr (q 
     W = copy-words κ ω q m (b + k) (ω + 1)
 
     X : CopiedOne κ ω q m lo hi b k (C .from)
-    X = copy-step κ ω q m lo hi b n k (now A .0) (claimed-array ω q m lo hi A c) C
+    X = copy-step κ ω q m lo hi b n k (now A) (claimed-array ω q m lo hi A c) C
 
     go : (x : Bool) → eqb (k + 1) n ≡ x → Works κ ω (q .anchor) (q .arrays) (q .published) (words ω (q .arrays) (copyWords κ ω q m (b + k) (ω + 1)) m) (workOf (if x then Publish g else Copy g b n (k + 1)))
     go true e = (lo, hi, r, le, λ i j s t h. X .copied i j (omega (arith, C .low, s)) (omega (arith, C .high, t, eqb-true (k + 1) n e)) h)
@@ -344,37 +343,37 @@ copy-works κ ω q m g b n k x e A c (lo, hi, r, le, C) = rw (same-anchor rr (q 
 abbrev WorksOn : Kind → ℕ → Queue → List ℕ → Effect → Type 0
 WorksOn κ ω q m E = Works κ ω (anchorAfter (E .stores) (q .anchor)) (q .arrays) (places (E .stores) (q .published)) (words ω (q .arrays) (E .stores) m) (workOf (E .line))
 
-rest-works : (κ : Kind) (w ω : ℕ) (q : Queue) (m : List ℕ) (o : Line) → lineStep κ w ω q m 0 o .claims ≡ false → isExpanding o ≡ false → WorksOn κ ω q m (lineStep κ w ω q m 0 o)
-rest-works κ w ω q m o f e =
-    let E = lineStep κ w ω q m 0 o in
-    subst (Works κ ω (anchorAfter (E .stores) (q .anchor)) (q .arrays) (places (E .stores) (q .published)) (words ω (q .arrays) (E .stores) m)) (sym (no-work (E .line) (line-next κ w ω q m 0 o .1 f e))) tt
+rest-works : (ρ : Room) (κ : Kind) (w ω : ℕ) (q : Queue) (m : List ℕ) (o : Line) → lineStep ρ κ w ω q m 0 o .claims ≡ false → isExpanding o ≡ false → WorksOn κ ω q m (lineStep ρ κ w ω q m 0 o)
+rest-works ρ κ w ω q m o f e =
+    let E = lineStep ρ κ w ω q m 0 o in
+    subst (Works κ ω (anchorAfter (E .stores) (q .anchor)) (q .arrays) (places (E .stores) (q .published)) (words ω (q .arrays) (E .stores) m)) (sym (no-work (E .line) (line-next ρ κ w ω q m 0 o .1 f e))) tt
 
-own-works : (κ : Kind) (w ω used low : ℕ) (q : Queue) (m : List ℕ) (o : Line) (φ : ℕ → Line) → Shape κ w ω used low q m [] o φ → Works κ ω (q .anchor) (q .arrays) (q .published) m (workOf o)
-    → lineStep κ w ω q m 0 o .claims ≡ false → WorksOn κ ω q m (lineStep κ w ω q m 0 o)
+own-works : (ρ : Room) (κ : Kind) (w ω used low : ℕ) (q : Queue) (m : List ℕ) (o : Line) (φ : ℕ → Line) → Shape κ w ω used low q m [] o φ → Works κ ω (q .anchor) (q .arrays) (q .published) m (workOf o)
+    → lineStep ρ κ w ω q m 0 o .claims ≡ false → WorksOn κ ω q m (lineStep ρ κ w ω q m 0 o)
 unfolding lineStep if_then_else_
-own-works κ w ω used low q m Idle φ S u f = tt
-own-works κ w ω used low q m (PutRead t) φ S u f = rest-works κ w ω q m (PutRead t) f refl
-own-works κ w ω used low q m (PutTail t h) φ S u f = tt
-own-works κ w ω used low q m (PutTest t r) φ S u f = rest-works κ w ω q m (PutTest t r) f refl
-own-works κ w ω used low q m (PutWord t r j) φ S u f = rest-works κ w ω q m (PutWord t r j) f refl
-own-works κ w ω used low q m (PutFinish t r) φ S u f = tt
-own-works κ w ω used low q m (Claim g) φ S u f = rest-works κ w ω q m (Claim g) f (claim-expands g)
-own-works κ w ω used low q m (Note g) φ S u f = note-works κ w ω low q m g (S .anchor)
-own-works κ w ω used low q m (Copy g b n k) φ S u f = copy-works κ ω q m g b n k (eqb (k + 1) n) refl (S .arrays) (S .own .claims) u
-own-works κ w ω used low q m (Publish (ForPut t)) φ S u f = tt
-own-works κ w ω used low q m (Publish ForCommit) φ S u f = tt
-own-works κ w ω used low q m TakeRead φ S u f = rest-works κ w ω q m TakeRead f refl
-own-works κ w ω used low q m (TakeTail h) φ S u f = tt
-own-works κ w ω used low q m (TakeTest r) φ S u f = rest-works κ w ω q m (TakeTest r) f refl
-own-works κ w ω used low q m (TakeWord r t j) φ S u f = rest-works κ w ω q m (TakeWord r t j) f refl
-own-works κ w ω used low q m (TakeFinish r t) φ S u f = tt
-own-works κ w ω used low q m StealRead φ S u f = absurd (S .own .shape)
-own-works κ w ω used low q m (StealTail h) φ S u f = absurd (S .own .shape)
-own-works κ w ω used low q m (StealTest r) φ S u f = absurd (S .own .shape)
-own-works κ w ω used low q m (StealNote r) φ S u f = absurd (S .own .shape)
-own-works κ w ω used low q m (StealWord r k t j) φ S u f = absurd (S .own .shape)
-own-works κ w ω used low q m (StealNext r t) φ S u f = absurd (S .own .shape)
-own-works κ w ω used low q m (StealCompare r e t) φ S u f = absurd (S .own .shape)
+own-works ρ κ w ω used low q m Idle φ S u f = tt
+own-works ρ κ w ω used low q m (PutRead t) φ S u f = rest-works ρ κ w ω q m (PutRead t) f refl
+own-works ρ κ w ω used low q m (PutTail t h) φ S u f = tt
+own-works ρ κ w ω used low q m (PutTest t r) φ S u f = rest-works ρ κ w ω q m (PutTest t r) f refl
+own-works ρ κ w ω used low q m (PutWord t r j) φ S u f = rest-works ρ κ w ω q m (PutWord t r j) f refl
+own-works ρ κ w ω used low q m (PutFinish t r) φ S u f = tt
+own-works ρ κ w ω used low q m (Claim g) φ S u f = rest-works ρ κ w ω q m (Claim g) f (claim-expands g)
+own-works ρ κ w ω used low q m (Note g) φ S u f = note-works κ w ω low q m g (S .anchor)
+own-works ρ κ w ω used low q m (Copy g b n k) φ S u f = copy-works κ ω q m g b n k (eqb (k + 1) n) refl (S .arrays) (S .own .claims) u
+own-works ρ κ w ω used low q m (Publish (ForPut t)) φ S u f = tt
+own-works ρ κ w ω used low q m (Publish ForCommit) φ S u f = tt
+own-works ρ κ w ω used low q m TakeRead φ S u f = rest-works ρ κ w ω q m TakeRead f refl
+own-works ρ κ w ω used low q m (TakeTail h) φ S u f = tt
+own-works ρ κ w ω used low q m (TakeTest r) φ S u f = rest-works ρ κ w ω q m (TakeTest r) f refl
+own-works ρ κ w ω used low q m (TakeWord r t j) φ S u f = rest-works ρ κ w ω q m (TakeWord r t j) f refl
+own-works ρ κ w ω used low q m (TakeFinish r t) φ S u f = tt
+own-works ρ κ w ω used low q m StealRead φ S u f = absurd (S .own .shape)
+own-works ρ κ w ω used low q m (StealTail h) φ S u f = absurd (S .own .shape)
+own-works ρ κ w ω used low q m (StealTest r) φ S u f = absurd (S .own .shape)
+own-works ρ κ w ω used low q m (StealNote r) φ S u f = absurd (S .own .shape)
+own-works ρ κ w ω used low q m (StealWord r k t j) φ S u f = absurd (S .own .shape)
+own-works ρ κ w ω used low q m (StealNext r t) φ S u f = absurd (S .own .shape)
+own-works ρ κ w ω used low q m (StealCompare r e t) φ S u f = absurd (S .own .shape)
 
 -- A WORLD. A property of what the owner reads, after its step with the stores rr: they join the line or are put down at once
 pub after-step : (P : Anchor → ℕ → List ℕ → Type 0) (δ : Bool) (l : Waiting) (rr : List Store) (a : Anchor) (d : List Region) (p ω : ℕ) (m : List ℕ) → (δ ≡ false → l .count ≡ 0) → l .count ≤ length (l .stores)
@@ -409,13 +408,13 @@ unfolding if_then_else_
 claims-none g true E E′ p q = p
 claims-none g false E E′ p q = q
 
-claim-none : (κ : Kind) (w ω : ℕ) (q : Queue) (m : List ℕ) (o : Line) → lineStep κ w ω q m 0 o .claims ≡ true → workOf (lineStep κ w ω q m 0 o .line) ≡ neither
+claim-none : (ρ : Room) (κ : Kind) (w ω : ℕ) (q : Queue) (m : List ℕ) (o : Line) → lineStep ρ κ w ω q m 0 o .claims ≡ true → workOf (lineStep ρ κ w ω q m 0 o .line) ≡ neither
 unfolding lineStep
-claim-none κ w ω q m o f =
-    let (g, is, e) = claim-only κ w ω q m 0 o f in
-    subst (λ (x : Line). workOf (lineStep κ w ω q m 0 x .line) ≡ neither) (sym is) (claims-none g (fits ω q m) _ _ refl refl)
+claim-none ρ κ w ω q m o f =
+    let (g, is, e) = claim-only ρ κ w ω q m 0 o f in
+    subst (λ (x : Line). workOf (lineStep ρ κ w ω q m 0 x .line) ≡ neither) (sym is) (claims-none g (fits ρ ω q) _ _ refl refl)
 
-module _ {W : World} (H : Whole W) (G : Grows W) where
+module _ (ρ : Room) {W : World} (H : Whole W) (G : Grows W) where
   κ : Kind
   κ = W .bench .kind
 
@@ -437,52 +436,95 @@ module _ {W : World} (H : Whole W) (G : Grows W) where
 
   -- the owner's step
   abbrev StepTo : ℕ → Line → Type 0
-  StepTo i o = WorksIn (stepTo W i .world) (inLine (stepTo W i .world .bench .waiting)) o
+  StepTo i o = WorksIn (stepTo ρ W i .world) (inLine (stepTo ρ W i .world .bench .waiting)) o
 
   -- it claims or not, and u is then under way
   abbrev OwnThen : Bool → Work → Type 0
   OwnThen x u =
-      let ss = inLine (stepTo W 0 .world .bench .waiting) in
-      let rr = landing (W .bench .delayed) 0 (effectOf W 0 .stores) in
-      let d = arraysAfter x (W .bench .queue) in
+      let ss = inLine (stepTo ρ W 0 .world .bench .waiting) in
+      let rr = landing (W .bench .delayed) 0 (effectOf ρ W 0 .stores) in
+      let d = arraysAfter ρ x (W .bench .queue) in
       Works (W .bench .kind) (W .bench .words) (anchorAfter ss (anchorAfter rr (W .bench .queue .anchor))) d (places ss (places rr (W .bench .queue .published)))
-      (words (W .bench .words) d ss (words (W .bench .words) d rr (storeAfter x (W .bench .queue) (W .store)))) u
+      (words (W .bench .words) d ss (words (W .bench .words) d rr (storeAfter ρ x (W .bench .queue) (W .store)))) u
 
-  own-grows : StepTo 0 (effectOf W 0 .line)
-  own-grows = go (effectOf W 0 .claims) refl
+  own-grows : StepTo 0 (effectOf ρ W 0 .line)
+  own-grows = go (effectOf ρ W 0 .claims) refl
     where
-      go : (x : Bool) → effectOf W 0 .claims ≡ x → StepTo 0 (effectOf W 0 .line)
-      go true f = subst (OwnThen (effectOf W 0 .claims)) (sym (claim-none (W .bench .kind) (tagBits (W .bench)) (W .bench .words) _ _ (lineAt (W .bench .workers) 0) f)) tt
+      go : (x : Bool) → effectOf ρ W 0 .claims ≡ x → StepTo 0 (effectOf ρ W 0 .line)
+      go true f = subst (OwnThen (effectOf ρ W 0 .claims)) (sym (claim-none ρ (W .bench .kind) (tagBits (W .bench)) (W .bench .words) _ _ (lineAt (W .bench .workers) 0) f)) tt
       go false f =
-          subst (λ (x : Bool). OwnThen x (workOf (effectOf W 0 .line))) (sym f)
-          (after-step (λ a p m. Works (W .bench .kind) (W .bench .words) a (W .bench .queue .arrays) p m (workOf (effectOf W 0 .line))) (W .bench .delayed) (W .bench .waiting) (effectOf W 0 .stores) (W .bench .queue .anchor) (W .bench .queue .arrays) (W .bench .queue .published) (W .bench .words) (W .store) (H .mode) (in-line H)
-          (own-works _ _ _ _ _ _ _ (lineAt (W .bench .workers) 0) _ S G f))
+          subst (λ (x : Bool). OwnThen x (workOf (effectOf ρ W 0 .line))) (sym f)
+          (after-step (λ a p m. Works (W .bench .kind) (W .bench .words) a (W .bench .queue .arrays) p m (workOf (effectOf ρ W 0 .line))) (W .bench .delayed) (W .bench .waiting) (effectOf ρ W 0 .stores) (W .bench .queue .anchor) (W .bench .queue .arrays) (W .bench .queue .published) (W .bench .words) (W .store) (H .mode) (in-line H)
+          (own-works ρ _ _ _ _ _ _ _ (lineAt (W .bench .workers) 0) _ S G f))
 
   -- a thief's step
   thief-grows : (k : ℕ) → StepTo (suc k) (lineAt (W .bench .workers) 0)
-  thief-grows k = rw (thief-calm H k, thief-lands H k .0, thief-lands H k .1, T .arrays, T .words-same) (smaller (T .less))
+  thief-grows k = rw (thief-calm ρ H k, thief-lands ρ H k .0, thief-lands ρ H k .1, T .arrays, T .words-same) (smaller (T .less))
     where
-      T : Steals (W .bench .kind) (W .bench .words) (W .bench .queue) (W .store) (effectOf W (suc k) .stores)
-      T = thief-steals (W .bench .kind) (tagBits (W .bench)) (W .bench .words) (W .bench .queue) (W .store) (H .low) (suc k) (lineAt (W .bench .workers) (suc k)) (H .shape .anchor) (H .links (suc k)) (H .shape .th k)
+      T : Steals (W .bench .kind) (W .bench .words) (W .bench .queue) (W .store) (effectOf ρ W (suc k) .stores)
+      T = thief-steals ρ (W .bench .kind) (tagBits (W .bench)) (W .bench .words) (W .bench .queue) (W .store) (H .low) (suc k) (lineAt (W .bench .workers) (suc k)) (H .shape .anchor) (H .links (suc k)) (H .shape .th k)
 
       Then : Anchor → Type 0
       Then a =
           let ss = inLine (W .bench .waiting) in
           Works (W .bench .kind) (W .bench .words) (anchorAfter ss a) (W .bench .queue .arrays) (places ss (W .bench .queue .published)) (words (W .bench .words) (W .bench .queue .arrays) ss (W .store)) (workOf (lineAt (W .bench .workers) 0))
 
-      smaller : Smaller (W .bench .kind) (W .bench .queue .anchor) (anchorAfter (effectOf W (suc k) .stores) (W .bench .queue .anchor)) → Then (anchorAfter (effectOf W (suc k) .stores) (W .bench .queue .anchor))
+      smaller : Smaller (W .bench .kind) (W .bench .queue .anchor) (anchorAfter (effectOf ρ W (suc k) .stores) (W .bench .queue .anchor)) → Then (anchorAfter (effectOf ρ W (suc k) .stores) (W .bench .queue .anchor))
       smaller (inl s) =
-          works-smaller (W .bench .kind) (W .bench .words) (anchorAfter (inLine (W .bench .waiting)) (W .bench .queue .anchor)) (anchorAfter (inLine (W .bench .waiting)) (anchorAfter (effectOf W (suc k) .stores) (W .bench .queue .anchor)))
+          works-smaller (W .bench .kind) (W .bench .words) (anchorAfter (inLine (W .bench .waiting)) (W .bench .queue .anchor)) (anchorAfter (inLine (W .bench .waiting)) (anchorAfter (effectOf ρ W (suc k) .stores) (W .bench .queue .anchor)))
           (W .bench .queue .arrays) (places (inLine (W .bench .waiting)) (W .bench .queue .published)) (words (W .bench .words) (W .bench .queue .arrays) (inLine (W .bench .waiting)) (W .store)) (workOf (lineAt (W .bench .workers) 0))
-          (waiting-smaller (W .bench .kind) (tagBits (W .bench)) (W .bench .words) (W .bench .queue .arrays) (W .bench .queue .claimed) (H .low) (W .bench .queue .published) (inLine (W .bench .waiting)) (W .bench .queue .anchor) (anchorAfter (effectOf W (suc k) .stores) (W .bench .queue .anchor)) (H .shape .path) s) G
+          (waiting-smaller (W .bench .kind) (tagBits (W .bench)) (W .bench .words) (W .bench .queue .arrays) (W .bench .queue .claimed) (H .low) (W .bench .queue .published) (inLine (W .bench .waiting)) (W .bench .queue .anchor) (anchorAfter (effectOf ρ W (suc k) .stores) (W .bench .queue .anchor)) (H .shape .path) s) G
       smaller (inr e) = subst Then (sym e) G
 
-  stepped-grows : (i : ℕ) → MayStep W i → Grows (stepTo W i .world)
+  stepped-grows : (i : ℕ) → MayStep ρ W i → Grows (stepTo ρ W i .world)
   stepped-grows zero M = subst (StepTo 0) (sym (line-same (W .bench .workers) 0 _ (in-crew H 0 (M .member)))) own-grows
   stepped-grows (suc k) M = subst (StepTo (suc k)) (sym (line-other (W .bench .workers) (suc k) 0 _ (omega arith))) (thief-grows k)
 
   drained-grows : 0 < W .bench .waiting .count → Grows (drainTo W)
   drained-grows some = subst (λ (ss : List Store). WorksIn W ss (lineAt (W .bench .workers) 0)) (line-drain (W .bench .waiting) some (in-line H)) G
 
-  pub call-grows : (c : Call) → Grows (callOf W c .world)
-  call-grows c = call-cases (λ (D : Outcome). Grows (D .world)) W (λ r l. G) begun-grows stepped-grows (λ i. G) drained-grows (λ n A. G) c
+  pub call-grows : (c : Call) → Grows (callIn ρ W c .world)
+  call-grows c = call-by (λ (D : Outcome). Grows (D .world)) W (λ r l. G) ρ begun-grows stepped-grows (λ i. G) drained-grows (λ n A. G) c
+
+-- OTHERS WROTE outside the arrays
+others-works : (κ : Kind) (ω : ℕ) (a : Anchor) (q : Queue) (m m′ : List ℕ) (u : Work) → Arrays ω q m → Others q m m′ → q .claimed ≡ q .published + 1 → Works κ ω a (q .arrays) (q .published) m u → Works κ ω a (q .arrays) (q .published) m′ u
+others-works κ ω a q m m′ neither A O e w = tt
+others-works κ ω a q m m′ (copying b n k) A O e (lo, hi, r, le, C) = (
+  lo,
+  hi,
+  r,
+  le,
+  record {
+    from = C .from;
+    start = C .start;
+    low = C .low;
+    high = C .high;
+    few = C .few;
+    more = C .more;
+    copied = copied-same (agrees-others lo hi A O) (omega (arith, e)) (claimed-array ω q m lo hi A e) (C .from) (C .from + k) (C .copied);
+  },
+)
+others-works κ ω a q m m′ copied A O e (lo, hi, r, le, C) = (lo, hi, r, le, copied-same (agrees-others lo hi A O) (omega (arith, e)) (claimed-array ω q m lo hi A e) lo hi C)
+
+-- at X2 to X4 an array is claimed
+pub expanding : {W : World} (H : Whole W) → isExpanding (lineAt (W .bench .workers) 0) ≡ true → W .bench .queue .claimed ≡ places (inLine (W .bench .waiting)) (W .bench .queue .published) + 1
+unfolding if_then_else_
+expanding {W} H e = let p = places (inLine (W .bench .waiting)) (W .bench .queue .published) in H .shape .own .claims ∙ ap (λ (x : Bool). if x then p + 1 else p) e
+
+pub others-grows : {W : World} {m : List ℕ} → Whole W → Others (W .bench .queue) (W .store) m → Grows W → Grows (storing W m)
+others-grows {W} {m} H O G = go (isExpanding (lineAt (W .bench .workers) 0)) refl
+  where
+    ω : ℕ
+    ω = W .bench .words
+
+    q : Queue
+    q = W .bench .queue
+
+    ss : List Store
+    ss = inLine (W .bench .waiting)
+
+    go : (x : Bool) → isExpanding (lineAt (W .bench .workers) 0) ≡ x → Grows (storing W m)
+    go false f = subst (Works (W .bench .kind) ω (anchorAfter ss (q .anchor)) (q .arrays) (places ss (q .published)) (words ω (q .arrays) ss m)) (sym (no-work (lineAt (W .bench .workers) 0) f)) tt
+    go true f =
+        others-works (W .bench .kind) ω (anchorAfter ss (q .anchor)) (laid ss q) (words ω (q .arrays) ss (W .store)) (words ω (q .arrays) ss m) (workOf (lineAt (W .bench .workers) 0)) (shape-settle (W .bench .kind) ss (H .shape) .arrays)
+        (others-seen ω ss O) (expanding H f) G

@@ -27,7 +27,7 @@ use Rattle.model.proofs.Directory.{Size}
 use Rattle.theorems.proofs.Events.{Event, quiet, line-1, finished-put, handed-out, failed-compare, found-empty, began-put, found-full, waiting-put, drained, History, Out, Told, Concerns, Emptied, puts-since, history-at}
 use Rattle.theorems.proofs.Remainders.{tag-next}
 use Rattle.theorems.proofs.Window.{NotTold, begun-later, View, word, taskAt, Core, later, Begun, begun-told}
-use Rattle.theorems.proofs.Owed.{view, sight, tags, IsFifo, Claimed, Copied, Owed, Label}
+use Rattle.theorems.proofs.Owed.{view, sight, tags, IsFifo, Claimed, Copied, Owed, Label, Sorted}
 use Rattle.theorems.proofs.Order.{Order}
 use Rattle.theorems.proofs.Seen.{Dir, Got, Noted, Frame, Still, dir-keep, got-keep, noted-keep}
 use Rattle.theorems.proofs.Indices.{StandsFor, Start, Small, stolen-ix, taken-ix}
@@ -163,6 +163,7 @@ pub record Base (κ : Kind) (w ω : ℕ) (δ : Bool) (Q : Queue) (μ : List ℕ)
   pub tops : Tops κ hi own-hi
   pub core : Core (view ω Q μ own-lo own-hi) lo hi h
   pub sized : Size (size ω Q)
+  pub sorted : Sorted ω Q
   pub room : off Q + (ω + 1) * size ω Q ≤ length μ
   pub tag : Q .anchor .tag < 2 ^ w
   pub owed : Owed κ w δ (view ω Q μ own-lo own-hi) (Q .anchor .tag) h ss
@@ -480,6 +481,7 @@ inv-relink i x I =
             tops = I .base .tops;
             core = I .base .core;
             sized = I .base .sized;
+            sorted = I .base .sorted;
             room = I .base .room;
             tag = I .base .tag;
             owed = I .base .owed;

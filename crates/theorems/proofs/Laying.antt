@@ -25,7 +25,8 @@ use Rattle.model.proofs.Directory.{size-twice}
 use Rattle.theorems.proofs.Events.{Event, finished-put, History, Out, Answered}
 use Rattle.theorems.proofs.Words.{cell}
 use Rattle.theorems.proofs.Window.{View, taskAt, NotDone, core-shrink, core-words, core-put, core-ev}
-use Rattle.theorems.proofs.Seen.{frame-same, frame-store, frame-pub}
+use Rattle.theorems.proofs.Seen.{frame-same, frame-store, frame-pub, Older}
+use Rattle.theorems.proofs.Remainders.{le-or-lt}
 use Rattle.theorems.proofs.Indices.{StandsFor}
 use Rattle.theorems.proofs.Owed.{view, loOf, hiOf, Clear, Claimed, Copied, Fits, Owed, IsPut, owed-later}
 use Rattle.theorems.proofs.Invariant.{Tops, Base, Calm, Grow, move-calm, move-none, move-put, thief-holds, tops-refl, grow-same, tagAfter}
@@ -45,6 +46,7 @@ module _ {κ : Kind} {w ω : ℕ} {δ : Bool} {Q : Queue} {μ : List ℕ} {ol oh
         tops = B .tops;
         core = core-ev e nd (B .core);
         sized = B .sized;
+        sorted = B .sorted;
         room = B .room;
         tag = B .tag;
         owed = owed-later κ w δ v (Q .anchor .tag) h e ss (B .owed);
@@ -54,12 +56,12 @@ module _ {κ : Kind} {w ω : ℕ} {δ : Bool} {Q : Queue} {μ : List ℕ} {ol oh
   -- other stores wait
   pub base-line : (rr : List Store) → Owed κ w δ (view ω Q μ ol oh) (Q .anchor .tag) h rr → Base κ w ω δ Q μ ol oh rr φ h
   base-line rr O =
-      record { lo = B .lo; hi = B .hi; rep = B .rep; tops = B .tops; core = B .core; sized = B .sized; room = B .room; tag = B .tag; owed = O; th = B .th }
+      record { lo = B .lo; hi = B .hi; rep = B .rep; tops = B .tops; core = B .core; sized = B .sized; sorted = B .sorted; room = B .room; tag = B .tag; owed = O; th = B .th }
 
   -- words outside the owner's window
   pub base-store : (m : List ℕ) (rr : List Store) → length m ≡ length μ
       → ((i j : ℕ) → ol ≤ i → i < oh → j < ω + 1 → cell ω m (off Q) (size ω Q) i j ≡ cell ω μ (off Q) (size ω Q) i j)
-      → ((a : ℕ) → a < off Q → getD m a 0 ≡ getD μ a 0)
+      → ((b z a : ℕ) → Older (view ω Q μ ol oh) b z → b ≤ a → a < b + (ω + 1) * z → getD m a 0 ≡ getD μ a 0)
       → Owed κ w δ (view ω Q m ol oh) (Q .anchor .tag) h rr → Base κ w ω δ Q m ol oh rr φ h
   unfolding v
   base-store m rr len same low O =
@@ -70,6 +72,7 @@ module _ {κ : Kind} {w ω : ℕ} {δ : Bool} {Q : Queue} {μ : List ℕ} {ol oh
         tops = B .tops;
         core = core-words m (Q .arrays) (Q .published) (off Q) (size ω Q) (B .core) (B .core .fit) same;
         sized = B .sized;
+        sorted = B .sorted;
         room = omega (arith, B .room);
         tag = B .tag;
         owed = O;
@@ -78,7 +81,7 @@ module _ {κ : Kind} {w ω : ℕ} {δ : Bool} {Q : Queue} {μ : List ℕ} {ol oh
 
   base-word : (a x : ℕ) (rr : List Store) → Clear (view ω Q μ ol oh) a → Owed κ w δ (view ω Q (set μ a x) ol oh) (Q .anchor .tag) h rr → Base κ w ω δ Q (set μ a x) ol oh rr φ h
   unfolding cell
-  base-word a x rr C O = base-store (set μ a x) rr (length-set μ a x) (λ i j p q r. getD-set-other μ a _ x 0 (C .1 i j p q r)) (λ b l. getD-set-other μ a b x 0 (omega (arith, C .0))) O
+  base-word a x rr C O = base-store (set μ a x) rr (length-set μ a x) (λ i j p q r. getD-set-other μ a _ x 0 (C .1 i j p q r)) (λ b z c y p q. getD-set-other μ a c x 0 (λ e. C .0 b z y (omega arith) (omega arith))) O
 
   -- the next array becomes current
   base-note : (k : ℕ) (rr : List Store) → k ≡ Q .published → Claimed (view ω Q μ ol oh) → Copied (view ω Q μ ol oh) ol oh
@@ -90,22 +93,27 @@ module _ {κ : Kind} {w ω : ℕ} {δ : Bool} {Q : Queue} {μ : List ℕ} {ol oh
         hi = B .hi;
         rep = B .rep;
         tops = B .tops;
-        core = rw (eb, ez) (core-words μ (Q .arrays) (k + 1) (off Q + (ω + 1) * size ω Q) (2 * size ω Q) (B .core) (omega (arith, B .core .fit)) C);
+        core = rw (eb, ez) (core-words μ (Q .arrays) (k + 1) (offsetAt (Q .arrays) (Q .published)) (2 * size ω Q) (B .core) (omega (arith, B .core .fit)) C);
         sized = rw ez (size-twice (B .sized) (R .1));
+        sorted = λ j l. omega (arith, eb, up j (le-or-lt (Q .published - 1) j) l);
         room = rw (eb, ez) (omega (arith, R .0));
         tag = B .tag;
         owed = O;
         th = λ i.
             thief-holds
-            (rw (eb, ez) (move-none (frame-pub v (k + 1) (off Q + (ω + 1) * size ω Q) (2 * size ω Q) (omega arith) (omega arith) (omega arith) C oh) (grow-same κ v _ refl) (omega arith)))
+            (rw (eb, ez) (move-none (frame-pub v (k + 1) (offsetAt (Q .arrays) (Q .published)) (2 * size ω Q) (omega arith) (Q .published - 1, omega (arith, is, R .4), refl, refl) (omega arith) C oh) (grow-same κ v _ refl) (omega arith)))
             (φ i) (B .th i);
       }
     where
       pred : k + 1 - 1 ≡ Q .published
       pred = omega arith
 
-      eb : offsetAt (Q .arrays) (k + 1 - 1) ≡ off Q + (ω + 1) * size ω Q
-      eb = ap (offsetAt (Q .arrays)) pred ∙ R .2
+      eb : offsetAt (Q .arrays) (k + 1 - 1) ≡ offsetAt (Q .arrays) (Q .published)
+      eb = ap (offsetAt (Q .arrays)) pred
+
+      up : (j : ℕ) → (Q .published - 1 ≤ j) ⊎ (j < Q .published - 1) → suc j < k + 1 → offsetAt (Q .arrays) j + (ω + 1) * sizeAt ω (Q .arrays) j ≤ offsetAt (Q .arrays) (Q .published)
+      up j (inl a) l = subst (λ (x : ℕ). offsetAt (Q .arrays) x + (ω + 1) * sizeAt ω (Q .arrays) x ≤ offsetAt (Q .arrays) (Q .published)) {x = Q .published - 1} {y = j} (omega arith) (R .2)
+      up j (inr a) l = omega (arith, B .sorted j (omega arith), R .2)
 
       ez : sizeAt ω (Q .arrays) (k + 1 - 1) ≡ 2 * size ω Q
       ez = ap (sizeAt ω (Q .arrays)) pred ∙ R .3
@@ -124,6 +132,7 @@ module _ {κ : Kind} {w ω : ℕ} {δ : Bool} {Q : Queue} {μ : List ℕ} {ol oh
         tops = T;
         core = core-shrink ol′ oh′ a c (B .core) h1 h2 h3 h4 h5 leave;
         sized = B .sized;
+        sorted = B .sorted;
         room = B .room;
         tag = omega (arith, B .tag);
         owed = O;
@@ -144,6 +153,7 @@ module _ {κ : Kind} {w ω : ℕ} {δ : Bool} {Q : Queue} {μ : List ℕ} {ol oh
         tops = tops-refl κ oh′;
         core = rw is (core-put (taskAt v oh) a (B .core) f l u refl);
         sized = B .sized;
+        sorted = B .sorted;
         room = B .room;
         tag = lg;
         owed = O;

@@ -18,7 +18,10 @@ pub mod Valid
 pub mod ShapeStep
 pub mod Held
 pub mod Links
+pub mod ShapeOthers
 pub mod WholeRun
+pub mod Company
+pub mod Alone
 pub mod Owed
 pub mod Order
 pub mod Invariant
@@ -29,6 +32,7 @@ pub mod OwnerLines
 pub mod Claiming
 pub mod ThiefLines
 pub mod OwnerRun
+pub mod InvOthers
 pub mod Drains
 pub mod Places
 pub mod PutNumbers

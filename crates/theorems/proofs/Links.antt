@@ -8,6 +8,7 @@ use native.Mathlib.Omega.{arith}
 use lib.Dec.{eqb}
 use lib.ListN.{getD, set, replicate}
 use borrow.Author.Tests.{eqb-true, eq-eqb}
+use Rattle.model.specs.declared.Room.{Room}
 use Rattle.model.specs.declared.Growth.{Growth}
 use Rattle.model.specs.declared.Growth.the-variants.{ForPut, ForCommit}
 use Rattle.model.specs.declared.Kind.{Kind}
@@ -26,6 +27,7 @@ use Rattle.model.specs.Lines.{Effect, size, fits, succeeds, lineStep, holdsLink
 use Rattle.model.specs.World.{stage, isSteal1, isPast1}
 use Rattle.model.specs.Limits.{kindOk, readBy, linkOk}
 use Rattle.model.specs.Calls.{relinked}
+use Rattle.model.proofs.Landing.{none-held}
 use Rattle.theorems.proofs.Folds.{anchorAfter, linksAfter, laid, NonePut}
 use Rattle.theorems.proofs.Shape.{OwnShape, ThiefShape}
 
@@ -41,20 +43,18 @@ held-set (y ∷ l) (suc i) (suc k) x e = go (held-set l i k x e)
     go (inl (q, z)) = inl (ap suc q, z)
     go (inr (ne, z)) = inr (omega arith, z)
 
-pub none-held : (n k : ℕ) → getD (replicate n false) k false ≡ true → ⊥
-none-held zero k e = true≢false (sym e)
-none-held (suc n) zero e = true≢false (sym e)
-none-held (suc n) (suc k) e = none-held n k e
+pub never-held : (n k : ℕ) → getD (replicate n false) k false ≡ true → ⊥
+never-held n k e = true≢false (sym e ∙ none-held n k)
 
 -- a link that is held after stores was held before them, and none of them wrote the anchor
 pub links-held : (ss : List Store) (l : List Bool) (a : Anchor) (k : ℕ) → getD (linksAfter ss l) k false ≡ true → (getD l k false ≡ true) × (anchorAfter ss a ≡ a) × NonePut ss
 links-held [] l a k e = (e, refl, tt)
 links-held (StoreWord b s j x ∷ ss) l a k e = let (u, v, n) = links-held ss l a k e in (u, v, (tt, n))
 links-held (StoreNote c ∷ ss) l a k e = let (u, v, n) = links-held ss l a k e in (u, v, (tt, n))
-links-held (StorePut r ∷ ss) l a k e = absurd (none-held 8 k (links-held ss (replicate 8 false) r k e .0))
-links-held (StoreOut r ∷ ss) l a k e = absurd (none-held 8 k (links-held ss (replicate 8 false) r k e .0))
-links-held (StoreHead i ∷ ss) l a k e = absurd (none-held 8 k (links-held ss (replicate 8 false) a k e .0))
-links-held (StoreTail i ∷ ss) l a k e = absurd (none-held 8 k (links-held ss (replicate 8 false) a k e .0))
+links-held (StorePut r ∷ ss) l a k e = absurd (never-held 8 k (links-held ss (replicate 8 false) r k e .0))
+links-held (StoreOut r ∷ ss) l a k e = absurd (never-held 8 k (links-held ss (replicate 8 false) r k e .0))
+links-held (StoreHead i ∷ ss) l a k e = absurd (never-held 8 k (links-held ss (replicate 8 false) a k e .0))
+links-held (StoreTail i ∷ ss) l a k e = absurd (never-held 8 k (links-held ss (replicate 8 false) a k e .0))
 
 -- what a thief past its line 1 has read: now, or as before
 abbrev Leads : Queue → Line → Line → Type 0
@@ -111,32 +111,32 @@ read-last Lifo q r k t u j p = inr (refl, refl)
 read-last Fifo q r k t u j p = inr (refl, refl)
 read-last Deque q r k t u j p = inr (refl, refl)
 
-pub line-leads : (κ : Kind) (w ω : ℕ) (q : Queue) (m : List ℕ) (i low τ : ℕ) (l : Line) → Held κ w ω q low τ l → kindOk κ true ≡ true → Leads q l (lineStep κ w ω q m i l .line)
+pub line-leads : (ρ : Room) (κ : Kind) (w ω : ℕ) (q : Queue) (m : List ℕ) (i low τ : ℕ) (l : Line) → Held κ w ω q low τ l → kindOk κ true ≡ true → Leads q l (lineStep ρ κ w ω q m i l .line)
 unfolding lineStep
-line-leads κ w ω q m i low τ Idle s n = never
-line-leads κ w ω q m i low τ (PutRead t) s n = put-read q (PutRead t) κ t
-line-leads κ w ω q m i low τ (PutTail t h) s n = never
-line-leads κ w ω q m i low τ (PutTest t r) s n = either-line q (PutTest t r) (isFull κ (size ω q) r) _ _ never never
-line-leads κ w ω q m i low τ (PutWord t r j) s n = either-line q (PutWord t r j) (eqb j ω) _ _ never never
-line-leads κ w ω q m i low τ (PutFinish t r) s n = never
-line-leads κ w ω q m i low τ (Claim t) s n = either-end q (Claim t) (fits ω q m) _ _ never never
-line-leads κ w ω q m i low τ (Note t) s n = noted q (Note t) κ (size ω q) t
-line-leads κ w ω q m i low τ (Copy t h j k) s n = either-line q (Copy t h j k) (eqb (k + 1) j) _ _ never never
-line-leads κ w ω q m i low τ (Publish (ForPut t)) s n = never
-line-leads κ w ω q m i low τ (Publish ForCommit) s n = never
-line-leads κ w ω q m i low τ TakeRead s n = take-read q TakeRead κ
-line-leads κ w ω q m i low τ (TakeTail h) s n = never
-line-leads κ w ω q m i low τ (TakeTest r) s n = either-end q (TakeTest r) (isEmpty κ r) _ _ never never
-line-leads κ w ω q m i low τ (TakeWord r t j) s n = either-line q (TakeWord r t j) (eqb j ω) _ _ never never
-line-leads κ w ω q m i low τ (TakeFinish r t) s n = never
-line-leads κ w ω q m i low τ StealRead s n = read-now κ q n
-line-leads κ w ω q m i low τ (StealTail h) (inl s) n = absurd s
-line-leads κ w ω q m i low τ (StealTail h) (inr s) n = tail-none κ w ω q τ h n s
-line-leads κ w ω q m i low τ (StealTest r) s n = either-end q (StealTest r) (isEmpty κ r) _ _ never (λ p. inr (refl, refl))
-line-leads κ w ω q m i low τ (StealNote r) s n = λ p. inr (refl, refl)
-line-leads κ w ω q m i low τ (StealWord r k t j) s n = either-line q (StealWord r k t j) (eqb j ω) _ _ (read-last κ q r k t _ j) (λ p. inr (refl, refl))
-line-leads κ w ω q m i low τ (StealNext r t) s n = λ p. inr (refl, refl)
-line-leads κ w ω q m i low τ (StealCompare r e t) s n = either-end q (StealCompare r e t) (succeeds κ q i r) _ _ never never
+line-leads ρ κ w ω q m i low τ Idle s n = never
+line-leads ρ κ w ω q m i low τ (PutRead t) s n = put-read q (PutRead t) κ t
+line-leads ρ κ w ω q m i low τ (PutTail t h) s n = never
+line-leads ρ κ w ω q m i low τ (PutTest t r) s n = either-line q (PutTest t r) (isFull κ (size ω q) r) _ _ never never
+line-leads ρ κ w ω q m i low τ (PutWord t r j) s n = either-line q (PutWord t r j) (eqb j ω) _ _ never never
+line-leads ρ κ w ω q m i low τ (PutFinish t r) s n = never
+line-leads ρ κ w ω q m i low τ (Claim t) s n = either-end q (Claim t) (fits ρ ω q) _ _ never never
+line-leads ρ κ w ω q m i low τ (Note t) s n = noted q (Note t) κ (size ω q) t
+line-leads ρ κ w ω q m i low τ (Copy t h j k) s n = either-line q (Copy t h j k) (eqb (k + 1) j) _ _ never never
+line-leads ρ κ w ω q m i low τ (Publish (ForPut t)) s n = never
+line-leads ρ κ w ω q m i low τ (Publish ForCommit) s n = never
+line-leads ρ κ w ω q m i low τ TakeRead s n = take-read q TakeRead κ
+line-leads ρ κ w ω q m i low τ (TakeTail h) s n = never
+line-leads ρ κ w ω q m i low τ (TakeTest r) s n = either-end q (TakeTest r) (isEmpty κ r) _ _ never never
+line-leads ρ κ w ω q m i low τ (TakeWord r t j) s n = either-line q (TakeWord r t j) (eqb j ω) _ _ never never
+line-leads ρ κ w ω q m i low τ (TakeFinish r t) s n = never
+line-leads ρ κ w ω q m i low τ StealRead s n = read-now κ q n
+line-leads ρ κ w ω q m i low τ (StealTail h) (inl s) n = absurd s
+line-leads ρ κ w ω q m i low τ (StealTail h) (inr s) n = tail-none κ w ω q τ h n s
+line-leads ρ κ w ω q m i low τ (StealTest r) s n = either-end q (StealTest r) (isEmpty κ r) _ _ never (λ p. inr (refl, refl))
+line-leads ρ κ w ω q m i low τ (StealNote r) s n = λ p. inr (refl, refl)
+line-leads ρ κ w ω q m i low τ (StealWord r k t j) s n = either-line q (StealWord r k t j) (eqb j ω) _ _ (read-last κ q r k t _ j) (λ p. inr (refl, refl))
+line-leads ρ κ w ω q m i low τ (StealNext r t) s n = λ p. inr (refl, refl)
+line-leads ρ κ w ω q m i low τ (StealCompare r e t) s n = either-end q (StealCompare r e t) (succeeds κ q i r) _ _ never never
 
 -- the limit on a link, by its parts
 pub link-parts : (κ : Kind) (q : Queue) (l : Line) → linkOk κ q l ≡ true → (q .linked ≡ true) × (isPast1 l ≡ true) × (isSame κ (q .anchor) (readBy l) ≡ true)
@@ -187,20 +187,20 @@ pub own-unlinked : (κ : Kind) (w ω z low τ : ℕ) (l : Line) (x : Bool) → O
 own-unlinked κ w ω z low τ l x s e = own-past κ w ω z low τ l s (and-left _ _ e)
 
 -- a thief, worker i at the line l, steps, and holds a link then: it was line 1, or the link was held before
-module _ (κ : Kind) (w ω : ℕ) (q : Queue) (m : List ℕ) (i low τ : ℕ) (l : Line) (kinds : kindOk κ (q .linked) ≡ true) (s : Held κ w ω q low τ l)
+module _ (ρ : Room) (κ : Kind) (w ω : ℕ) (q : Queue) (m : List ℕ) (i low τ : ℕ) (l : Line) (kinds : kindOk κ (q .linked) ≡ true) (s : Held κ w ω q low τ l)
     (ok : holdsLink q i ≡ true → linkOk κ q l ≡ true) where
   abbrev E : Effect
-  E = lineStep κ w ω q m i l
+  E = lineStep ρ κ w ω q m i l
 
   abbrev Q : Queue
-  Q = laid (lineStep κ w ω q m i l .stores) q
+  Q = laid (lineStep ρ κ w ω q m i l .stores) q
 
-  leads : q .linked ≡ true → Leads q l (lineStep κ w ω q m i l .line)
-  leads e = line-leads κ w ω q m i low τ l s (subst (λ (x : Bool). kindOk κ x ≡ true) e kinds)
+  leads : q .linked ≡ true → Leads q l (lineStep ρ κ w ω q m i l .line)
+  leads e = line-leads ρ κ w ω q m i low τ l s (subst (λ (x : Bool). kindOk κ x ≡ true) e kinds)
 
-  read-same : l ≡ StealRead → laid (lineStep κ w ω q m i l .stores) q .anchor ≡ q .anchor
+  read-same : l ≡ StealRead → laid (lineStep ρ κ w ω q m i l .stores) q .anchor ≡ q .anchor
   unfolding lineStep
-  read-same e = ap (λ (x : Line). anchorAfter (lineStep κ w ω q m i x .stores) (q .anchor)) e
+  read-same e = ap (λ (x : Line). anchorAfter (lineStep ρ κ w ω q m i x .stores) (q .anchor)) e
 
   pub linked-now : (isPast1 (E .line) and ((q .linked and isSteal1 l) or holdsLink Q i)) ≡ true
       → ((l ≡ StealRead) ⊎ (holdsLink Q i ≡ true)) × (linkOk κ (relinked Q i l (E .line)) (E .line) ≡ true)

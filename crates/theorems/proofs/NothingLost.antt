@@ -9,6 +9,7 @@ use Prim.Native.Nat.{ℕ, zero, suc, _+_, _-_, _%_, _≤_, _<_}
 use native.Mathlib.Omega.{arith}
 use native.Mathlib.Nat.{mod-eq-of-lt}
 use lib.ListN.{take, drop}
+use Rattle.model.specs.declared.Room.{Room}
 use Rattle.model.specs.declared.Kind.{Kind}
 use Rattle.model.specs.declared.Kind.the-variants.{Lifo, Fifo, Deque}
 use Rattle.model.specs.declared.Task.{Task}
@@ -25,11 +26,11 @@ use Rattle.model.specs.Figures.{slot}
 use Rattle.theorems.proofs.Words.{off}
 use Rattle.model.specs.Lines.{size, wordOf}
 use Rattle.model.specs.World.{World, Outcome, tagBits}
-use Rattle.model.specs.Calls.{freshOf, Call, drain, callOf}
+use Rattle.model.specs.Calls.{freshOf, Call, drain, callIn}
 use Rattle.model.specs.Listing.{isRefused}
-use Rattle.model.specs.Run.{Played, played, after}
+use Rattle.model.specs.Run.{Played}
 use Rattle.model.specs.Window.{tasks, windowIndex}
-use Rattle.theorems.specs.Demand3.{At, Begins, Finishes, HandsOut, Empties, Attempt, Done, FinishedBefore, DrainedBy, Concerned, AllOut, Stands, waits, drains, between, NothingLost}
+use Rattle.theorems.specs.Demand3.{At, Begins, Finishes, HandsOut, Empties, Attempt, Done, FinishedBefore, DrainedBy, Concerned, AllOut, Stands, waits, drains, between, NothingLost, FewPutsIn, Sound}
 use Rattle.theorems.proofs.Words.{cell, word-W}
 use Rattle.theorems.proofs.Events.{Event, quiet, line-1, finished-put, handed-out, found-empty, began-put, waiting-put, event-of-finish, event-of-drain, History, Out, Told, Concerns, Emptied, GoodHistory, GoodEvent, Premise}
 use Rattle.theorems.proofs.Remainders.{le-or-lt}
@@ -38,12 +39,13 @@ use Rattle.theorems.proofs.Owed.{view, Label}
 use Rattle.theorems.proofs.Invariant.{Base, Since, Due, DueIf, drain-of}
 use Rattle.theorems.proofs.Settle.{Settled, settle}
 use Rattle.theorems.proofs.OwnerRun.{all-done}
-use Rattle.theorems.proofs.Cases.{drain-cases}
+use Rattle.theorems.proofs.Cases.{drain-by}
 use Rattle.theorems.proofs.Valid.{thieves, Whole}
-use Rattle.theorems.proofs.WholeRun.{call-whole}
+use Rattle.theorems.proofs.WholeRun.{storing, others-whole, call-whole}
+use Rattle.theorems.proofs.Company.{Turn, others, own, playedIn, afterIn, InCompany}
 use Rattle.theorems.proofs.Places.{EventAt, EventLine1, events-between, rev, past, said-rev, prem-rev, mem-rev, at-mem, at-rev, rev-at, line1-at, prem-at, newest, at-one}
 use Rattle.theorems.proofs.SoundRun.{event-in, event-at, events, InvOf, call-like, prem-tail, run-kept}
-use Rattle.theorems.proofs.Fresh.{Started, fresh-started, fresh-runs}
+use Rattle.theorems.proofs.Fresh.{Started, fresh-started, fresh-runs, from-company}
 use Rattle.theorems.proofs.PutNumbers.{one-number}
 use Rattle.theorems.proofs.Translate.{at-map, at-some, at-true, True, to-ev, from-ev, told, done-ev, ev-wait, ev-began, empty-ev, out-ev, ev-out, ev-attempt, few-ev, drain-sum, drained-is, delayed-all}
 
@@ -76,16 +78,17 @@ stands-read : (W : World) (t : Task)
 stands-read W t s = subst (StandsIn W t) (sym (landed-is (W .bench .words) (W .bench .queue) (W .store) (inLine (W .bench .waiting)))) s
 
 -- PLACES. A call of the list: its answer is the call's, its state is whole, and stores are delayed as at the start
-pub record Sound (δ : Bool) (s : Played) : Type 0 where
+pub record Fair (δ : Bool) (s : Played) : Type 0 where
   pub true-answer : True s
   pub whole : Whole (s .before)
   pub way : s .before .bench .delayed ≡ δ
 
-pub at-sound : (cs : List Call) (W : World) (δ : Bool) → Whole W → W .bench .delayed ≡ δ → (j : ℕ) (P Q : Played → Type 0) → ((s : Played) → Sound δ s → P s → Q s) → At (played W cs) j P → At (played W cs) j Q
-unfolding played
-at-sound [] W δ H e j P Q f a = a
-at-sound (c ∷ cs) W δ H e zero P Q f a = f _ (record { true-answer = refl; whole = H; way = e }) a
-at-sound (c ∷ cs) W δ H e (suc j) P Q f a = at-sound cs (callOf W c .world) δ (call-whole H c) (call-like W c .delayed ∙ e) j P Q f a
+pub at-sound : (ts : List Turn) (W : World) (δ : Bool) → InCompany W ts → Whole W → W .bench .delayed ≡ δ → (j : ℕ) (P Q : Played → Type 0) → ((s : Played) → Fair δ s → P s → Q s) → At (playedIn W ts) j P → At (playedIn W ts) j Q
+unfolding playedIn InCompany
+at-sound [] W δ C H e j P Q f a = a
+at-sound (others m ∷ ts) W δ (O, C) H e j P Q f a = at-sound ts (storing W m) δ C (others-whole H O) e j P Q f a
+at-sound (own ρ c ∷ ts) W δ (R, C) H e zero P Q f a = f _ (record { true-answer = (ρ, refl); whole = H; way = e }) a
+at-sound (own ρ c ∷ ts) W δ (R, C) H e (suc j) P Q f a = at-sound ts (callIn ρ W c .world) δ C (call-whole ρ H R c) (call-like ρ W c .delayed ∙ e) j P Q f a
 
 at-both : (T : List Played) (j : ℕ) (P Q : Played → Type 0) → At T j P → At T j Q → At T j (λ s. P s × Q s)
 at-both [] j P Q a b = a
@@ -98,10 +101,10 @@ at-const (s ∷ T) zero C a = a
 at-const (s ∷ T) (suc j) C a = at-const T j C a
 
 -- without delayed stores no drain puts anything down
-drain-refused : (W : World) → Whole W → W .bench .delayed ≡ false → isRefused (callOf W drain .answer) ≡ true
-drain-refused W H e = drain-cases (λ (D : Outcome). isRefused (D .answer) ≡ true) W (λ r l. refl) (λ some. absurd (omega (arith, H .mode e)))
+drain-refused : (ρ : Room) (W : World) → Whole W → W .bench .delayed ≡ false → isRefused (callIn ρ W drain .answer) ≡ true
+drain-refused ρ W H e = drain-by (λ (D : Outcome). isRefused (D .answer) ≡ true) W (λ r l. refl) ρ (λ some. absurd (omega (arith, H .mode e)))
 
-finished-now : (t : Task) (s : Played) → Sound false s → event-at s ≡ finished-put t → Finishes t s
+finished-now : (t : Task) (s : Played) → Fair false s → event-at s ≡ finished-put t → Finishes t s
 finished-now t s S e = go (told s (finished-put t) e)
   where
     go : ((i : ℕ) × (s .answer ≡ Finished i t) × (s .before .bench .delayed ≡ false)) ⊎ (s .call ≡ drain) → Finishes t s
@@ -109,7 +112,7 @@ finished-now t s S e = go (told s (finished-put t) e)
     go (inr c) = absurd (never none)
       where
         refused : isRefused (s .answer) ≡ true
-        refused = ap isRefused (S .true-answer ∙ ap (λ (c : Call). callOf (s .before) c .answer) c) ∙ drain-refused (s .before) (S .whole) (S .way)
+        refused = ap isRefused (S .true-answer .1 ∙ ap (λ (c : Call). callIn (S .true-answer .0) (s .before) c .answer) c) ∙ drain-refused (S .true-answer .0) (s .before) (S .whole) (S .way)
 
         never : quiet ≡ finished-put t → ⊥
         never q = let z : _≡_ {A = ℕ} 0 1 = cc in omega arith
@@ -118,13 +121,13 @@ finished-now t s S e = go (told s (finished-put t) e)
         none = sym (ap (λ (x : Bool). cond x quiet (event-of-drain (s .before .bench .kind) (s .before .bench .words) (s .before .bench .queue) (s .before .store) (oldest (s .before .bench .waiting)))) refused) ∙ sym (ap (λ (c : Call). event-in (s .before) c (s .answer)) c) ∙ e
 
 -- the event of a call that finishes a put
-finish-now : (t : Task) (s : Played) → Sound false s → Finishes t s → event-at s ≡ finished-put t
+finish-now : (t : Task) (s : Played) → Fair false s → Finishes t s → event-at s ≡ finished-put t
 finish-now t s S f = done-ev t s (S .true-answer) f ∙ ap (λ (δ : Bool). event-of-finish δ (s .before .bench .waiting .count) t) (S .way)
 
-finish-later : (t : Task) (s : Played) → Sound true s → Finishes t s → event-at s ≡ waiting-put t (s .before .bench .waiting .count + 1)
+finish-later : (t : Task) (s : Played) → Fair true s → Finishes t s → event-at s ≡ waiting-put t (s .before .bench .waiting .count + 1)
 finish-later t s S f = done-ev t s (S .true-answer) f ∙ ap (λ (δ : Bool). event-of-finish δ (s .before .bench .waiting .count) t) (S .way)
 
-waits-is : (s : Played) → Sound true s → waits s ≡ s .before .bench .waiting .count + 1
+waits-is : (s : Played) → Fair true s → waits s ≡ s .before .bench .waiting .count + 1
 unfolding if_then_else_
 waits-is s S = ap (λ (δ : Bool). if δ then s .before .bench .waiting .count + 1 else 0) (S .way)
 
@@ -146,17 +149,32 @@ since-at t n (x ∷ E) (suc k) (suc l) h a p =
     subst (λ (y : ℕ). Since t n y (rev (take l E) (x ∷ h))) {x = drain-sum (take (l - suc k) (drop (suc k) E))} {y = drain-sum (take (suc l - suc (suc k)) (drop (suc k) E))}
     (ap (λ (m : ℕ). drain-sum (take m (drop (suc k) E))) {x = l - suc k} {y = suc l - suc (suc k)} (omega arith)) (since-at t n E k l (x ∷ h) a (omega arith))
 
-after-like : (cs : List Call) (W : World) → after W cs .bench .delayed ≡ W .bench .delayed
-unfolding after
+after-like : (ts : List Turn) (W : World) → afterIn W ts .bench .delayed ≡ W .bench .delayed
+unfolding afterIn
 after-like [] W = refl
-after-like (c ∷ cs) W = after-like cs (callOf W c .world) ∙ call-like W c .delayed
+after-like (others m ∷ ts) W = after-like ts (storing W m)
+after-like (own ρ c ∷ ts) W = after-like ts (callIn ρ W c .world) ∙ call-like ρ W c .delayed
 
--- the first l calls
-events-front : (cs : List Call) (W : World) (l : ℕ) → events (played W (take l cs)) ≡ take l (events (played W cs))
-unfolding played
-events-front cs W zero = refl
+-- the turns up to the first l calls
+front : ℕ → List Turn → List Turn
+front zero ts = []
+front (suc l) [] = []
+front (suc l) (others m ∷ ts) = others m ∷ front (suc l) ts
+front (suc l) (own ρ c ∷ ts) = own ρ c ∷ front l ts
+
+events-front : (ts : List Turn) (W : World) (l : ℕ) → events (playedIn W (front l ts)) ≡ take l (events (playedIn W ts))
+unfolding playedIn front
+events-front ts W zero = refl
 events-front [] W (suc l) = refl
-events-front (c ∷ cs) W (suc l) = ap (λ (x : List Event). event-in W c (callOf W c .answer) ∷ x) (events-front cs (callOf W c .world) l)
+events-front (others m ∷ ts) W (suc l) = events-front ts (storing W m) (suc l)
+events-front (own ρ c ∷ ts) W (suc l) = ap (λ (x : List Event). event-in W c (callIn ρ W c .answer) ∷ x) (events-front ts (callIn ρ W c .world) l)
+
+company-front : (ts : List Turn) (W : World) (l : ℕ) → InCompany W ts → InCompany W (front l ts)
+unfolding InCompany front
+company-front ts W zero C = tt
+company-front [] W (suc l) C = tt
+company-front (others m ∷ ts) W (suc l) (O, C) = (O, company-front ts (storing W m) (suc l) C)
+company-front (own ρ c ∷ ts) W (suc l) (R, C) = (R, company-front ts (callIn ρ W c .world) l C)
 
 premise-front : (κ : Kind) (w : ℕ) (T : List Event) (l : ℕ) (h : History) → Premise κ w (rev T h) → Premise κ w (rev (take l T) h)
 unfolding rev
@@ -164,52 +182,46 @@ premise-front κ w T zero h f = prem-tail κ w T h f
 premise-front κ w [] (suc l) h f = f
 premise-front κ w (e ∷ T) (suc l) h f = premise-front κ w T l (e ∷ h) f
 
--- demand 3
-pub demand3 : NothingLost
+-- demand 3 of a queue in company
+pub sound-in : (ts : List Turn) (U : World) → Started U → InCompany U ts → FewPutsIn (U .bench .kind) (tagBits (U .bench)) (playedIn U ts) → Sound (playedIn U ts) (afterIn U ts)
 unfolding past
-demand3 s m l e cs f =
+sound-in ts U F C f =
     record {
       kept = λ b j t D. keep t (Z .base .core .all t (all-done _ _ _ _ _ _ _ _ _ _ _ Z (R .0 .due) t (ended-in t j (at-end j t (D .finished)))));
-      belongs = λ j t a. gave j t (at-some T j (λ i s. event-at s ≡ handed-out i t) (at-true cs U j (HandsOut t) (λ s. (i : ℕ) × (event-at s ≡ handed-out i t)) (out-ev t) a));
-      none-left = λ j i a. left j i (ev j (found-empty i) (at-true cs U j (Empties i) (λ s. event-at s ≡ found-empty i) (empty-ev i) a));
+      belongs = λ j t a. gave j t (at-some T j (λ i s. event-at s ≡ handed-out i t) (at-true ts U j (HandsOut t) (λ s. (i : ℕ) × (event-at s ≡ handed-out i t)) (out-ev t) a));
+      none-left = λ j i a. left j i (ev j (found-empty i) (at-true ts U j (Empties i) (λ s. event-at s ≡ found-empty i) (empty-ev i) a));
       ended = λ j t a. begun j t (at-end j t a);
-      numbers = one-number cs U;
+      numbers = one-number ts U;
     }
   where
-    U : World
-    U = freshOf s m l .world
-
-    F : Started U
-    F = fresh-started s m l e
-
     d : Bool
     d = U .bench .delayed
 
     T : List Played
-    T = played U cs
+    T = playedIn U ts
 
     E : List Event
     E = events T
 
     prem : Premise (U .bench .kind) (tagBits (U .bench)) (rev E [])
-    prem = prem-rev (U .bench .kind) (tagBits (U .bench)) E [] (prem-at (U .bench .kind) (tagBits (U .bench)) E (few-ev cs U f)) tt
+    prem = prem-rev (U .bench .kind) (tagBits (U .bench)) E [] (prem-at (U .bench .kind) (tagBits (U .bench)) E (few-ev ts U f)) tt
 
-    R : InvOf (after U cs) (rev E []) × GoodHistory d (rev E [])
-    R = run-kept (U .bench .kind) (tagBits (U .bench)) d cs U [] (fresh-runs U F) prem
+    R : InvOf (afterIn U ts) (rev E []) × GoodHistory d (rev E [])
+    R = run-kept (U .bench .kind) (tagBits (U .bench)) d ts U [] C (fresh-runs U F) prem
 
     Q : Queue
-    Q = after U cs .bench .queue
+    Q = afterIn U ts .bench .queue
 
     μ : List ℕ
-    μ = after U cs .store
+    μ = afterIn U ts .store
 
     v : ℕ
-    v = after U cs .bench .words
+    v = afterIn U ts .bench .words
 
     ss : List Store
-    ss = inLine (after U cs .bench .waiting)
+    ss = inLine (afterIn U ts .bench .waiting)
 
-    Z : Settled (after U cs .bench .kind) (tagBits (after U cs .bench)) (after U cs .bench .words) (after U cs .bench .delayed) (after U cs .bench .queue) (after U cs .store) (R .0 .own-lo) (R .0 .own-hi) (inLine (after U cs .bench .waiting)) (thieves (after U cs .bench .workers)) (rev E [])
+    Z : Settled (afterIn U ts .bench .kind) (tagBits (afterIn U ts .bench)) (afterIn U ts .bench .words) (afterIn U ts .bench .delayed) (afterIn U ts .bench .queue) (afterIn U ts .store) (R .0 .own-lo) (R .0 .own-hi) (inLine (afterIn U ts .bench .waiting)) (thieves (afterIn U ts .bench .workers)) (rev E [])
     Z = settle _ _ _ _ _ _ _ _ _ _ _ (R .0 .base)
 
     ev : (j : ℕ) (x : Event) → At T j (λ s. event-at s ≡ x) → EventAt E j x
@@ -233,9 +245,9 @@ demand3 s m l e cs f =
     at-end j t a = go d refl
       where
         go : (x : Bool) → d ≡ x → Ends j t
-        go false q = inl (q, ev j (finished-put t) (at-sound cs U false (F .whole) q j (Finishes t) (λ s. event-at s ≡ finished-put t) (finish-now t) a))
+        go false q = inl (q, ev j (finished-put t) (at-sound ts U false C (F .whole) q j (Finishes t) (λ s. event-at s ≡ finished-put t) (finish-now t) a))
         go true q =
-            let r = at-some T j (λ n s. event-at s ≡ waiting-put t n) (at-sound cs U true (F .whole) q j (Finishes t) (λ s. (n : ℕ) × (event-at s ≡ waiting-put t n)) (λ s S x. (_, finish-later t s S x)) a) in
+            let r = at-some T j (λ n s. event-at s ≡ waiting-put t n) (at-sound ts U true C (F .whole) q j (Finishes t) (λ s. (n : ℕ) × (event-at s ≡ waiting-put t n)) (λ s S x. (_, finish-later t s S x)) a) in
             inr (q, r .0, ev j (waiting-put t (r .0)) (r .1))
 
     ended-in : (t : Task) (j : ℕ) → Ends j t → Told t (rev E [])
@@ -260,7 +272,7 @@ demand3 s m l e cs f =
     begun j t (inr (q, n, a)) = waited j t n a
     begun j t (inl (q, a)) =
         began-at j t (subst (λ (x : Bool). GoodEvent x (finished-put t) (past E j)) q (good j (finished-put t) a))
-        (at-sound cs U false (F .whole) q j (λ s. event-at s ≡ finished-put t) (Finishes t) (finished-now t) (from-ev T j (finished-put t) a))
+        (at-sound ts U false C (F .whole) q j (λ s. event-at s ≡ finished-put t) (Finishes t) (finished-now t) (from-ev T j (finished-put t) a))
 
     -- what was answered finished, and what is in memory, was finished before
     before-wait : (j : ℕ) (t : Task) → (n : ℕ) × List·Memᴰ (waiting-put t n) (past E j) → FinishedBefore T j t
@@ -297,11 +309,11 @@ demand3 s m l e cs f =
     apart-too i t n q = let z : _≡_ {A = ℕ} 0 1 = cc in omega arith
 
     -- the invariant at place l
-    then-inv : (l : ℕ) → InvOf (after U (take l cs)) (past E l)
+    then-inv : (l : ℕ) → InvOf (afterIn U (front l ts)) (past E l)
     then-inv l =
-        subst (λ (x : List Event). InvOf (after U (take l cs)) (rev x [])) (events-front cs U l)
-        (run-kept (U .bench .kind) (tagBits (U .bench)) d (take l cs) U [] (fresh-runs U F)
-        (subst (λ (x : List Event). Premise (U .bench .kind) (tagBits (U .bench)) (rev x [])) (sym (events-front cs U l)) (premise-front (U .bench .kind) (tagBits (U .bench)) E l [] prem)) .0)
+        subst (λ (x : List Event). InvOf (afterIn U (front l ts)) (rev x [])) (events-front ts U l)
+        (run-kept (U .bench .kind) (tagBits (U .bench)) d (front l ts) U [] (company-front ts U l C) (fresh-runs U F)
+        (subst (λ (x : List Event). Premise (U .bench .kind) (tagBits (U .bench)) (rev x [])) (sym (events-front ts U l)) (premise-front (U .bench .kind) (tagBits (U .bench)) E l [] prem)) .0)
 
     -- a put that is drained by place l is in memory then
     landed : (l k : ℕ) (t : Task) → d ≡ true → k < l → At T k (Finishes t) → DrainedBy T k l → List·Memᴰ (finished-put t) (past E l)
@@ -313,7 +325,7 @@ demand3 s m l e cs f =
         r : (n : ℕ) × At T k (λ s. (event-at s ≡ waiting-put t n) × (n ≤ drains (between k l T)))
         r =
             at-some T k (λ n s. (event-at s ≡ waiting-put t n) × (n ≤ drains (between k l T)))
-            (at-sound cs U true (F .whole) q k (λ s. Finishes t s × (waits s ≤ drains (between k l T))) (λ s. (n : ℕ) × ((event-at s ≡ waiting-put t n) × (n ≤ drains (between k l T))))
+            (at-sound ts U true C (F .whole) q k (λ s. Finishes t s × (waits s ≤ drains (between k l T))) (λ s. (n : ℕ) × ((event-at s ≡ waiting-put t n) × (n ≤ drains (between k l T))))
             (λ s S x. (s .before .bench .waiting .count + 1, (finish-later t s S (x .0), omega (arith, waits-is s S, x .1)))) (at-both T k (Finishes t) (λ s. waits s ≤ drains (between k l T)) a b))
 
         here : EventAt E k (waiting-put t (r .0))
@@ -325,21 +337,21 @@ demand3 s m l e cs f =
         S : Since t (r .0) (drain-sum (events-between k l E)) (past E l)
         S = since-at t (r .0) E k l [] here less
 
-        J : InvOf (after U (take l cs)) (past E l)
+        J : InvOf (afterIn U (front l ts)) (past E l)
         J = then-inv l
 
-        D : Due (after U (take l cs) .bench .kind) (view (after U (take l cs) .bench .words) (after U (take l cs) .bench .queue) (after U (take l cs) .store) (J .own-lo) (J .own-hi)) (inLine (after U (take l cs) .bench .waiting)) (past E l)
+        D : Due (afterIn U (front l ts) .bench .kind) (view (afterIn U (front l ts) .bench .words) (afterIn U (front l ts) .bench .queue) (afterIn U (front l ts) .store) (J .own-lo) (J .own-hi)) (inLine (afterIn U (front l ts) .bench .waiting)) (past E l)
         D =
-            subst (λ (x : Bool). DueIf x (after U (take l cs) .bench .kind) (view (after U (take l cs) .bench .words) (after U (take l cs) .bench .queue) (after U (take l cs) .store) (J .own-lo) (J .own-hi)) (inLine (after U (take l cs) .bench .waiting)) (past E l))
-            (after-like (take l cs) U ∙ q) (J .due)
+            subst (λ (x : Bool). DueIf x (afterIn U (front l ts) .bench .kind) (view (afterIn U (front l ts) .bench .words) (afterIn U (front l ts) .bench .queue) (afterIn U (front l ts) .store) (J .own-lo) (J .own-hi)) (inLine (afterIn U (front l ts) .bench .waiting)) (past E l))
+            (after-like (front l ts) U ∙ q) (J .due)
 
-        go : List·Memᴰ (finished-put t) (past E l) ⊎ ((drain-sum (events-between k l E) < r .0) × Label (after U (take l cs) .bench .kind) (view (after U (take l cs) .bench .words) (after U (take l cs) .bench .queue) (after U (take l cs) .store) (J .own-lo) (J .own-hi)) (inLine (after U (take l cs) .bench .waiting)) (r .0 - 1 - drain-sum (events-between k l E)) t)
+        go : List·Memᴰ (finished-put t) (past E l) ⊎ ((drain-sum (events-between k l E) < r .0) × Label (afterIn U (front l ts) .bench .kind) (view (afterIn U (front l ts) .bench .words) (afterIn U (front l ts) .bench .queue) (afterIn U (front l ts) .store) (J .own-lo) (J .own-hi)) (inLine (afterIn U (front l ts) .bench .waiting)) (r .0 - 1 - drain-sum (events-between k l E)) t)
             → List·Memᴰ (finished-put t) (past E l)
         go (inl x) = x
-        go (inr (y, z)) = absurd (omega (arith, y, enough, drained-is T k l (delayed-all cs U q)))
+        go (inr (y, z)) = absurd (omega (arith, y, enough, drained-is T k l (delayed-all ts U q)))
 
     left : (j i : ℕ) → EventAt E j (found-empty i) → (l : ℕ) × Attempt T i l j × AllOut T i l j
-    left j i a = (N .0, ev-attempt cs U i (N .0) j (N .1), λ b k t D h C. out j t (G .1 t (rw (line1-at E i (N .0) j (found-empty i) a (N .1) .0) (concerned i k t (N .1 .here) (D .finished) h C))))
+    left j i a = (N .0, ev-attempt ts U i (N .0) j (N .1), λ b k t D h C. out j t (G .1 t (rw (line1-at E i (N .0) j (found-empty i) a (N .1) .0) (concerned i k t (N .1 .here) (D .finished) h C))))
       where
         G : List·Memᴰ (line-1 i) (past E j) × Emptied i (past E j)
         G = good j (found-empty i) a
@@ -375,7 +387,7 @@ demand3 s m l e cs f =
             go (inr (q, n, y)) = landed (N .0) k t q (earlier k t x (inr (q, n, y)) h) b C
 
     keep : (t : Task) → Out t (Z .past) ⊎ ((i : ℕ) × (Z .base .lo ≤ i) × (i < Z .base .hi) × (gathered (v + 1) (cell v (words v (Q .arrays) ss μ) (off (laid ss Q)) (size v (laid ss Q)) i) ≡ t))
-        → ((k : ℕ) × At T k (HandsOut t)) ⊎ Stands (after U cs) t
+        → ((k : ℕ) × At T k (HandsOut t)) ⊎ Stands (afterIn U ts) t
     keep t (inl o) = inl (some (Z .outs t o .0) (rev-at E [] (handed-out (Z .outs t o .0) t) (Z .outs t o .1)))
       where
         some : (i : ℕ) → ((k : ℕ) × EventAt E k (handed-out i t)) ⊎ List·Memᴰ (handed-out i t) [] → (k : ℕ) × At T k (HandsOut t)
@@ -383,8 +395,14 @@ demand3 s m l e cs f =
         some i (inr r) = absurd (List·Memᴰ·not-nil r)
     keep t (inr (i, l, u, x)) =
         let S = in-slot _ _ _ _ _ _ _ _ _ _ (Z .base) i l u in
-        inr (stands-read (after U cs) t (
+        inr (stands-read (afterIn U ts) t (
           S .0,
           S .1,
           same-words (v + 1) _ _ (λ j h. word-W v (words v (Q .arrays) ss μ) (off (laid ss Q)) (size v (laid ss Q)) _ i j (S .2)) ∙ x,
         ))
+
+-- and of a lone one
+pub demand3 : NothingLost
+demand3 s m l e cs =
+    let U = freshOf s m l .world in
+    from-company (λ (T : List Played) (X : World). FewPutsIn (U .bench .kind) (tagBits (U .bench)) T → Sound T X) s m l e (λ ts C. sound-in ts U (fresh-started s m l e) C) cs

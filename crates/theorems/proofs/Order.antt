@@ -269,8 +269,8 @@ unfolding cell
 words-lay w δ v num g (StoreWord b s j x) h f m R = λ i p q. getD-set-other (v .store) _ _ x 0 (f .1 i 0 p q (omega arith)) ∙ R i p q
 words-lay w δ v num g (StoreNote k) h f m R = λ i p q. rw (eb, ez) (f .2 i 0 p q (omega arith)) ∙ R i p q
   where
-    eb : offsetAt (v .directory) (k + 1 - 1) ≡ v .base + (v .words + 1) * v .slots
-    eb = ap (offsetAt (v .directory)) {x = k + 1 - 1} {y = v .published} (omega (arith, f .0)) ∙ f .1 .2
+    eb : offsetAt (v .directory) (k + 1 - 1) ≡ offsetAt (v .directory) (v .published)
+    eb = ap (offsetAt (v .directory)) {x = k + 1 - 1} {y = v .published} (omega (arith, f .0))
 
     ez : sizeAt (v .words) (v .directory) (k + 1 - 1) ≡ 2 * v .slots
     ez = ap (sizeAt (v .words) (v .directory)) {x = k + 1 - 1} {y = v .published} (omega (arith, f .0)) ∙ f .1 .3

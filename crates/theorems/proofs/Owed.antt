@@ -22,20 +22,28 @@ use Rattle.theorems.proofs.Events.{Event, History, Out, Answered}
 use Rattle.theorems.proofs.Words.{addr, cell}
 use Rattle.theorems.proofs.Window.{View, word, taskAt, later}
 use Rattle.theorems.proofs.Indices.{StandsFor}
+use Rattle.theorems.proofs.Seen.{Older}
 
 abbrev pub view : ℕ → Queue → List ℕ → ℕ → ℕ → View
 view ω Q μ own-lo own-hi = record { words = ω; store = μ; directory = Q .arrays; published = Q .published; base = off Q; slots = size ω Q; own-lo = own-lo; own-hi = own-hi }
 
--- the claimed array
+-- an older array ends before the current one
+abbrev pub Sorted : ℕ → Queue → Type 0
+Sorted ω Q = (k : ℕ) → suc k < Q .published → offsetAt (Q .arrays) k + (ω + 1) * sizeAt ω (Q .arrays) k ≤ off Q
+
+-- the claimed array: where it lies
+abbrev pub next-base : View → ℕ
+next-base v = offsetAt (v .directory) (v .published)
+
 abbrev pub Claimed : View → Type 0
 Claimed v =
-    (v .base + 3 * ((v .words + 1) * v .slots) ≤ length (v .store)) × (2 * v .slots ≤ 1024) × (offsetAt (v .directory) (v .published) ≡ v .base + (v .words + 1) * v .slots)
+    (next-base v + 2 * ((v .words + 1) * v .slots) ≤ length (v .store)) × (2 * v .slots ≤ 1024) × (v .base + (v .words + 1) * v .slots ≤ next-base v)
     × (sizeAt (v .words) (v .directory) (v .published) ≡ 2 * v .slots) × (0 < v .published)
 
 -- the indices from lo up to hi are in the claimed array
 abbrev pub Copied : View → ℕ → ℕ → Type 0
 Copied v lo hi =
-    (i j : ℕ) → lo ≤ i → i < hi → j < v .words + 1 → cell (v .words) (v .store) (v .base + (v .words + 1) * v .slots) (2 * v .slots) i j ≡ word v i j
+    (i j : ℕ) → lo ≤ i → i < hi → j < v .words + 1 → cell (v .words) (v .store) (next-base v) (2 * v .slots) i j ≡ word v i j
 
 -- the owner's window after a store
 abbrev pub topOf : Kind → ℕ → ℕ → Anchor → ℕ
@@ -111,7 +119,8 @@ NotFifo Deque = Unit {0}
 
 -- a word outside the owner's window, and not in an older array
 abbrev pub Clear : View → ℕ → Type 0
-Clear v a = (v .base ≤ a) × ((i j : ℕ) → v .own-lo ≤ i → i < v .own-hi → j < v .words + 1 → addr (v .words) (v .base) (v .slots) i j ≢ a)
+Clear v a =
+    ((b z : ℕ) → Older v b z → b ≤ a → a < b + (v .words + 1) * z → ⊥) × ((i j : ℕ) → v .own-lo ≤ i → i < v .own-hi → j < v .words + 1 → addr (v .words) (v .base) (v .slots) i j ≢ a)
 
 -- a put's store: its task stands whole at the top of the owner's window; a hand-out's: its task was handed out
 abbrev pub Puts : Bool → View → History → Type 0

@@ -6,6 +6,7 @@ use mathlib.Core.List.{List, [], _∷_, _++_, map, List·Memᴰ, List·Memᴰ·t
 use Prim.Native.Nat.{ℕ, suc, _+_, _-_, _≤_, _<_}
 use native.Mathlib.Omega.{arith}
 use lib.ListN.{length, take}
+use Rattle.model.specs.declared.Room.{Room}
 use Rattle.model.specs.declared.Growth.{Growth}
 use Rattle.model.specs.declared.Growth.the-variants.{ForPut, ForCommit}
 use Rattle.model.specs.declared.Kind.{Kind}
@@ -27,7 +28,7 @@ use Rattle.model.specs.Tests.{if_then_else_}
 use Rattle.model.specs.Memory.{zeros}
 use Rattle.model.specs.Calls.{step, joining, landing}
 use Rattle.model.specs.Lines.{Effect, eff, succeeds, copyWords, fits, lineStep, taskFor}
-use Rattle.model.specs.Stores.{inLine, joined, taken, nextLength, claiming}
+use Rattle.model.specs.Stores.{inLine, joined, nextLength, claiming}
 use Rattle.model.specs.Figures.{isEmpty, putStore, takeStore, stealStore}
 use Rattle.theorems.proofs.Events.{Event, quiet, line-1, finished-put, handed-out, failed-compare, found-empty, began-put, found-full, waiting-put, is-line-1, is-compare, event-of-finish, event-of, History, Out, Told, Answered, GoodEvent}
 use Rattle.theorems.proofs.Window.{View, taskAt, NotDone}
@@ -41,6 +42,7 @@ use Rattle.theorems.proofs.Settle.{Settled, settle}
 use Rattle.theorems.proofs.Refresh.{Refreshed, refresh, tag-keep, tail-keep}
 use Rattle.theorems.proofs.Claiming.{ClaimedWhile, base-claim}
 use Rattle.theorems.proofs.OwnerLines.{Facts, Looks, Seen, Next, put-fits, own-next}
+use Rattle.theorems.proofs.Directory.{Free}
 use Rattle.theorems.proofs.Shape.{Shape}
 use Rattle.theorems.proofs.ShapeLay.{places-join}
 use Rattle.theorems.proofs.ShapeStep.{not-both, no-more, claim-only}
@@ -97,31 +99,31 @@ neither false E E′ p q = q
 unfinished : {A : Type 0} (a : Answer) (i : ℕ) (u : Task) → isFinished a ≡ false → a ≡ Finished i u → A
 unfinished a i u p q = not-both (isFinished a) p (ap isFinished q)
 
-pub finish-only : (κ : Kind) (w ω : ℕ) (Q : Queue) (μ : List ℕ) (n : ℕ) (o : Line) (i : ℕ) (u : Task) → lineStep κ w ω Q μ n o .answer ≡ Finished i u → (r : Anchor) × (o ≡ PutFinish u r)
+pub finish-only : (ρ : Room) (κ : Kind) (w ω : ℕ) (Q : Queue) (μ : List ℕ) (n : ℕ) (o : Line) (i : ℕ) (u : Task) → lineStep ρ κ w ω Q μ n o .answer ≡ Finished i u → (r : Anchor) × (o ≡ PutFinish u r)
 unfolding lineStep
-finish-only κ w ω Q μ n Idle i u q = unfinished _ i u refl q
-finish-only κ w ω Q μ n (PutRead t) i u q = unfinished _ i u refl q
-finish-only κ w ω Q μ n (PutTail t h) i u q = unfinished _ i u refl q
-finish-only κ w ω Q μ n (PutTest t r) i u q = unfinished _ i u refl q
-finish-only κ w ω Q μ n (PutWord t r j) i u q = unfinished _ i u refl q
-finish-only κ w ω Q μ n (PutFinish t r) i u q = let e : t ≡ u = cc in (r, ap (λ (u : Task). PutFinish u r) e)
-finish-only κ w ω Q μ n (Claim t) i u q = unfinished _ i u (neither (fits ω Q μ) _ _ refl refl) q
-finish-only κ w ω Q μ n (Note t) i u q = unfinished _ i u refl q
-finish-only κ w ω Q μ n (Copy t h j k) i u q = unfinished _ i u refl q
-finish-only κ w ω Q μ n (Publish (ForPut t)) i u q = unfinished _ i u refl q
-finish-only κ w ω Q μ n (Publish ForCommit) i u q = unfinished _ i u refl q
-finish-only κ w ω Q μ n TakeRead i u q = unfinished _ i u refl q
-finish-only κ w ω Q μ n (TakeTail h) i u q = unfinished _ i u refl q
-finish-only κ w ω Q μ n (TakeTest r) i u q = unfinished _ i u (neither (isEmpty κ r) _ _ refl refl) q
-finish-only κ w ω Q μ n (TakeWord r t j) i u q = unfinished _ i u refl q
-finish-only κ w ω Q μ n (TakeFinish r t) i u q = unfinished _ i u refl q
-finish-only κ w ω Q μ n StealRead i u q = unfinished _ i u refl q
-finish-only κ w ω Q μ n (StealTail h) i u q = unfinished _ i u refl q
-finish-only κ w ω Q μ n (StealTest r) i u q = unfinished _ i u (neither (isEmpty κ r) _ _ refl refl) q
-finish-only κ w ω Q μ n (StealNote r) i u q = unfinished _ i u refl q
-finish-only κ w ω Q μ n (StealWord r k t j) i u q = unfinished _ i u refl q
-finish-only κ w ω Q μ n (StealNext r t) i u q = unfinished _ i u refl q
-finish-only κ w ω Q μ n (StealCompare r e t) i u q = unfinished _ i u (neither (succeeds κ Q n r) _ _ refl refl) q
+finish-only ρ κ w ω Q μ n Idle i u q = unfinished _ i u refl q
+finish-only ρ κ w ω Q μ n (PutRead t) i u q = unfinished _ i u refl q
+finish-only ρ κ w ω Q μ n (PutTail t h) i u q = unfinished _ i u refl q
+finish-only ρ κ w ω Q μ n (PutTest t r) i u q = unfinished _ i u refl q
+finish-only ρ κ w ω Q μ n (PutWord t r j) i u q = unfinished _ i u refl q
+finish-only ρ κ w ω Q μ n (PutFinish t r) i u q = let e : t ≡ u = cc in (r, ap (λ (u : Task). PutFinish u r) e)
+finish-only ρ κ w ω Q μ n (Claim t) i u q = unfinished _ i u (neither (fits ρ ω Q) _ _ refl refl) q
+finish-only ρ κ w ω Q μ n (Note t) i u q = unfinished _ i u refl q
+finish-only ρ κ w ω Q μ n (Copy t h j k) i u q = unfinished _ i u refl q
+finish-only ρ κ w ω Q μ n (Publish (ForPut t)) i u q = unfinished _ i u refl q
+finish-only ρ κ w ω Q μ n (Publish ForCommit) i u q = unfinished _ i u refl q
+finish-only ρ κ w ω Q μ n TakeRead i u q = unfinished _ i u refl q
+finish-only ρ κ w ω Q μ n (TakeTail h) i u q = unfinished _ i u refl q
+finish-only ρ κ w ω Q μ n (TakeTest r) i u q = unfinished _ i u (neither (isEmpty κ r) _ _ refl refl) q
+finish-only ρ κ w ω Q μ n (TakeWord r t j) i u q = unfinished _ i u refl q
+finish-only ρ κ w ω Q μ n (TakeFinish r t) i u q = unfinished _ i u refl q
+finish-only ρ κ w ω Q μ n StealRead i u q = unfinished _ i u refl q
+finish-only ρ κ w ω Q μ n (StealTail h) i u q = unfinished _ i u refl q
+finish-only ρ κ w ω Q μ n (StealTest r) i u q = unfinished _ i u (neither (isEmpty κ r) _ _ refl refl) q
+finish-only ρ κ w ω Q μ n (StealNote r) i u q = unfinished _ i u refl q
+finish-only ρ κ w ω Q μ n (StealWord r k t j) i u q = unfinished _ i u refl q
+finish-only ρ κ w ω Q μ n (StealNext r t) i u q = unfinished _ i u refl q
+finish-only ρ κ w ω Q μ n (StealCompare r e t) i u q = unfinished _ i u (neither (succeeds κ Q n r) _ _ refl refl) q
 
 -- only it stores a put's anchor
 words-none : (ss : List Store) → AllWords ss → NonePut ss
@@ -148,31 +150,31 @@ steal-none Lifo r e = (tt, tt)
 steal-none Fifo r e = (tt, tt)
 steal-none Deque r e = (tt, tt)
 
-pub none-put : (κ : Kind) (w ω : ℕ) (Q : Queue) (μ : List ℕ) (o : Line) → ((t : Task) (r : Anchor) → o ≡ PutFinish t r → ⊥) → NonePut (lineStep κ w ω Q μ 0 o .stores)
+pub none-put : (ρ : Room) (κ : Kind) (w ω : ℕ) (Q : Queue) (μ : List ℕ) (o : Line) → ((t : Task) (r : Anchor) → o ≡ PutFinish t r → ⊥) → NonePut (lineStep ρ κ w ω Q μ 0 o .stores)
 unfolding lineStep
-none-put κ w ω Q μ Idle d = tt
-none-put κ w ω Q μ (PutRead t) d = tt
-none-put κ w ω Q μ (PutTail t h) d = tt
-none-put κ w ω Q μ (PutTest t r) d = tt
-none-put κ w ω Q μ (PutWord t r j) d = (tt, tt)
-none-put κ w ω Q μ (PutFinish t r) d = absurd (d t r refl)
-none-put κ w ω Q μ (Claim t) d = two-none (fits ω Q μ) _ _ tt tt
-none-put κ w ω Q μ (Note t) d = tt
-none-put κ w ω Q μ (Copy t h j k) d = words-none (copyWords κ ω Q μ (h + k) (ω + 1)) (copy-words κ ω Q μ (h + k) (ω + 1))
-none-put κ w ω Q μ (Publish (ForPut t)) d = (tt, tt)
-none-put κ w ω Q μ (Publish ForCommit) d = (tt, tt)
-none-put κ w ω Q μ TakeRead d = tt
-none-put κ w ω Q μ (TakeTail h) d = tt
-none-put κ w ω Q μ (TakeTest r) d = two-none (isEmpty κ r) _ _ tt tt
-none-put κ w ω Q μ (TakeWord r t j) d = tt
-none-put κ w ω Q μ (TakeFinish r t) d = out-none κ r
-none-put κ w ω Q μ StealRead d = tt
-none-put κ w ω Q μ (StealTail h) d = tt
-none-put κ w ω Q μ (StealTest r) d = two-none (isEmpty κ r) _ _ tt tt
-none-put κ w ω Q μ (StealNote r) d = tt
-none-put κ w ω Q μ (StealWord r k t j) d = tt
-none-put κ w ω Q μ (StealNext r t) d = tt
-none-put κ w ω Q μ (StealCompare r e t) d = two-none (succeeds κ Q 0 r) _ _ (steal-none κ r e) tt
+none-put ρ κ w ω Q μ Idle d = tt
+none-put ρ κ w ω Q μ (PutRead t) d = tt
+none-put ρ κ w ω Q μ (PutTail t h) d = tt
+none-put ρ κ w ω Q μ (PutTest t r) d = tt
+none-put ρ κ w ω Q μ (PutWord t r j) d = (tt, tt)
+none-put ρ κ w ω Q μ (PutFinish t r) d = absurd (d t r refl)
+none-put ρ κ w ω Q μ (Claim t) d = two-none (fits ρ ω Q) _ _ tt tt
+none-put ρ κ w ω Q μ (Note t) d = tt
+none-put ρ κ w ω Q μ (Copy t h j k) d = words-none (copyWords κ ω Q μ (h + k) (ω + 1)) (copy-words κ ω Q μ (h + k) (ω + 1))
+none-put ρ κ w ω Q μ (Publish (ForPut t)) d = (tt, tt)
+none-put ρ κ w ω Q μ (Publish ForCommit) d = (tt, tt)
+none-put ρ κ w ω Q μ TakeRead d = tt
+none-put ρ κ w ω Q μ (TakeTail h) d = tt
+none-put ρ κ w ω Q μ (TakeTest r) d = two-none (isEmpty κ r) _ _ tt tt
+none-put ρ κ w ω Q μ (TakeWord r t j) d = tt
+none-put ρ κ w ω Q μ (TakeFinish r t) d = out-none κ r
+none-put ρ κ w ω Q μ StealRead d = tt
+none-put ρ κ w ω Q μ (StealTail h) d = tt
+none-put ρ κ w ω Q μ (StealTest r) d = two-none (isEmpty κ r) _ _ tt tt
+none-put ρ κ w ω Q μ (StealNote r) d = tt
+none-put ρ κ w ω Q μ (StealWord r k t j) d = tt
+none-put ρ κ w ω Q μ (StealNext r t) d = tt
+none-put ρ κ w ω Q μ (StealCompare r e t) d = two-none (succeeds κ Q 0 r) _ _ (steal-none κ r e) tt
 
 -- DUE
 since-some : (t : Task) (n : ℕ) (h : History) → List·Memᴰ (waiting-put t n) h → (d : ℕ) × Since t n d h
@@ -234,6 +236,7 @@ facts-of : (κ : Kind) (w ω : ℕ) (δ : Bool) (Q : Queue) (μ : List ℕ) (ol 
 facts-of κ w ω δ Q μ ol oh ss φ h f B =
     record {
       sized = Z .base .sized;
+      sorted = Z .base .sorted;
       room = Z .base .room;
       mid = omega (arith, Z .base .core .low, Z .base .core .mid, Z .base .core .high);
       fit = Z .base .core .fit;
@@ -312,38 +315,38 @@ unfolding if_then_else_
 either-order κ v a ss h ω δ y o true E E′ n n′ d d′ R = dull-order κ v a ss (E .stores) h _ n d R
 either-order κ v a ss h ω δ y o false E E′ n n′ d d′ R = dull-order κ v a ss (E′ .stores) h _ n′ d′ R
 
-order-next : (κ : Kind) (w ω : ℕ) (δ : Bool) (y : ℕ) (Q : Queue) (μ : List ℕ) (ss : List Store) (o : Line) (φ : ℕ → Line) (h : History) (I : Inv κ w ω δ Q μ ss o φ h) → (δ ≡ false → ss ≡ [])
-    → lineStep κ w ω (laid ss Q) (words ω (Q .arrays) ss μ) 0 o .claims ≡ false → ((t : Task) (r : Anchor) → o ≡ PutFinish t r → δ ≡ true)
-    → let E = lineStep κ w ω (laid ss Q) (words ω (Q .arrays) ss μ) 0 o in
+order-next : (ρ : Room) (κ : Kind) (w ω : ℕ) (δ : Bool) (y : ℕ) (Q : Queue) (μ : List ℕ) (ss : List Store) (o : Line) (φ : ℕ → Line) (h : History) (I : Inv κ w ω δ Q μ ss o φ h) → (δ ≡ false → ss ≡ [])
+    → lineStep ρ κ w ω (laid ss Q) (words ω (Q .arrays) ss μ) 0 o .claims ≡ false → ((t : Task) (r : Anchor) → o ≡ PutFinish t r → δ ≡ true)
+    → let E = lineStep ρ κ w ω (laid ss Q) (words ω (Q .arrays) ss μ) 0 o in
     Order κ (view ω Q μ (I .own-lo) (I .own-hi)) (Q .anchor .head) (ss ++ E .stores) (event-of ω δ y (step 0) o (E .answer) ∷ h)
 unfolding lineStep
-order-next κ w ω δ y Q μ ss Idle φ h I none f d = dull-order κ _ _ ss _ h _ tt tt (I .order)
-order-next κ w ω δ y Q μ ss (PutRead t) φ h I none f d = dull-order κ _ _ ss _ h _ tt tt (I .order)
-order-next κ w ω δ y Q μ ss (PutTail t a) φ h I none f d = dull-order κ _ _ ss _ h _ tt tt (I .order)
-order-next κ w ω δ y Q μ ss (PutTest t r) φ h I none f d = dull-order κ _ _ ss _ h _ tt tt (I .order)
-order-next κ w ω δ y Q μ ss (PutWord t r j) φ h I none f d = dull-order κ _ _ ss _ h _ tt tt (I .order)
-order-next κ w ω δ y Q μ ss (PutFinish t r) φ h I none f d = finish-order δ (d t r refl)
+order-next ρ κ w ω δ y Q μ ss Idle φ h I none f d = dull-order κ _ _ ss _ h _ tt tt (I .order)
+order-next ρ κ w ω δ y Q μ ss (PutRead t) φ h I none f d = dull-order κ _ _ ss _ h _ tt tt (I .order)
+order-next ρ κ w ω δ y Q μ ss (PutTail t a) φ h I none f d = dull-order κ _ _ ss _ h _ tt tt (I .order)
+order-next ρ κ w ω δ y Q μ ss (PutTest t r) φ h I none f d = dull-order κ _ _ ss _ h _ tt tt (I .order)
+order-next ρ κ w ω δ y Q μ ss (PutWord t r j) φ h I none f d = dull-order κ _ _ ss _ h _ tt tt (I .order)
+order-next ρ κ w ω δ y Q μ ss (PutFinish t r) φ h I none f d = finish-order δ (d t r refl)
   where
     finish-order : (x : Bool) → x ≡ true → Order κ (view ω Q μ (I .own-lo) (I .own-hi)) (Q .anchor .head) (ss ++ (putStore κ w r ∷ [])) (event-of-finish x y t ∷ h)
     finish-order true e = order-ev κ _ _ _ h (waiting-put t (y + 1)) tt (put-order κ w ω δ Q μ (I .own-lo) (I .own-hi) ss φ h t r none (I .base) (I .own) (I .order))
     finish-order false e = not-both false refl e
-order-next κ w ω δ y Q μ ss (Claim t) φ h I none f d = either-order κ _ _ ss h ω δ y (Claim t) (fits ω (laid ss Q) (words ω (Q .arrays) ss μ)) _ _ tt tt tt tt (I .order)
-order-next κ w ω δ y Q μ ss (Note t) φ h I none f d = dull-order κ _ _ ss _ h _ tt tt (I .order)
-order-next κ w ω δ y Q μ ss (Copy t a j k) φ h I none f d = dull-order κ _ _ ss (copyWords κ ω (laid ss Q) (words ω (Q .arrays) ss μ) (a + k) (ω + 1)) h quiet tt (words-dull (copyWords κ ω (laid ss Q) (words ω (Q .arrays) ss μ) (a + k) (ω + 1)) (copy-words κ ω (laid ss Q) (words ω (Q .arrays) ss μ) (a + k) (ω + 1))) (I .order)
-order-next κ w ω δ y Q μ ss (Publish (ForPut t)) φ h I none f d = dull-order κ _ _ ss _ h _ tt tt (I .order)
-order-next κ w ω δ y Q μ ss (Publish ForCommit) φ h I none f d = dull-order κ _ _ ss _ h _ tt tt (I .order)
-order-next κ w ω δ y Q μ ss TakeRead φ h I none f d = dull-order κ _ _ ss _ h _ tt tt (I .order)
-order-next κ w ω δ y Q μ ss (TakeTail a) φ h I none f d = dull-order κ _ _ ss _ h _ tt tt (I .order)
-order-next κ w ω δ y Q μ ss (TakeTest r) φ h I none f d = either-order κ _ _ ss h ω δ y (TakeTest r) (isEmpty κ r) _ _ tt tt tt tt (I .order)
-order-next κ w ω δ y Q μ ss (TakeWord r t j) φ h I none f d = dull-order κ _ _ ss _ h _ tt tt (I .order)
-order-next κ w ω δ y Q μ ss (TakeFinish r t) φ h I none f d = take-order κ w ω δ Q μ (I .own-lo) (I .own-hi) ss φ h t r none (I .base) (I .own) (I .order)
-order-next κ w ω δ y Q μ ss StealRead φ h I none f d = absurd (I .own)
-order-next κ w ω δ y Q μ ss (StealTail a) φ h I none f d = absurd (I .own)
-order-next κ w ω δ y Q μ ss (StealTest r) φ h I none f d = absurd (I .own)
-order-next κ w ω δ y Q μ ss (StealNote r) φ h I none f d = absurd (I .own)
-order-next κ w ω δ y Q μ ss (StealWord r k t j) φ h I none f d = absurd (I .own)
-order-next κ w ω δ y Q μ ss (StealNext r t) φ h I none f d = absurd (I .own)
-order-next κ w ω δ y Q μ ss (StealCompare r e t) φ h I none f d = absurd (I .own)
+order-next ρ κ w ω δ y Q μ ss (Claim t) φ h I none f d = either-order κ _ _ ss h ω δ y (Claim t) (fits ρ ω (laid ss Q)) _ _ tt tt tt tt (I .order)
+order-next ρ κ w ω δ y Q μ ss (Note t) φ h I none f d = dull-order κ _ _ ss _ h _ tt tt (I .order)
+order-next ρ κ w ω δ y Q μ ss (Copy t a j k) φ h I none f d = dull-order κ _ _ ss (copyWords κ ω (laid ss Q) (words ω (Q .arrays) ss μ) (a + k) (ω + 1)) h quiet tt (words-dull (copyWords κ ω (laid ss Q) (words ω (Q .arrays) ss μ) (a + k) (ω + 1)) (copy-words κ ω (laid ss Q) (words ω (Q .arrays) ss μ) (a + k) (ω + 1))) (I .order)
+order-next ρ κ w ω δ y Q μ ss (Publish (ForPut t)) φ h I none f d = dull-order κ _ _ ss _ h _ tt tt (I .order)
+order-next ρ κ w ω δ y Q μ ss (Publish ForCommit) φ h I none f d = dull-order κ _ _ ss _ h _ tt tt (I .order)
+order-next ρ κ w ω δ y Q μ ss TakeRead φ h I none f d = dull-order κ _ _ ss _ h _ tt tt (I .order)
+order-next ρ κ w ω δ y Q μ ss (TakeTail a) φ h I none f d = dull-order κ _ _ ss _ h _ tt tt (I .order)
+order-next ρ κ w ω δ y Q μ ss (TakeTest r) φ h I none f d = either-order κ _ _ ss h ω δ y (TakeTest r) (isEmpty κ r) _ _ tt tt tt tt (I .order)
+order-next ρ κ w ω δ y Q μ ss (TakeWord r t j) φ h I none f d = dull-order κ _ _ ss _ h _ tt tt (I .order)
+order-next ρ κ w ω δ y Q μ ss (TakeFinish r t) φ h I none f d = take-order κ w ω δ Q μ (I .own-lo) (I .own-hi) ss φ h t r none (I .base) (I .own) (I .order)
+order-next ρ κ w ω δ y Q μ ss StealRead φ h I none f d = absurd (I .own)
+order-next ρ κ w ω δ y Q μ ss (StealTail a) φ h I none f d = absurd (I .own)
+order-next ρ κ w ω δ y Q μ ss (StealTest r) φ h I none f d = absurd (I .own)
+order-next ρ κ w ω δ y Q μ ss (StealNote r) φ h I none f d = absurd (I .own)
+order-next ρ κ w ω δ y Q μ ss (StealWord r k t j) φ h I none f d = absurd (I .own)
+order-next ρ κ w ω δ y Q μ ss (StealNext r t) φ h I none f d = absurd (I .own)
+order-next ρ κ w ω δ y Q μ ss (StealCompare r e t) φ h I none f d = absurd (I .own)
 
 -- THE STEP
 pub sight-join : (κ : Kind) (ω : ℕ) (ss rr : List Store) (Q : Queue) (μ : List ℕ) (lo hi : ℕ) → sight κ ω (ss ++ rr) Q μ lo hi ≡ sight κ ω rr (laid ss Q) (words ω (Q .arrays) ss μ) (los ss lo) (his κ ss lo hi)
@@ -397,13 +400,13 @@ is-put Lifo w r = tt
 is-put Fifo w r = tt
 is-put Deque w r = tt
 
-pub put-stores : (κ : Kind) (w ω : ℕ) (Q : Queue) (μ : List ℕ) (o : Line) (t : Task) (r : Anchor) → o ≡ PutFinish t r → lineStep κ w ω Q μ 0 o .stores ≡ putStore κ w r ∷ []
+pub put-stores : (ρ : Room) (κ : Kind) (w ω : ℕ) (Q : Queue) (μ : List ℕ) (o : Line) (t : Task) (r : Anchor) → o ≡ PutFinish t r → lineStep ρ κ w ω Q μ 0 o .stores ≡ putStore κ w r ∷ []
 unfolding lineStep
-put-stores κ w ω Q μ o t r e = rw e
+put-stores ρ κ w ω Q μ o t r e = rw e
 
-module _ (κ : Kind) (w ω : ℕ) (δ : Bool) (y : ℕ) (Q : Queue) (μ : List ℕ) (ss : List Store) (o : Line) (φ : ℕ → Line) (h : History) where
+module _ (ρ : Room) (κ : Kind) (w ω : ℕ) (δ : Bool) (y : ℕ) (Q : Queue) (μ : List ℕ) (ss : List Store) (o : Line) (φ : ℕ → Line) (h : History) where
   abbrev pub E : Effect
-  E = lineStep κ w ω (laid ss Q) (words ω (Q .arrays) ss μ) 0 o
+  E = lineStep ρ κ w ω (laid ss Q) (words ω (Q .arrays) ss μ) 0 o
 
   -- stores join
   pub own-join : ω ≤ 4 → Inv κ w ω δ Q μ ss o φ h → (δ ≡ false → ss ≡ []) → y ≡ length ss → E .claims ≡ false → ((t : Task) (r : Anchor) → o ≡ PutFinish t r → δ ≡ true)
@@ -415,7 +418,7 @@ module _ (κ : Kind) (w ω : ℕ) (δ : Bool) (y : ℕ) (Q : Queue) (μ : List �
       base = base-line (base-ev (J .base) e (M .none) (M .calm)) (ss ++ E .stores) (owed-join κ w ω δ Q μ (J .own-lo) (J .own-hi) (Q .anchor .tag) (e ∷ h) ss (E .stores) (base-ev (J .base) e (M .none) (M .calm) .owed) (N .0 .0));
       own = rw (sight-join κ ω ss (E .stores) Q μ (J .own-lo) (J .own-hi), tags-join ss (E .stores) (Q .anchor .tag)) (N .0 .1);
       due = due δ refl (J .due);
-      order = order-next κ w ω δ y Q μ ss o φ h J none f d;
+      order = order-next ρ κ w ω δ y Q μ ss o φ h J none f d;
     },
     N .1,
   )
@@ -430,17 +433,17 @@ module _ (κ : Kind) (w ω : ℕ) (δ : Bool) (y : ℕ) (Q : Queue) (μ : List �
       e = event-of ω δ y (step 0) o (E .answer)
 
       M : Mild δ y (E .answer) e
-      M = step-mild ω δ y o (E .answer) (λ i t q. let F = finish-only κ w ω (laid ss Q) (words ω (Q .arrays) ss μ) 0 o i t q in d t (F .0) (F .1))
+      M = step-mild ω δ y o (E .answer) (λ i t q. let F = finish-only ρ κ w ω (laid ss Q) (words ω (Q .arrays) ss μ) 0 o i t q in d t (F .0) (F .1))
 
       N : Next κ w ω δ y (laid ss Q) (words ω (Q .arrays) ss μ) (los ss (J .own-lo)) (his κ ss (J .own-lo) (J .own-hi)) (tags ss (Q .anchor .tag)) h o E
-      N = own-next κ w ω δ y (laid ss Q) (words ω (Q .arrays) ss μ) (los ss (J .own-lo)) (his κ ss (J .own-lo) (J .own-hi)) (tags ss (Q .anchor .tag)) h o wide
+      N = own-next ρ κ w ω δ y (laid ss Q) (words ω (Q .arrays) ss μ) (los ss (J .own-lo)) (his κ ss (J .own-lo) (J .own-hi)) (tags ss (Q .anchor .tag)) h o wide
           (facts-of κ w ω δ Q μ (J .own-lo) (J .own-hi) ss φ h none (J .base)) (R .seen) (J .own) f d
 
       label : (t : Task) (n : ℕ) → e ≡ waiting-put t n → (0 < n) × Label κ (view ω Q μ (J .own-lo) (J .own-hi)) (ss ++ E .stores) (n - 1) t
       label t n q = (omega (arith, M .waits t n q .1), there)
         where
           P : (r : Anchor) × (o ≡ PutFinish t r)
-          P = finish-only κ w ω (laid ss Q) (words ω (Q .arrays) ss μ) 0 o (M .waits t n q .0 .0) t (M .waits t n q .0 .1)
+          P = finish-only ρ κ w ω (laid ss Q) (words ω (Q .arrays) ss μ) 0 o (M .waits t n q .0 .0) t (M .waits t n q .0 .1)
 
           k : OwnerOk κ (sight κ ω ss Q μ (J .own-lo) (J .own-hi)) (tags ss (Q .anchor .tag)) h (PutFinish t (P .0))
           k = subst (λ (o : Line). OwnerOk κ (sight κ ω ss Q μ (J .own-lo) (J .own-hi)) (tags ss (Q .anchor .tag)) h o) (P .1) (J .own)
@@ -450,17 +453,17 @@ module _ (κ : Kind) (w ω : ℕ) (δ : Bool) (y : ℕ) (Q : Queue) (μ : List �
 
           there : Label κ (view ω Q μ (J .own-lo) (J .own-hi)) (ss ++ E .stores) (n - 1) t
           there =
-              subst (λ (rr : List Store). Label κ (view ω Q μ (J .own-lo) (J .own-hi)) (ss ++ rr) (n - 1) t) (sym (put-stores κ w ω (laid ss Q) (words ω (Q .arrays) ss μ) o t (P .0) (P .1)))
+              subst (λ (rr : List Store). Label κ (view ω Q μ (J .own-lo) (J .own-hi)) (ss ++ rr) (n - 1) t) (sym (put-stores ρ κ w ω (laid ss Q) (words ω (Q .arrays) ss μ) o t (P .0) (P .1)))
               (subst (λ (m : ℕ). Label κ (view ω Q μ (J .own-lo) (J .own-hi)) (ss ++ (putStore κ w (P .0) ∷ [])) m t) {x = length ss} {y = n - 1} (omega (arith, len, M .waits t n q .1)) last)
 
       due : (δ′ : Bool) → δ′ ≡ δ → DueIf δ′ κ (view ω Q μ (J .own-lo) (J .own-hi)) ss h → DueIf δ′ κ (view ω Q μ (J .own-lo) (J .own-hi)) (ss ++ E .stores) (e ∷ h)
       due true x D = due-next κ (view ω Q μ (J .own-lo) (J .own-hi)) ss (E .stores) h e (M .still) label D
-      due false x D = none-waits e h (λ t n q. let P = finish-only κ w ω (laid ss Q) (words ω (Q .arrays) ss μ) 0 o (M .waits t n q .0 .0) t (M .waits t n q .0 .1) in not-both δ (sym x) (d t (P .0) (P .1))) D
+      due false x D = none-waits e h (λ t n q. let P = finish-only ρ κ w ω (laid ss Q) (words ω (Q .arrays) ss μ) 0 o (M .waits t n q .0 .0) t (M .waits t n q .0 .1) in not-both δ (sym x) (d t (P .0) (P .1))) D
 
 -- X1
-pub own-claim : (κ : Kind) (w ω : ℕ) (δ : Bool) (used low : ℕ) (Q : Queue) (μ : List ℕ) (ss : List Store) (t : Growth) (φ : ℕ → Line) (h : History) → Shape κ w ω used low Q μ ss (Claim t) φ
-    → fits ω (laid ss Q) (words ω (Q .arrays) ss μ) ≡ true → Inv κ w ω δ Q μ ss (Claim t) φ h → Inv κ w ω δ (claiming Q) (zeros μ (taken Q) (nextLength Q)) ss (Note t) φ (quiet ∷ h)
-own-claim κ w ω δ used low Q μ ss t φ h S f I =
+pub own-claim : (ρ : Room) (κ : Kind) (w ω : ℕ) (δ : Bool) (used low : ℕ) (Q : Queue) (μ : List ℕ) (ss : List Store) (t : Growth) (φ : ℕ → Line) (h : History) → Shape κ w ω used low Q μ ss (Claim t) φ
+    → fits ρ ω (laid ss Q) ≡ true → Free ρ Q μ → Inv κ w ω δ Q μ ss (Claim t) φ h → Inv κ w ω δ (claiming ρ Q) (zeros μ (ρ .next) (nextLength Q)) ss (Note t) φ (quiet ∷ h)
+own-claim ρ κ w ω δ used low Q μ ss t φ h S f R I =
     record {
       own-lo = I .own-lo;
       own-hi = I .own-hi;
@@ -470,11 +473,11 @@ own-claim κ w ω δ used low Q μ ss t φ h S f I =
       order = order-ev κ _ _ ss h quiet tt (C .order (I .order));
     }
   where
-    C : ClaimedWhile κ w ω δ Q μ (I .own-lo) (I .own-hi) ss φ h
-    C = base-claim κ w ω δ used low Q μ (I .own-lo) (I .own-hi) ss t φ h S f (I .base)
+    C : ClaimedWhile ρ κ w ω δ Q μ (I .own-lo) (I .own-hi) ss φ h
+    C = base-claim ρ κ w ω δ used low Q μ (I .own-lo) (I .own-hi) ss t φ h S f R (I .base)
 
     v : View
-    v = view ω (claiming Q) (zeros μ (taken Q) (nextLength Q)) (I .own-lo) (I .own-hi)
+    v = view ω (claiming ρ Q) (zeros μ (ρ .next) (nextLength Q)) (I .own-lo) (I .own-hi)
 
     due : (δ : Bool) → DueIf δ κ v ss h → DueIf δ κ v ss (quiet ∷ h)
     due true D = subst (λ (l : List Store). Due κ v l (quiet ∷ h)) (no-more ss) (due-next κ v ss [] h quiet refl (λ t n q. absurd (let z : _≡_ {A = ℕ} 0 1 = cc in omega arith)) D)
@@ -499,9 +502,9 @@ own-at-once κ w ω Q μ ss o φ h n I =
     own : OwnerOk κ (sight κ ω ss Q μ (I .own-lo) (I .own-hi)) (laid ss Q .anchor .tag) h o
     own = rw (tag-keep ss (Q .anchor) (Q .anchor .tag) refl) (I .own)
 
-pub put-at-once : (κ : Kind) (w ω : ℕ) (Q : Queue) (μ : List ℕ) (t : Task) (r : Anchor) (φ : ℕ → Line) (h : History) → Inv κ w ω false Q μ [] (PutFinish t r) φ h
+pub put-at-once : (ρ : Room) (κ : Kind) (w ω : ℕ) (Q : Queue) (μ : List ℕ) (t : Task) (r : Anchor) (φ : ℕ → Line) (h : History) → Inv κ w ω false Q μ [] (PutFinish t r) φ h
     → Inv κ w ω false (laid (putStore κ w r ∷ []) Q) (words ω (Q .arrays) (putStore κ w r ∷ []) μ) [] Idle φ (finished-put t ∷ h) × GoodEvent false (finished-put t) h
-put-at-once κ w ω Q μ t r φ h I = (
+put-at-once ρ κ w ω Q μ t r φ h I = (
   record {
     own-lo = _;
     own-hi = _;
@@ -525,32 +528,32 @@ put-at-once κ w ω Q μ t r φ h I = (
         (base-line (I .base) (putStore κ w r ∷ []) (fitting, tt))
 
 -- THE WHOLE STEP: l is the waiting line
-abbrev pub Stepped : Kind → ℕ → ℕ → Bool → Waiting → Queue → List ℕ → Line → (ℕ → Line) → History → Effect → Type 0
-Stepped κ w ω δ l Q μ o φ h E =
-    Inv κ w ω δ (laid (landing δ 0 (E .stores)) (queueAfter (E .claims) Q)) (words ω (arraysAfter (E .claims) Q) (landing δ 0 (E .stores)) (storeAfter (E .claims) Q μ))
+abbrev pub Stepped : Room → Kind → ℕ → ℕ → Bool → Waiting → Queue → List ℕ → Line → (ℕ → Line) → History → Effect → Type 0
+Stepped ρ κ w ω δ l Q μ o φ h E =
+    Inv κ w ω δ (laid (landing δ 0 (E .stores)) (queueAfter ρ (E .claims) Q)) (words ω (arraysAfter ρ (E .claims) Q) (landing δ 0 (E .stores)) (storeAfter ρ (E .claims) Q μ))
     (inLine (joined l (joining δ 0 (E .stores)))) (E .line) φ (event-of ω δ (l .count) (step 0) o (E .answer) ∷ h)
     × GoodEvent δ (event-of ω δ (l .count) (step 0) o (E .answer)) h
 
 -- X1
-claim-result : (κ : Kind) (w ω : ℕ) (δ : Bool) (l : Waiting) (Q : Queue) (μ : List ℕ) (t : Growth) (φ : ℕ → Line) (h : History) (x : Bool) → x ≡ true → l .count ≤ length (l .stores)
-    → Inv κ w ω δ (claiming Q) (zeros μ (taken Q) (nextLength Q)) (inLine l) (Note t) φ (quiet ∷ h)
-    → Stepped κ w ω δ l Q μ (Claim t) φ h (if x then record { claims = true; stores = []; line = Note t; answer = GoesOn } else eff [] Idle (Full 0 (taskFor t)))
+claim-result : (ρ : Room) (κ : Kind) (w ω : ℕ) (δ : Bool) (l : Waiting) (Q : Queue) (μ : List ℕ) (t : Growth) (φ : ℕ → Line) (h : History) (x : Bool) → x ≡ true → l .count ≤ length (l .stores)
+    → Inv κ w ω δ (claiming ρ Q) (zeros μ (ρ .next) (nextLength Q)) (inLine l) (Note t) φ (quiet ∷ h)
+    → Stepped ρ κ w ω δ l Q μ (Claim t) φ h (if x then record { claims = true; stores = []; line = Note t; answer = GoesOn } else eff [] Idle (Full 0 (taskFor t)))
 unfolding if_then_else_
-claim-result κ w ω δ l Q μ t φ h false e len I = not-both false refl e
-claim-result κ w ω true l Q μ t φ h true e len I = (subst (λ (ss : List Store). Inv κ w ω true (claiming Q) (zeros μ (taken Q) (nextLength Q)) ss (Note t) φ (quiet ∷ h)) (sym (line-join l [] len ∙ no-more (inLine l))) I, tt)
-claim-result κ w ω false l Q μ t φ h true e len I = (subst (λ (ss : List Store). Inv κ w ω false (claiming Q) (zeros μ (taken Q) (nextLength Q)) ss (Note t) φ (quiet ∷ h)) (sym (line-join l [] len ∙ no-more (inLine l))) I, tt)
+claim-result ρ κ w ω δ l Q μ t φ h false e len I = not-both false refl e
+claim-result ρ κ w ω true l Q μ t φ h true e len I = (subst (λ (ss : List Store). Inv κ w ω true (claiming ρ Q) (zeros μ (ρ .next) (nextLength Q)) ss (Note t) φ (quiet ∷ h)) (sym (line-join l [] len ∙ no-more (inLine l))) I, tt)
+claim-result ρ κ w ω false l Q μ t φ h true e len I = (subst (λ (ss : List Store). Inv κ w ω false (claiming ρ Q) (zeros μ (ρ .next) (nextLength Q)) ss (Note t) φ (quiet ∷ h)) (sym (line-join l [] len ∙ no-more (inLine l))) I, tt)
 
 -- what the owner's line does
-abbrev pub own-effect : Kind → ℕ → ℕ → List Store → Queue → List ℕ → Line → Effect
-own-effect κ w ω ss Q μ o = lineStep κ w ω (laid ss Q) (words ω (Q .arrays) ss μ) 0 o
+abbrev pub own-effect : Room → Kind → ℕ → ℕ → List Store → Queue → List ℕ → Line → Effect
+own-effect ρ κ w ω ss Q μ o = lineStep ρ κ w ω (laid ss Q) (words ω (Q .arrays) ss μ) 0 o
 
-claim-stepped : (κ : Kind) (w ω : ℕ) (δ : Bool) (l : Waiting) (Q : Queue) (μ : List ℕ) (used low : ℕ) (o : Line) (t : Growth) (φ : ℕ → Line) (h : History) → l .count ≤ length (l .stores) → o ≡ Claim t
-    → fits ω (laid (inLine l) Q) (words ω (Q .arrays) (inLine l) μ) ≡ true → Shape κ w ω used low Q μ (inLine l) o φ → Inv κ w ω δ Q μ (inLine l) o φ h → Stepped κ w ω δ l Q μ o φ h (own-effect κ w ω (inLine l) Q μ o)
+claim-stepped : (ρ : Room) (κ : Kind) (w ω : ℕ) (δ : Bool) (l : Waiting) (Q : Queue) (μ : List ℕ) (used low : ℕ) (o : Line) (t : Growth) (φ : ℕ → Line) (h : History) → l .count ≤ length (l .stores) → o ≡ Claim t
+    → fits ρ ω (laid (inLine l) Q) ≡ true → Free ρ Q μ → Shape κ w ω used low Q μ (inLine l) o φ → Inv κ w ω δ Q μ (inLine l) o φ h → Stepped ρ κ w ω δ l Q μ o φ h (own-effect ρ κ w ω (inLine l) Q μ o)
 unfolding lineStep
-claim-stepped κ w ω δ l Q μ used low o t φ h len is f S I =
-    subst (λ (o : Line). Stepped κ w ω δ l Q μ o φ h (own-effect κ w ω (inLine l) Q μ o)) (sym is)
-    (claim-result κ w ω δ l Q μ t φ h (fits ω (laid (inLine l) Q) (words ω (Q .arrays) (inLine l) μ)) f len
-    (own-claim κ w ω δ used low Q μ (inLine l) t φ h (subst (λ (o : Line). Shape κ w ω used low Q μ (inLine l) o φ) is S) f (subst (λ (o : Line). Inv κ w ω δ Q μ (inLine l) o φ h) is I)))
+claim-stepped ρ κ w ω δ l Q μ used low o t φ h len is f R S I =
+    subst (λ (o : Line). Stepped ρ κ w ω δ l Q μ o φ h (own-effect ρ κ w ω (inLine l) Q μ o)) (sym is)
+    (claim-result ρ κ w ω δ l Q μ t φ h (fits ρ ω (laid (inLine l) Q)) f len
+    (own-claim ρ κ w ω δ used low Q μ (inLine l) t φ h (subst (λ (o : Line). Shape κ w ω used low Q μ (inLine l) o φ) is S) f R (subst (λ (o : Line). Inv κ w ω δ Q μ (inLine l) o φ h) is I)))
 
 pub finishing : (o : Line) → ((t : Task) × (r : Anchor) × (o ≡ PutFinish t r)) ⊎ ((t : Task) (r : Anchor) → o ≡ PutFinish t r → ⊥)
 finishing Idle = inr (λ u s q. let z : _≡_ {A = ℕ} 0 1 = cc in omega arith)
@@ -577,63 +580,63 @@ finishing (StealNext r t) = inr (λ u s q. let z : _≡_ {A = ℕ} 0 1 = cc in o
 finishing (StealCompare r e t) = inr (λ u s q. let z : _≡_ {A = ℕ} 0 1 = cc in omega arith)
 
 -- with delayed stores
-join-stepped : (κ : Kind) (w ω : ℕ) (l : Waiting) (Q : Queue) (μ : List ℕ) (o : Line) (φ : ℕ → Line) (h : History) → ω ≤ 4 → l .count ≤ length (l .stores)
-    → own-effect κ w ω (inLine l) Q μ o .claims ≡ false → Inv κ w ω true Q μ (inLine l) o φ h → Stepped κ w ω true l Q μ o φ h (own-effect κ w ω (inLine l) Q μ o)
-join-stepped κ w ω l Q μ o φ h wide len f I =
+join-stepped : (ρ : Room) (κ : Kind) (w ω : ℕ) (l : Waiting) (Q : Queue) (μ : List ℕ) (o : Line) (φ : ℕ → Line) (h : History) → ω ≤ 4 → l .count ≤ length (l .stores)
+    → own-effect ρ κ w ω (inLine l) Q μ o .claims ≡ false → Inv κ w ω true Q μ (inLine l) o φ h → Stepped ρ κ w ω true l Q μ o φ h (own-effect ρ κ w ω (inLine l) Q μ o)
+join-stepped ρ κ w ω l Q μ o φ h wide len f I =
     rw f (subst (λ (ss : List Store). Inv κ w ω true Q μ ss (E′ .line) φ (event-of ω true (l .count) (step 0) o (E′ .answer) ∷ h)) (sym (line-join l (E′ .stores) len)) (J .0), J .1)
   where
     E′ : Effect
-    E′ = own-effect κ w ω (inLine l) Q μ o
+    E′ = own-effect ρ κ w ω (inLine l) Q μ o
 
     J : Inv κ w ω true Q μ (inLine l ++ E′ .stores) (E′ .line) φ (event-of ω true (l .count) (step 0) o (E′ .answer) ∷ h) × GoodEvent true (event-of ω true (l .count) (step 0) o (E′ .answer)) h
-    J = own-join κ w ω true (l .count) Q μ (inLine l) o φ h wide I (λ q. not-both true q refl) (sym (line-length l len)) f (λ t r q. refl)
+    J = own-join ρ κ w ω true (l .count) Q μ (inLine l) o φ h wide I (λ q. not-both true q refl) (sym (line-length l len)) f (λ t r q. refl)
 
 -- without: what joined is put down
-abbrev Landed : Kind → ℕ → ℕ → Queue → List ℕ → Line → (ℕ → Line) → History → Effect → Type 0
-Landed κ w ω Q μ o φ h E =
-    Inv κ w ω false (laid (E .stores) (queueAfter (E .claims) Q)) (words ω (arraysAfter (E .claims) Q) (E .stores) (storeAfter (E .claims) Q μ)) [] (E .line) φ (event-of ω false 0 (step 0) o (E .answer) ∷ h)
+abbrev Landed : Room → Kind → ℕ → ℕ → Queue → List ℕ → Line → (ℕ → Line) → History → Effect → Type 0
+Landed ρ κ w ω Q μ o φ h E =
+    Inv κ w ω false (laid (E .stores) (queueAfter ρ (E .claims) Q)) (words ω (arraysAfter ρ (E .claims) Q) (E .stores) (storeAfter ρ (E .claims) Q μ)) [] (E .line) φ (event-of ω false 0 (step 0) o (E .answer) ∷ h)
     × GoodEvent false (event-of ω false 0 (step 0) o (E .answer)) h
 
-put-stepped : (κ : Kind) (w ω : ℕ) (Q : Queue) (μ : List ℕ) (o : Line) (t : Task) (r : Anchor) (φ : ℕ → Line) (h : History) → o ≡ PutFinish t r → Inv κ w ω false Q μ [] o φ h → Landed κ w ω Q μ o φ h (lineStep κ w ω Q μ 0 o)
+put-stepped : (ρ : Room) (κ : Kind) (w ω : ℕ) (Q : Queue) (μ : List ℕ) (o : Line) (t : Task) (r : Anchor) (φ : ℕ → Line) (h : History) → o ≡ PutFinish t r → Inv κ w ω false Q μ [] o φ h → Landed ρ κ w ω Q μ o φ h (lineStep ρ κ w ω Q μ 0 o)
 unfolding lineStep
-put-stepped κ w ω Q μ o t r φ h is I =
-    subst (λ (o : Line). Landed κ w ω Q μ o φ h (lineStep κ w ω Q μ 0 o)) (sym is) (put-at-once κ w ω Q μ t r φ h (subst (λ (o : Line). Inv κ w ω false Q μ [] o φ h) is I))
+put-stepped ρ κ w ω Q μ o t r φ h is I =
+    subst (λ (o : Line). Landed ρ κ w ω Q μ o φ h (lineStep ρ κ w ω Q μ 0 o)) (sym is) (put-at-once ρ κ w ω Q μ t r φ h (subst (λ (o : Line). Inv κ w ω false Q μ [] o φ h) is I))
 
-land-stepped : (κ : Kind) (w ω : ℕ) (Q : Queue) (μ : List ℕ) (o : Line) (φ : ℕ → Line) (h : History) → ω ≤ 4 → lineStep κ w ω Q μ 0 o .claims ≡ false → Inv κ w ω false Q μ [] o φ h
-    → ((t : Task) × (r : Anchor) × (o ≡ PutFinish t r)) ⊎ ((t : Task) (r : Anchor) → o ≡ PutFinish t r → ⊥) → Landed κ w ω Q μ o φ h (lineStep κ w ω Q μ 0 o)
-land-stepped κ w ω Q μ o φ h wide f I (inl (t, r, is)) = put-stepped κ w ω Q μ o t r φ h is I
-land-stepped κ w ω Q μ o φ h wide f I (inr d) =
-    rw f (own-at-once κ w ω Q μ (E′ .stores) (E′ .line) φ (event-of ω false 0 (step 0) o (E′ .answer) ∷ h) (none-put κ w ω Q μ o d) (J .0), J .1)
+land-stepped : (ρ : Room) (κ : Kind) (w ω : ℕ) (Q : Queue) (μ : List ℕ) (o : Line) (φ : ℕ → Line) (h : History) → ω ≤ 4 → lineStep ρ κ w ω Q μ 0 o .claims ≡ false → Inv κ w ω false Q μ [] o φ h
+    → ((t : Task) × (r : Anchor) × (o ≡ PutFinish t r)) ⊎ ((t : Task) (r : Anchor) → o ≡ PutFinish t r → ⊥) → Landed ρ κ w ω Q μ o φ h (lineStep ρ κ w ω Q μ 0 o)
+land-stepped ρ κ w ω Q μ o φ h wide f I (inl (t, r, is)) = put-stepped ρ κ w ω Q μ o t r φ h is I
+land-stepped ρ κ w ω Q μ o φ h wide f I (inr d) =
+    rw f (own-at-once κ w ω Q μ (E′ .stores) (E′ .line) φ (event-of ω false 0 (step 0) o (E′ .answer) ∷ h) (none-put ρ κ w ω Q μ o d) (J .0), J .1)
   where
     E′ : Effect
-    E′ = lineStep κ w ω Q μ 0 o
+    E′ = lineStep ρ κ w ω Q μ 0 o
 
     J : Inv κ w ω false Q μ (E′ .stores) (E′ .line) φ (event-of ω false 0 (step 0) o (E′ .answer) ∷ h) × GoodEvent false (event-of ω false 0 (step 0) o (E′ .answer)) h
-    J = own-join κ w ω false 0 Q μ [] o φ h wide I (λ q. refl) refl f (λ t r q. absurd (d t r q))
+    J = own-join ρ κ w ω false 0 Q μ [] o φ h wide I (λ q. refl) refl f (λ t r q. absurd (d t r q))
 
 -- and none waits
-at-once : (κ : Kind) (w ω : ℕ) (l : Waiting) (Q : Queue) (μ : List ℕ) (o : Line) (φ : ℕ → Line) (h : History) → ω ≤ 4 → l .count ≤ length (l .stores) → l .count ≡ 0
-    → own-effect κ w ω (inLine l) Q μ o .claims ≡ false → Inv κ w ω false Q μ (inLine l) o φ h → Stepped κ w ω false l Q μ o φ h (own-effect κ w ω (inLine l) Q μ o)
-at-once κ w ω l Q μ o φ h wide len none = go (inLine l) (l .count) (inLine (joined l [])) empty none (line-join l [] len ∙ no-more (inLine l) ∙ empty)
+at-once : (ρ : Room) (κ : Kind) (w ω : ℕ) (l : Waiting) (Q : Queue) (μ : List ℕ) (o : Line) (φ : ℕ → Line) (h : History) → ω ≤ 4 → l .count ≤ length (l .stores) → l .count ≡ 0
+    → own-effect ρ κ w ω (inLine l) Q μ o .claims ≡ false → Inv κ w ω false Q μ (inLine l) o φ h → Stepped ρ κ w ω false l Q μ o φ h (own-effect ρ κ w ω (inLine l) Q μ o)
+at-once ρ κ w ω l Q μ o φ h wide len none = go (inLine l) (l .count) (inLine (joined l [])) empty none (line-join l [] len ∙ no-more (inLine l) ∙ empty)
   where
     empty : inLine l ≡ []
     empty = ap (λ (k : ℕ). map (λ (p : Pending). p .store) (take k (l .stores))) none
 
-    go : (ss : List Store) (n : ℕ) (rr : List Store) → ss ≡ [] → n ≡ 0 → rr ≡ [] → own-effect κ w ω ss Q μ o .claims ≡ false → Inv κ w ω false Q μ ss o φ h
-        → let E = own-effect κ w ω ss Q μ o in
-        Inv κ w ω false (laid (E .stores) (queueAfter (E .claims) Q)) (words ω (arraysAfter (E .claims) Q) (E .stores) (storeAfter (E .claims) Q μ)) rr (E .line) φ (event-of ω false n (step 0) o (E .answer) ∷ h)
+    go : (ss : List Store) (n : ℕ) (rr : List Store) → ss ≡ [] → n ≡ 0 → rr ≡ [] → own-effect ρ κ w ω ss Q μ o .claims ≡ false → Inv κ w ω false Q μ ss o φ h
+        → let E = own-effect ρ κ w ω ss Q μ o in
+        Inv κ w ω false (laid (E .stores) (queueAfter ρ (E .claims) Q)) (words ω (arraysAfter ρ (E .claims) Q) (E .stores) (storeAfter ρ (E .claims) Q μ)) rr (E .line) φ (event-of ω false n (step 0) o (E .answer) ∷ h)
         × GoodEvent false (event-of ω false n (step 0) o (E .answer)) h
     go ss n rr es en er =
-        rw (es, en, er) (λ f I. land-stepped κ w ω Q μ o φ h wide f I (finishing o))
+        rw (es, en, er) (λ f I. land-stepped ρ κ w ω Q μ o φ h wide f I (finishing o))
 
-pub own-stepped : (κ : Kind) (w ω : ℕ) (δ : Bool) (l : Waiting) (Q : Queue) (μ : List ℕ) (used low : ℕ) (o : Line) (φ : ℕ → Line) (h : History) → ω ≤ 4 → (δ ≡ false → l .count ≡ 0) → l .count ≤ length (l .stores)
-    → Shape κ w ω used low Q μ (inLine l) o φ → Inv κ w ω δ Q μ (inLine l) o φ h → Stepped κ w ω δ l Q μ o φ h (own-effect κ w ω (inLine l) Q μ o)
-own-stepped κ w ω δ l Q μ used low o φ h wide mode len S I = go (own-effect κ w ω (inLine l) Q μ o .claims) refl
+pub own-stepped : (ρ : Room) (κ : Kind) (w ω : ℕ) (δ : Bool) (l : Waiting) (Q : Queue) (μ : List ℕ) (used low : ℕ) (o : Line) (φ : ℕ → Line) (h : History) → ω ≤ 4 → (δ ≡ false → l .count ≡ 0) → l .count ≤ length (l .stores)
+    → Free ρ Q μ → Shape κ w ω used low Q μ (inLine l) o φ → Inv κ w ω δ Q μ (inLine l) o φ h → Stepped ρ κ w ω δ l Q μ o φ h (own-effect ρ κ w ω (inLine l) Q μ o)
+own-stepped ρ κ w ω δ l Q μ used low o φ h wide mode len R S I = go (own-effect ρ κ w ω (inLine l) Q μ o .claims) refl
   where
-    landed : (δ : Bool) → (δ ≡ false → l .count ≡ 0) → own-effect κ w ω (inLine l) Q μ o .claims ≡ false → Inv κ w ω δ Q μ (inLine l) o φ h → Stepped κ w ω δ l Q μ o φ h (own-effect κ w ω (inLine l) Q μ o)
-    landed true m f I = join-stepped κ w ω l Q μ o φ h wide len f I
-    landed false m f I = at-once κ w ω l Q μ o φ h wide len (m refl) f I
+    landed : (δ : Bool) → (δ ≡ false → l .count ≡ 0) → own-effect ρ κ w ω (inLine l) Q μ o .claims ≡ false → Inv κ w ω δ Q μ (inLine l) o φ h → Stepped ρ κ w ω δ l Q μ o φ h (own-effect ρ κ w ω (inLine l) Q μ o)
+    landed true m f I = join-stepped ρ κ w ω l Q μ o φ h wide len f I
+    landed false m f I = at-once ρ κ w ω l Q μ o φ h wide len (m refl) f I
 
-    go : (x : Bool) → own-effect κ w ω (inLine l) Q μ o .claims ≡ x → Stepped κ w ω δ l Q μ o φ h (own-effect κ w ω (inLine l) Q μ o)
+    go : (x : Bool) → own-effect ρ κ w ω (inLine l) Q μ o .claims ≡ x → Stepped ρ κ w ω δ l Q μ o φ h (own-effect ρ κ w ω (inLine l) Q μ o)
     go false e = landed δ mode e I
-    go true e = let C = claim-only κ w ω (laid (inLine l) Q) (words ω (Q .arrays) (inLine l) μ) 0 o e in claim-stepped κ w ω δ l Q μ used low o (C .0) φ h len (C .1) (C .2) S I
+    go true e = let C = claim-only ρ κ w ω (laid (inLine l) Q) (words ω (Q .arrays) (inLine l) μ) 0 o e in claim-stepped ρ κ w ω δ l Q μ used low o (C .0) φ h len (C .1) (C .2) R S I

@@ -160,6 +160,7 @@ module _ {κ : Kind} {w ω : ℕ} {δ : Bool} {Q : Queue} {μ : List ℕ} {ol oh
               tops = tops-refl κ (B .hi);
               core = core-read (B .core);
               sized = B .sized;
+              sorted = B .sorted;
               room = B .room;
               tag = B .tag;
               owed = O;

@@ -13,6 +13,7 @@ use Rattle.model.specs.declared.Kind.the-variants.{Lifo, Fifo, Deque}
 use Rattle.model.specs.declared.Line.{Line}
 use Rattle.model.specs.declared.Line.the-variants.{PutFinish}
 use Rattle.model.specs.declared.Queue.{Queue}
+use Rattle.model.specs.declared.Room.{Room}
 use Rattle.model.specs.declared.Task.{Task}
 use Rattle.model.specs.declared.Anchor.{Anchor}
 use Rattle.model.specs.declared.Store.{Store}
@@ -28,16 +29,17 @@ use Rattle.model.specs.Stores.{inLine, joined, oldest, oneLess}
 use Rattle.model.specs.Figures.{putStore}
 use Rattle.model.specs.Lines.{lineStep}
 use Rattle.model.specs.World.{World, Outcome, refuse, tagBits, lineAt}
-use Rattle.model.specs.Calls.{freshOf, begun, joining, Call, begin, step, dropLink, drain, callOf, setAside, ask, dropAsk}
-use Rattle.model.specs.Run.{played}
+use Rattle.model.specs.Calls.{begun, joining, Call, begin, step, dropLink, drain, callIn, setAside, ask, dropAsk}
+use Rattle.model.specs.Run.{Played}
 use Rattle.theorems.specs.Demand3.{finishes, ofPut, arrivesAs, puts, drainsAs, drains, waits}
 use Rattle.theorems.specs.Corollaries.{landed, SamePuts}
-use Rattle.theorems.proofs.Cases.{dropped, effectOf, stepTo, drainTo, begin-cases, step-cases, drop-cases, drain-cases, ask-cases, drop-ask-cases}
+use Rattle.theorems.proofs.Cases.{dropped, effectOf, stepTo, drainTo, begin-by, step-by, drop-by, drain-by, ask-by, drop-ask-by}
 use Rattle.theorems.proofs.Held.{line-join, line-drain, line-length}
 use Rattle.theorems.proofs.Shape.{tail, ThiefShape}
 use Rattle.theorems.proofs.Valid.{Whole}
-use Rattle.theorems.proofs.WholeRun.{in-line, call-whole}
-use Rattle.theorems.proofs.Fresh.{fresh-is, fresh-started}
+use Rattle.theorems.proofs.WholeRun.{in-line, storing, others-whole, call-whole}
+use Rattle.theorems.proofs.Company.{Turn, others, own, playedIn, InCompany}
+use Rattle.theorems.proofs.Fresh.{Started, fresh-started, from-company}
 use Rattle.theorems.proofs.Folds.{NonePut}
 use Rattle.theorems.proofs.OwnerRun.{none-put, finishing, finish-only, put-stores}
 
@@ -106,22 +108,22 @@ unfolding if_then_else_
 if-none true x e = e
 if-none false x e = refl
 
-finish-answer : (κ : Kind) (w ω : ℕ) (q : Queue) (m : List ℕ) (o : Line) (t : Task) (r : Anchor) → o ≡ PutFinish t r → finishes (lineStep κ w ω q m 0 o .answer) ≡ 1
+finish-answer : (ρ : Room) (κ : Kind) (w ω : ℕ) (q : Queue) (m : List ℕ) (o : Line) (t : Task) (r : Anchor) → o ≡ PutFinish t r → finishes (lineStep ρ κ w ω q m 0 o .answer) ≡ 1
 unfolding lineStep
-finish-answer κ w ω q m o t r e = rw e
+finish-answer ρ κ w ω q m o t r e = rw e
 
 -- what the owner's line adds to the first x of a line of n
-line-adds : (κ : Kind) (w ω : ℕ) (q : Queue) (m : List ℕ) (o : Line) (n x : ℕ) → first (lineStep κ w ω q m 0 o .stores) (x - n) ≡ (if leb (n + 1) x then finishes (lineStep κ w ω q m 0 o .answer) else 0)
-line-adds κ w ω q m o n x = go (finishing o)
+line-adds : (ρ : Room) (κ : Kind) (w ω : ℕ) (q : Queue) (m : List ℕ) (o : Line) (n x : ℕ) → first (lineStep ρ κ w ω q m 0 o .stores) (x - n) ≡ (if leb (n + 1) x then finishes (lineStep ρ κ w ω q m 0 o .answer) else 0)
+line-adds ρ κ w ω q m o n x = go (finishing o)
   where
     go : ((t : Task) × (r : Anchor) × (o ≡ PutFinish t r)) ⊎ ((t : Task) (r : Anchor) → o ≡ PutFinish t r → ⊥)
-        → first (lineStep κ w ω q m 0 o .stores) (x - n) ≡ (if leb (n + 1) x then finishes (lineStep κ w ω q m 0 o .answer) else 0)
+        → first (lineStep ρ κ w ω q m 0 o .stores) (x - n) ≡ (if leb (n + 1) x then finishes (lineStep ρ κ w ω q m 0 o .answer) else 0)
     go (inl (t, r, e)) =
-        ap (λ (ss : List Store). first ss (x - n)) (put-stores κ w ω q m o t r e) ∙ last-one (putStore κ w r) n x (put-counts κ w r)
-        ∙ ap (λ (y : ℕ). if leb (n + 1) x then y else 0) (sym (finish-answer κ w ω q m o t r e))
+        ap (λ (ss : List Store). first ss (x - n)) (put-stores ρ κ w ω q m o t r e) ∙ last-one (putStore κ w r) n x (put-counts κ w r)
+        ∙ ap (λ (y : ℕ). if leb (n + 1) x then y else 0) (sym (finish-answer ρ κ w ω q m o t r e))
     go (inr d) =
-        first-none (lineStep κ w ω q m 0 o .stores) (x - n) (none-put κ w ω q m o d)
-        ∙ sym (if-none (leb (n + 1) x) _ (unfinished _ (λ i t p. let P = finish-only κ w ω q m 0 o i t p in d t (P .0) (P .1))))
+        first-none (lineStep ρ κ w ω q m 0 o .stores) (x - n) (none-put ρ κ w ω q m o d)
+        ∙ sym (if-none (leb (n + 1) x) _ (unfinished _ (λ i t p. let P = finish-only ρ κ w ω q m 0 o i t p in d t (P .0) (P .1))))
 
 clear : (δ : Bool) (y : ℕ) → y ≡ 0 → (if δ then 0 else y) ≡ 0
 unfolding if_then_else_
@@ -184,16 +186,16 @@ step-pays : (δ : Bool) (i : ℕ) (l : Waiting) (rr : List Store) (f : ℕ) → 
     → ((x : ℕ) → i ≡ 0 → first rr (x - l .count) ≡ (if leb (l .count + 1) x then f else 0)) → (0 < i → f ≡ 0) → (x : ℕ)
     → (if δ then 0 else f) + first (inLine (joined l (joining δ i rr))) x ≡ (if leb (if δ then l .count + 1 else 0) x then f else 0) + first (inLine l) (x + 0)
 unfolding if_then_else_
-step-pays true zero l rr f h own thief x =
+step-pays true zero l rr f h mine thief x =
     omega (
       arith,
       ap (λ (ss : List Store). first ss x) (line-join l rr h),
       first-join (inLine l) rr x,
       ap (λ (y : ℕ). first rr (x - y)) (line-length l h),
-      own x refl,
+      mine x refl,
       plus-zero (inLine l) x,
     )
-step-pays true (suc k) l rr f h own thief x =
+step-pays true (suc k) l rr f h mine thief x =
     omega (
       arith,
       ap (λ (ss : List Store). first ss x) (line-join l [] h),
@@ -201,7 +203,7 @@ step-pays true (suc k) l rr f h own thief x =
       if-none (leb (l .count + 1) x) f (thief (omega arith)),
       plus-zero (inLine l) x,
     )
-step-pays false i l rr f h own thief x =
+step-pays false i l rr f h mine thief x =
     omega (
       arith,
       ap (λ (ss : List Store). first ss x) (line-join l [] h),
@@ -210,25 +212,25 @@ step-pays false i l rr f h own thief x =
       plus-zero (inLine l) x,
     )
 
-thief-none : (W : World) → Whole W → (i : ℕ) → 0 < i → finishes (effectOf W i .answer) ≡ 0
-thief-none W H zero h = absurd (omega arith)
-thief-none W H (suc k) h =
+thief-none : (ρ : Room) (W : World) → Whole W → (i : ℕ) → 0 < i → finishes (effectOf ρ W i .answer) ≡ 0
+thief-none ρ W H zero h = absurd (omega arith)
+thief-none ρ W H (suc k) h =
     unfinished _ (λ i t p.
-    let P = finish-only (W .bench .kind) (tagBits (W .bench)) (W .bench .words) (W .bench .queue) (W .store) (suc k) (lineAt (W .bench .workers) (suc k)) i t p in
+    let P = finish-only ρ (W .bench .kind) (tagBits (W .bench)) (W .bench .words) (W .bench .queue) (W .store) (suc k) (lineAt (W .bench .workers) (suc k)) i t p in
     subst (λ (θ : Line). ThiefShape (W .bench .kind) (tagBits (W .bench)) (W .bench .words) (W .bench .queue) (tail (W .bench .kind) (W .bench .queue .anchor)) θ) (P .1) (H .shape .th k))
 
-own-adds : (W : World) (i x : ℕ) → i ≡ 0 → first (effectOf W i .stores) (x - W .bench .waiting .count) ≡ (if leb (W .bench .waiting .count + 1) x then finishes (effectOf W i .answer) else 0)
-own-adds W zero x e = line-adds (W .bench .kind) (tagBits (W .bench)) (W .bench .words) _ _ (lineAt (W .bench .workers) 0) (W .bench .waiting .count) x
-own-adds W (suc k) x e = absurd (omega arith)
+own-adds : (ρ : Room) (W : World) (i x : ℕ) → i ≡ 0 → first (effectOf ρ W i .stores) (x - W .bench .waiting .count) ≡ (if leb (W .bench .waiting .count + 1) x then finishes (effectOf ρ W i .answer) else 0)
+own-adds ρ W zero x e = line-adds ρ (W .bench .kind) (tagBits (W .bench)) (W .bench .words) _ _ (lineAt (W .bench .workers) 0) (W .bench .waiting .count) x
+own-adds ρ W (suc k) x e = absurd (omega arith)
 
-stepped-pays : (W : World) → Whole W → (i : ℕ) → Pays W (step i) (stepTo W i)
-stepped-pays W H i x =
-    step-pays (W .bench .delayed) i (W .bench .waiting) (effectOf W i .stores) (finishes (effectOf W i .answer)) (in-line H) (λ x e. own-adds W i x e) (thief-none W H i) x
+stepped-pays : (ρ : Room) (W : World) → Whole W → (i : ℕ) → Pays W (step i) (stepTo ρ W i)
+stepped-pays ρ W H i x =
+    step-pays (W .bench .delayed) i (W .bench .waiting) (effectOf ρ W i .stores) (finishes (effectOf ρ W i .answer)) (in-line H) (λ x e. own-adds ρ W i x e) (thief-none ρ W H i) x
 
 -- a drain
-drained-pays : (W : World) → Whole W → 0 < W .bench .waiting .count → Pays W drain (record { world = drainTo W; answer = Accepted })
+drained-pays : (ρ : Room) (W : World) → Whole W → 0 < W .bench .waiting .count → Pays W drain (record { world = drainTo W; answer = Accepted })
 unfolding if_then_else_
-drained-pays W H some x =
+drained-pays ρ W H some x =
     omega (
       arith,
       ap (λ (ss : List Store). first ss (x + 1)) (line-drain (W .bench .waiting) some (in-line H)),
@@ -239,25 +241,28 @@ drained-pays W H some x =
     next-one : (s : Store) (ss : List Store) (x : ℕ) → first (s ∷ ss) (x + 1) ≡ ofPut s + first ss x
     next-one s ss x = ap (first (s ∷ ss)) {x = x + 1} {y = suc x} (omega arith)
 
-call-pays : (W : World) → Whole W → (c : Call) → Pays W c (callOf W c)
-call-pays W H (begin i op) = begin-cases (Pays W (begin i op)) W (λ r l. refused-pays W (begin i op) r) i op (λ B. begun-pays W i op)
-call-pays W H (step i) = step-cases (Pays W (step i)) W (λ r l. refused-pays W (step i) r) i (λ M. stepped-pays W H i)
-call-pays W H (dropLink i) = drop-cases (Pays W (dropLink i)) W (λ r l. refused-pays W (dropLink i) r) i (dropped-pays W i)
-call-pays W H (ask i) = ask-cases (Pays W (ask i)) W (λ r l. refused-pays W (ask i) r) i (λ n A. ask-pays W i n)
-call-pays W H (dropAsk i) = drop-ask-cases (Pays W (dropAsk i)) W (λ r l. refused-pays W (dropAsk i) r) i (λ n A. drop-ask-pays W i n)
-call-pays W H drain = drain-cases (Pays W drain) W (λ r l. refused-pays W drain r) (drained-pays W H)
+call-pays : (ρ : Room) (W : World) → Whole W → (c : Call) → Pays W c (callIn ρ W c)
+call-pays ρ W H (begin i op) = begin-by (Pays W (begin i op)) W (λ r l. refused-pays W (begin i op) r) ρ i op (λ B. begun-pays W i op)
+call-pays ρ W H (step i) = step-by (Pays W (step i)) W (λ r l. refused-pays W (step i) r) ρ i (λ M. stepped-pays ρ W H i)
+call-pays ρ W H (dropLink i) = drop-by (Pays W (dropLink i)) W (λ r l. refused-pays W (dropLink i) r) ρ i (dropped-pays W i)
+call-pays ρ W H (ask i) = ask-by (Pays W (ask i)) W (λ r l. refused-pays W (ask i) r) ρ i (λ n A. ask-pays W i n)
+call-pays ρ W H (dropAsk i) = drop-ask-by (Pays W (dropAsk i)) W (λ r l. refused-pays W (dropAsk i) r) ρ i (λ n A. drop-ask-pays W i n)
+call-pays ρ W H drain = drain-by (Pays W drain) W (λ r l. refused-pays W drain r) ρ (drained-pays ρ W H)
 
 -- A LIST
-run-pays : (cs : List Call) (W : World) → Whole W → puts (played W cs) ≡ landed (played W cs) + first (inLine (W .bench .waiting)) (drains (played W cs))
-unfolding played
-run-pays [] W H = nothing-first (inLine (W .bench .waiting))
-  where
-    nothing-first : (ss : List Store) → 0 ≡ 0 + first ss 0
-    nothing-first [] = omega arith
-    nothing-first (s ∷ ss) = omega arith
-run-pays (c ∷ cs) W H = omega (arith, run-pays cs (callOf W c .world) (call-whole H c), call-pays W H c (drains (played (callOf W c .world) cs)))
+nothing-first : (ss : List Store) → first ss 0 ≡ 0
+nothing-first [] = refl
+nothing-first (s ∷ ss) = refl
+
+run-pays : (ts : List Turn) (W : World) → Whole W → InCompany W ts → puts (playedIn W ts) ≡ landed (playedIn W ts) + first (inLine (W .bench .waiting)) (drains (playedIn W ts))
+unfolding playedIn InCompany
+run-pays [] W H C = omega (arith, nothing-first (inLine (W .bench .waiting)))
+run-pays (others m ∷ ts) W H (O, C) = run-pays ts (storing W m) (others-whole H O) C
+run-pays (own ρ c ∷ ts) W H (R, C) = omega (arith, run-pays ts (callIn ρ W c .world) (call-whole ρ H R c) C, call-pays ρ W H c (drains (playedIn (callIn ρ W c .world) ts)))
+
+-- in company, and alone
+pub same-puts-in : (ts : List Turn) (U : World) → Started U → InCompany U ts → puts (playedIn U ts) ≡ landed (playedIn U ts)
+same-puts-in ts U F C = omega (arith, run-pays ts U (F .whole) C, ap (λ (ss : List Store). first ss (drains (playedIn U ts))) (F .line))
 
 pub same-puts : SamePuts
-same-puts s m l e cs =
-    let U = freshOf s m l .world in
-    omega (arith, run-pays cs U (fresh-started s m l e .whole), ap (λ (W : World). first (inLine (W .bench .waiting)) (drains (played U cs))) (fresh-is s m l e .0))
+same-puts s m l e cs = from-company (λ (T : List Played) (X : World). puts T ≡ landed T) s m l e (λ ts C. same-puts-in ts _ (fresh-started s m l e) C) cs

@@ -2,7 +2,7 @@
 use mathlib.Core.Path.{_≡_, refl, sym, _∙_, ap}
 use mathlib.Core.Logic.{_⊎_, inl, inr}
 use mathlib.Core.List.{List}
-use Prim.Native.Nat.{ℕ, _+_, _*_, _≤_, _<_}
+use Prim.Native.Nat.{ℕ, suc, _+_, _*_, _≤_, _<_}
 use native.Mathlib.Omega.{arith}
 use lib.ListN.{getD}
 use Rattle.model.specs.declared.Region.{Region}
@@ -13,9 +13,12 @@ use Rattle.model.specs.Memory.{offsetAt, sizeAt}
 use Rattle.theorems.proofs.Words.{cell, addr-in}
 use Rattle.theorems.proofs.Window.{View, word}
 
--- the array (b, z) was current once
+-- the array (b, z) is a published one, but not the current; it is the current one or such a one
+abbrev pub Older : View → ℕ → ℕ → Type 0
+Older v b z = (k : ℕ) × (suc k < v .published) × (offsetAt (v .directory) k ≡ b) × (sizeAt (v .words) (v .directory) k ≡ z)
+
 abbrev pub Dir : View → ℕ → ℕ → Type 0
-Dir v b z = (0 < z) × (((b ≡ v .base) × (z ≡ v .slots)) ⊎ (b + (v .words + 1) * z ≤ v .base))
+Dir v b z = (0 < z) × (((b ≡ v .base) × (z ≡ v .slots)) ⊎ Older v b z)
 
 -- t has the first j words of index i, if i stays in the owner's window; st: what came since that may have broken it
 abbrev pub Got : ℕ → View → ℕ → ℕ → Task → Type 0
@@ -36,26 +39,26 @@ pub record Frame (v v′ : View) : Type 0 where
   pub larger : v .slots ≤ v′ .slots
   pub cur : (i j : ℕ) → v′ .own-lo ≤ i → i < v .own-hi → j < v .words + 1 → word v′ i j ≡ word v i j
   pub old : (i j : ℕ) → v′ .own-lo ≤ i → i < v .own-hi → j < v .words + 1 → cell (v .words) (v′ .store) (v .base) (v .slots) i j ≡ word v i j
-  pub low : (a : ℕ) → a < v .base → getD (v′ .store) a 0 ≡ getD (v .store) a 0
+  pub low : (b z a : ℕ) → Older v b z → b ≤ a → a < b + (v .words + 1) * z → getD (v′ .store) a 0 ≡ getD (v .store) a 0
+  pub more : v .published ≤ v′ .published
   pub places : Places v v′
-  pub dir : ((v′ .base ≡ v .base) × (v′ .slots ≡ v .slots)) ⊎ (v .base + (v .words + 1) * v .slots ≤ v′ .base)
+  pub dir : ((v′ .base ≡ v .base) × (v′ .slots ≡ v .slots)) ⊎ Older v′ (v .base) (v .slots)
 
 -- the top did not move up, unless a put came since
 abbrev pub Still : ℕ → ℕ → View → View → ℕ → Type 0
 Still st st′ v v′ i = st′ ≡ 0 → (st ≡ 0) × (i < v′ .own-hi → i < v .own-hi)
 
+older-keep : {v v′ : View} {b z : ℕ} → Frame v v′ → Older v b z → Older v′ b z
+older-keep F (k, h, p, q) = let P = F .places k (omega arith) in (k, omega (arith, F .more), P .1 ∙ p, P .2 ∙ q)
+
 pub dir-keep : {v v′ : View} {b z : ℕ} → Frame v v′ → Dir v b z → Dir v′ b z
 dir-keep {v} {v′} {b} {z} F d = (d .0, go (F .dir) (d .1))
   where
-    wide : (v′ .words + 1) * z ≡ (v .words + 1) * z
-    wide = ap (λ (x : ℕ). (x + 1) * z) (F .width)
-
-    go : ((v′ .base ≡ v .base) × (v′ .slots ≡ v .slots)) ⊎ (v .base + (v .words + 1) * v .slots ≤ v′ .base) → ((b ≡ v .base) × (z ≡ v .slots)) ⊎ (b + (v .words + 1) * z ≤ v .base)
-        → ((b ≡ v′ .base) × (z ≡ v′ .slots)) ⊎ (b + (v′ .words + 1) * z ≤ v′ .base)
+    go : ((v′ .base ≡ v .base) × (v′ .slots ≡ v .slots)) ⊎ Older v′ (v .base) (v .slots) → ((b ≡ v .base) × (z ≡ v .slots)) ⊎ Older v b z
+        → ((b ≡ v′ .base) × (z ≡ v′ .slots)) ⊎ Older v′ b z
     go (inl (p, q)) (inl (r, s)) = inl (omega arith, omega arith)
-    go (inl (p, q)) (inr r) = inr (omega (arith, wide))
-    go (inr p) (inl (r, s)) = inr (rw (F .width, s) (omega arith))
-    go (inr p) (inr r) = inr (omega (arith, wide))
+    go (inr (k, h, p, q)) (inl (r, s)) = inr (k, h, p ∙ sym r, q ∙ sym s)
+    go x (inr r) = inr (older-keep F r)
 
 pub got-keep : {v v′ : View} {st st′ i j : ℕ} {t : Task} → Frame v v′ → Still st st′ v v′ i → j ≤ v .words + 1 → Got st v i j t → Got st′ v′ i j t
 got-keep {v} {v′} {st} {st′} {i} {j} {t} F S hj G e l h =
@@ -68,9 +71,9 @@ arr-keep : {v v′ : View} {b z i : ℕ} (j : ℕ) → Frame v v′ → Dir v b 
 unfolding cell
 arr-keep {v} {v′} {b} {z} {i} j F d l h hj = go (d .1)
   where
-    go : ((b ≡ v .base) × (z ≡ v .slots)) ⊎ (b + (v .words + 1) * z ≤ v .base) → cell (v .words) (v′ .store) b z i j ≡ cell (v .words) (v .store) b z i j
+    go : ((b ≡ v .base) × (z ≡ v .slots)) ⊎ Older v b z → cell (v .words) (v′ .store) b z i j ≡ cell (v .words) (v .store) b z i j
     go (inl (p, q)) = rw (p, q) (F .old i j l h hj)
-    go (inr p) = F .low _ (omega (arith, addr-in (v .words) b z i j (d .0) hj))
+    go (inr p) = F .low b z _ p (omega arith) (addr-in (v .words) b z i j (d .0) hj)
 
 pub noted-keep : {v v′ : View} {st st′ b z i : ℕ} → Frame v v′ → Still st st′ v v′ i → Dir v b z → Noted st v b z i → Noted st′ v′ b z i
 noted-keep {v} {v′} {st} {st′} {b} {z} {i} F S d N j hj e l h =
@@ -82,16 +85,18 @@ noted-keep {v} {v′} {st} {st′} {b} {z} {i} F S d N j hj e l h =
 -- the same store and array, and an owner's window whose lower end is no lower
 pub frame-same : (v : View) (own-lo own-hi : ℕ) → v .own-lo ≤ own-lo → Frame v (record { words = v .words; store = v .store; directory = v .directory; published = v .published; base = v .base; slots = v .slots; own-lo = own-lo; own-hi = own-hi })
 frame-same v own-lo own-hi h =
-    record { width = refl; up = h; larger = omega arith; cur = λ i j a b c. refl; old = λ i j a b c. refl; low = λ a b. refl; places = λ k l. (l, refl, refl); dir = inl (refl, refl) }
+    record { width = refl; up = h; larger = omega arith; cur = λ i j a b c. refl; old = λ i j a b c. refl; low = λ b z a p q r. refl; more = omega arith; places = λ k l. (l, refl, refl); dir = inl (refl, refl) }
 
 -- another store
 pub frame-store : (v : View) (m : List ℕ) → ((i j : ℕ) → v .own-lo ≤ i → i < v .own-hi → j < v .words + 1 → cell (v .words) m (v .base) (v .slots) i j ≡ word v i j)
-    → ((a : ℕ) → a < v .base → getD m a 0 ≡ getD (v .store) a 0)
+    → ((b z a : ℕ) → Older v b z → b ≤ a → a < b + (v .words + 1) * z → getD m a 0 ≡ getD (v .store) a 0)
     → (own-hi : ℕ) → Frame v (record { words = v .words; store = m; directory = v .directory; published = v .published; base = v .base; slots = v .slots; own-lo = v .own-lo; own-hi = own-hi })
-frame-store v m same low own-hi = record { width = refl; up = omega arith; larger = omega arith; cur = same; old = same; low = low; places = λ k l. (l, refl, refl); dir = inl (refl, refl) }
+frame-store v m same low own-hi = record { width = refl; up = omega arith; larger = omega arith; cur = same; old = same; low = low; more = omega arith; places = λ k l. (l, refl, refl); dir = inl (refl, refl) }
 
 -- another array, above
-pub frame-pub : (v : View) (n b z : ℕ) → v .slots ≤ z → v .base + (v .words + 1) * v .slots ≤ b → v .published ≤ n
+pub frame-pub : (v : View) (n b z : ℕ) → v .slots ≤ z
+    → Older (record { words = v .words; store = v .store; directory = v .directory; published = n; base = b; slots = z; own-lo = v .own-lo; own-hi = v .own-hi }) (v .base) (v .slots)
+    → v .published ≤ n
     → ((i j : ℕ) → v .own-lo ≤ i → i < v .own-hi → j < v .words + 1 → cell (v .words) (v .store) b z i j ≡ word v i j)
     → (own-hi : ℕ) → Frame v (record { words = v .words; store = v .store; directory = v .directory; published = n; base = b; slots = z; own-lo = v .own-lo; own-hi = own-hi })
 frame-pub v n b z l h u same own-hi =
@@ -101,7 +106,8 @@ frame-pub v n b z l h u same own-hi =
       larger = l;
       cur = same;
       old = λ i j p q r. refl;
-      low = λ a p. refl;
+      low = λ b z a p q r. refl;
+      more = omega arith;
       places = λ k p. (omega arith, refl, refl);
       dir = inr h;
     }
@@ -117,7 +123,8 @@ frame-dir v d b z eb ez same =
       larger = omega arith;
       cur = λ i j p q r. rw (eb, ez);
       old = λ i j p q r. refl;
-      low = λ a p. refl;
+      low = λ b z a p q r. refl;
+      more = omega arith;
       places = λ k l. (l, same k l .0, same k l .1);
       dir = inl (eb, ez);
     }

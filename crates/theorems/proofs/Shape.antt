@@ -49,10 +49,10 @@ OwnRead Lifo w z low τ r = (r .head ≡ 0) × (r .count ≤ z) × (r .tag < 2 ^
 OwnRead Fifo w z low τ r = (r .head ≡ low) × (r .count ≡ τ) × (r .tag ≡ 0)
 OwnRead Deque w z low τ r = (r .head < 2048) × (r .count ≤ z) × (r .tag < 2 ^ w)
 
-abbrev pub Room : Kind → ℕ → ℕ → ℕ → Type 0
-Room Lifo z low c = c < z
-Room Fifo z low c = c < low + z
-Room Deque z low c = c < z
+abbrev pub Spare : Kind → ℕ → ℕ → ℕ → Type 0
+Spare Lifo z low c = c < z
+Spare Fifo z low c = c < low + z
+Spare Deque z low c = c < z
 
 abbrev pub Some : Kind → Anchor → Type 0
 Some Lifo r = 0 < r .count
@@ -158,8 +158,8 @@ OwnShape κ w ω z low τ Idle = Unit {0}
 OwnShape κ w ω z low τ (PutRead t) = Known (ω + 1) t
 OwnShape κ w ω z low τ (PutTail t h) = Known (ω + 1) t × Head κ h low
 OwnShape κ w ω z low τ (PutTest t r) = Known (ω + 1) t × OwnRead κ w z low τ r
-OwnShape κ w ω z low τ (PutWord t r j) = Known (ω + 1) t × OwnRead κ w z low τ r × Room κ z low (r .count) × (j ≤ ω)
-OwnShape κ w ω z low τ (PutFinish t r) = Known (ω + 1) t × OwnRead κ w z low τ r × Room κ z low (r .count)
+OwnShape κ w ω z low τ (PutWord t r j) = Known (ω + 1) t × OwnRead κ w z low τ r × Spare κ z low (r .count) × (j ≤ ω)
+OwnShape κ w ω z low τ (PutFinish t r) = Known (ω + 1) t × OwnRead κ w z low τ r × Spare κ z low (r .count)
 OwnShape κ w ω z low τ (Claim g) = KnownFor ω g
 OwnShape κ w ω z low τ (Note g) = KnownFor ω g
 OwnShape κ w ω z low τ (Copy g h q k) = KnownFor ω g × Span κ τ h q × (q ≤ z) × (k < q)

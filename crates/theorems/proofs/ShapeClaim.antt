@@ -8,6 +8,7 @@ use native.Mathlib.Omega.{arith}
 use lib.Dec.{leb}
 use lib.ListN.{length, length-set}
 use borrow.Author.Tests.{leb-true}
+use Rattle.model.specs.declared.Room.{Room}
 use Rattle.model.specs.declared.Growth.{Growth}
 use Rattle.model.specs.declared.Kind.{Kind}
 use Rattle.model.specs.declared.Kind.the-variants.{Lifo, Fifo, Deque}
@@ -22,10 +23,10 @@ use Rattle.theorems.proofs.Folds.{places, anchorAfter, laid, words}
 use Rattle.model.specs.Tests.{if_then_else_}
 use Rattle.model.specs.Memory.{zeros, sizeAt}
 use Rattle.model.specs.Lines.{size, fits}
-use Rattle.model.specs.Stores.{taken, nextLength, claiming}
+use Rattle.model.specs.Stores.{nextLength, claiming}
 use Rattle.model.specs.Figures.{anchor}
 use Rattle.theorems.proofs.Words.{set-place}
-use Rattle.theorems.proofs.Directory.{both, Arrays, roomy, arrays-claim}
+use Rattle.theorems.proofs.Directory.{both, Arrays, roomy, arrays-claim, Free}
 use Rattle.theorems.proofs.Shape.{OwnShape, lows, FitAnchor, FitTail, Path, Shape, thief-keep, claim-expands}
 use Rattle.theorems.proofs.Asides.{at-rest}
 use Rattle.theorems.proofs.ShapeLay.{shape-settle}
@@ -145,16 +146,16 @@ path-claim κ w ω l l′ c c′ low p τ (StoreHead i ∷ ss) same hc pos h (f,
 path-claim κ w ω l l′ c c′ low p τ (StoreTail i ∷ ss) same hc pos h (f, P) =
     (subst (λ (z : ℕ). FitTail κ z low τ i) (sym (same (p - 1) (omega arith))) f, path-claim κ w ω l l′ c c′ low p i ss same hc pos h P)
 
-pub shape-claim : (κ : Kind) (w ω used low : ℕ) (q : Queue) (m : List ℕ) (ss : List Store) (t : Growth) (φ : ℕ → Line) → fits ω (laid ss q) (words ω (q .arrays) ss m) ≡ true
-    → Shape κ w ω used low q m ss (Claim t) φ → Shape κ w ω used low (claiming q) (zeros m (taken q) (nextLength q)) ss (Note t) φ
+pub shape-claim : (ρ : Room) (κ : Kind) (w ω used low : ℕ) (q : Queue) (m : List ℕ) (ss : List Store) (t : Growth) (φ : ℕ → Line) → fits ρ ω (laid ss q) ≡ true → Free ρ q m
+    → Shape κ w ω used low q m ss (Claim t) φ → Shape κ w ω used low (claiming ρ q) (zeros m (ρ .next) (nextLength q)) ss (Note t) φ
 unfolding if_then_else_
-shape-claim κ w ω used low q m ss t φ e S =
+shape-claim ρ κ w ω used low q m ss t φ e R S =
     record {
       anchor = rw ez (S .anchor);
-      arrays = arrays-claim A n11 small room;
-      path = path-claim κ w ω (q .arrays) (claiming q .arrays) (q .claimed) (q .claimed + 1) low (q .published) _ ss same (omega arith) (A .some) (A .below) (S .path);
+      arrays = arrays-claim ρ A n11 small R (leb-true _ _ (two .1));
+      path = path-claim κ w ω (q .arrays) (claiming ρ q .arrays) (q .claimed) (q .claimed + 1) low (q .published) _ ss same (omega arith) (A .some) (A .below) (S .path);
       own = record { claims = omega (arith, is); spent = spent-put κ _ _ (Claim t) (Note t) refl (S .own .spent); shape = S .own .shape };
-      th = λ i. thief-keep κ w ω q (claiming q) (record { sized = omega (arith, ez); later = omega arith; more = omega arith; same = λ k h. same k (omega (arith, A .below)) }) (φ i) (S .th i);
+      th = λ i. thief-keep κ w ω q (claiming ρ q) (record { sized = omega (arith, ez); later = omega arith; more = omega arith; same = λ k h. same k (omega (arith, A .below)) }) (φ i) (S .th i);
     }
   where
     v : Queue
@@ -166,11 +167,8 @@ shape-claim κ w ω used low q m ss t φ e S =
     is : q .claimed ≡ v .published
     is = sym (at-rest _ _ _ (S .own .claims) (claim-expands t))
 
-    two : (leb (2 * size ω v) 1024 ≡ true) × (leb (taken q + nextLength q) (length (words ω (q .arrays) ss m)) ≡ true)
+    two : (leb (2 * size ω v) 1024 ≡ true) × (leb (nextLength q) (ρ .left) ≡ true)
     two = both (leb (2 * size ω v) 1024) _ e
-
-    room : taken q + nextLength q ≤ length m
-    room = let z : taken q + nextLength q ≤ length (words ω (q .arrays) ss m) = leb-true _ _ (two .1) in omega (arith, z, words-length ω (q .arrays) ss m)
 
     small-v : 2 * size ω v ≤ 1024
     small-v = leb-true _ _ (two .0)
@@ -181,8 +179,8 @@ shape-claim κ w ω used low q m ss t φ e S =
     small : 2 * sizeAt ω (q .arrays) (q .claimed - 1) ≤ 1024
     small = let z : sizeAt ω (q .arrays) (q .claimed - 1) ≡ size ω v = ap (λ (n : ℕ). sizeAt ω (q .arrays) (n - 1)) is in omega (arith, z, small-v)
 
-    same : (k : ℕ) → k < q .claimed → sizeAt ω (claiming q .arrays) k ≡ sizeAt ω (q .arrays) k
-    same k h = set-place ω (q .arrays) (q .claimed) k (taken q) (nextLength q) (omega arith) .2
+    same : (k : ℕ) → k < q .claimed → sizeAt ω (claiming ρ q .arrays) k ≡ sizeAt ω (q .arrays) k
+    same k h = set-place ω (q .arrays) (q .claimed) k (ρ .next) (nextLength q) (omega arith) .2
 
-    ez : size ω (claiming q) ≡ size ω q
+    ez : size ω (claiming ρ q) ≡ size ω q
     ez = same (q .published - 1) (omega (arith, A .some, A .below))

@@ -13,11 +13,10 @@ use Rattle.model.specs.declared.Anchor.{Anchor}
 use Rattle.model.specs.declared.Store.{Store}
 use Rattle.model.specs.declared.Store.the-variants.{StoreWord, StoreNote, StorePut, StoreOut, StoreHead, StoreTail}
 use Rattle.theorems.proofs.Folds.{AllWords, words-keep, placesOf, places, anchorAfter, laid, wordsOf, words}
-use Rattle.model.specs.Memory.{setWord, sizeAt, offsetAt}
+use Rattle.model.specs.Memory.{setWord, sizeAt}
 use Rattle.model.specs.Lines.{size}
-use Rattle.model.specs.Stores.{taken}
 use Rattle.model.specs.Figures.{anchor}
-use Rattle.theorems.proofs.Directory.{Proper, tidy-proper, Arrays, Numbers, numbers-word, arrays-anchor, arrays-store, arrays-note}
+use Rattle.theorems.proofs.Directory.{Arrays, Numbers, numbers-word, arrays-anchor, arrays-store, arrays-note}
 use Rattle.theorems.proofs.Shape.{tail, Bounded, tailOf, lowOf, tails, lows, Path, OwnEnd, Shape, Larger, thief-keep}
 
 -- JOINING
@@ -84,11 +83,8 @@ lay-word {κ} {w} {ω} {used} {low} {q} {m} {ss} {o} {φ} b s j x S =
       th = S .th;
     }
   where
-    P : Proper ω (q .arrays) b
-    P = tidy-proper ω (q .arrays) (q .claimed) b (S .arrays .tidied) (S .path .0 .0)
-
-    numbers : Numbers ω (wordsOf ω (q .arrays) (StoreWord b s j x) m) (taken q)
-    numbers = numbers-word ω m (taken q) (offsetAt (q .arrays) b) s j x (P .1 .0) (P .1 .1) (omega (arith, S .path .0 .2)) (S .path .0 .3) (S .arrays .numbers)
+    numbers : Numbers ω (wordsOf ω (q .arrays) (StoreWord b s j x) m) (q .arrays) (q .claimed)
+    numbers = numbers-word ω m (q .arrays) (q .claimed) b s j x (S .arrays .tidied) (S .path .0 .0) (S .path .0 .1) (S .path .0 .2) (S .path .0 .3) (S .arrays .numbers)
 
 -- the current array
 lay-note : {κ : Kind} {w ω used low : ℕ} {q : Queue} {m : List ℕ} {ss : List Store} {o : Line} {φ : ℕ → Line} (k : ℕ) → Shape κ w ω used low q m (StoreNote k ∷ ss) o φ

@@ -8,6 +8,7 @@ use native.Mathlib.Nat.{mod-lt}
 use lib.Dec.{eqb}
 use lib.Pow.{pow-pos}
 use borrow.Author.Tests.{eqb-true, eqb-false}
+use Rattle.model.specs.declared.Room.{Room}
 use Rattle.model.specs.declared.Growth.{Growth}
 use Rattle.model.specs.declared.Growth.the-variants.{ForPut, ForCommit}
 use Rattle.model.specs.declared.Kind.{Kind}
@@ -30,7 +31,7 @@ use Rattle.model.specs.Tasks.{noTask, wordIn, withWord}
 use Rattle.model.proofs.Tasks.{number-word}
 use Rattle.model.proofs.Directory.{size-pos, tidy-front, tidy-twice}
 use Rattle.theorems.proofs.Directory.{Arrays, now, number-now}
-use Rattle.theorems.proofs.Shape.{tail, Bounded, OwnRead, Room, Some, Span, Known, known-more, none-known, pending, Spent, OwnShape, InArray, tails, lows, Fit, Path, OwnEnd, Shape, claim-expands, openFor, KnownFor}
+use Rattle.theorems.proofs.Shape.{tail, Bounded, OwnRead, Some, Span, Known, known-more, none-known, pending, Spent, OwnShape, InArray, tails, lows, Fit, Path, OwnEnd, Shape, claim-expands, openFor, KnownFor, Spare}
 use Rattle.theorems.proofs.ShapeLay.{path-join, same-lows, same-places, same-tails}
 
 -- what the owner's line leaves
@@ -88,7 +89,7 @@ module _ {κ : Kind} {w ω used low : ℕ} {q : Queue} {m : List ℕ} {o : Line}
   stay : (o′ : Line) → isExpanding o′ ≡ isExpanding o → pending o′ ≡ pending o → OwnShape κ w ω (size ω q) low (tail κ (q .anchor)) o′ → Ends κ w ω used low q (goes o′)
   stay o′ e u k = (tt, end-to o′ e (spent-put κ _ _ o o′ u (S .own .spent)) k)
 
-room-now : (κ : Kind) (w z low τ : ℕ) (r : Anchor) → OwnRead κ w z low τ r → r .count ≤ low + z → isFull κ z r ≡ false → Room κ z low (r .count)
+room-now : (κ : Kind) (w z low τ : ℕ) (r : Anchor) → OwnRead κ w z low τ r → r .count ≤ low + z → isFull κ z r ≡ false → Spare κ z low (r .count)
 room-now Lifo w z low τ r (a, b, d) l e = omega (arith, eqb-false (r .count) z e)
 room-now Fifo w z low τ r (a, b, d) l e = omega (arith, eqb-false (r .count) (r .head + z) e)
 room-now Deque w z low τ r (a, b, d) l e = omega (arith, eqb-false (r .count) z e)
@@ -99,28 +100,28 @@ top-now Fifo w z low r a (k, l, u, v) (b, c, d) = omega arith
 top-now Deque w z low r a A (b, c, d) = omega arith
 
 -- a slot of the array
-slot-in : (κ : Kind) (z i : ℕ) → 0 < z → (InArray κ i z) → slot κ z i < z
+pub slot-in : (κ : Kind) (z i : ℕ) → 0 < z → (InArray κ i z) → slot κ z i < z
 slot-in Lifo z i l u = u
 slot-in Fifo z i l u = mod-lt i l
 slot-in Deque z i l u = mod-lt i l
 
-put-slot : (κ : Kind) (z low : ℕ) (r : Anchor) → Room κ z low (r .count) → InArray κ (putIndex κ r) z
+put-slot : (κ : Kind) (z low : ℕ) (r : Anchor) → Spare κ z low (r .count) → InArray κ (putIndex κ r) z
 put-slot Lifo z low r R = R
 put-slot Fifo z low r R = tt
 put-slot Deque z low r R = tt
 
-take-slot : (κ : Kind) (w z low τ : ℕ) (r : Anchor) → OwnRead κ w z low τ r → Some κ r → InArray κ (takeIndex κ r) z
+pub take-slot : (κ : Kind) (w z low τ : ℕ) (r : Anchor) → OwnRead κ w z low τ r → Some κ r → InArray κ (takeIndex κ r) z
 take-slot Lifo w z low τ r (a, b, d) s = omega arith
 take-slot Fifo w z low τ r R s = tt
 take-slot Deque w z low τ r R s = tt
 
 own-some : (κ : Kind) (w z low : ℕ) (r a : Anchor) → Bounded κ w z low a → OwnRead κ w z low (tail κ a) r → isEmpty κ r ≡ false → Some κ r
 own-some Lifo w z low r q A R e = omega (arith, eqb-false (r .count) 0 e)
-own-some Fifo w z low r q (a, b, d, i) (ρ, s, τ) e = omega (arith, eqb-false (r .head) (r .count) e)
+own-some Fifo w z low r q (a, b, d, i) (r′, s, τ) e = omega (arith, eqb-false (r .head) (r .count) e)
 own-some Deque w z low r q A R e = omega (arith, eqb-false (r .count) 0 e)
 
-module _ (w ω used low : ℕ) (q : Queue) (m : List ℕ) (φ : ℕ → Line) where
-  read-put : (κ : Kind) (t : Task) → Shape κ w ω used low q m [] (PutRead t) φ → Exact κ low (q .anchor) → Ends κ w ω used low q (lineStep κ w ω q m 0 (PutRead t))
+module _ (ρ : Room) (w ω used low : ℕ) (q : Queue) (m : List ℕ) (φ : ℕ → Line) where
+  read-put : (κ : Kind) (t : Task) → Shape κ w ω used low q m [] (PutRead t) φ → Exact κ low (q .anchor) → Ends κ w ω used low q (lineStep ρ κ w ω q m 0 (PutRead t))
   unfolding lineStep
   read-put Lifo t S x = stay S (PutTest t (q .anchor)) refl refl (S .own .shape, S .anchor)
   read-put Fifo t S x = stay S (PutTail t (q .anchor .head)) refl refl (S .own .shape, x)
@@ -148,7 +149,7 @@ module _ (w ω used low : ℕ) (q : Queue) (m : List ℕ) (φ : ℕ → Line) wh
       fit : Fit κ w ω (q .arrays) (q .claimed) low (q .published) (tail κ (q .anchor)) (writeWord κ ω q (q .published - 1) (putIndex κ r) j (wordIn t j))
       fit = (
         omega (arith, S .arrays .some, S .arrays .below),
-        slot-in κ (size ω q) _ (size-pos (now (S .arrays) .0)) (put-slot κ (size ω q) low r (S .own .shape .2)),
+        slot-in κ (size ω q) _ (size-pos (now (S .arrays))) (put-slot κ (size ω q) low r (S .own .shape .2)),
         S .own .shape .3,
         λ z. rw (z, number-word t) (S .own .shape .0 .0),
       )
@@ -159,7 +160,7 @@ module _ (w ω used low : ℕ) (q : Queue) (m : List ℕ) (φ : ℕ → Line) wh
           end-to S (PutWord t r (j + 1)) refl (spent-put κ _ _ (PutWord t r j) (PutWord t r (j + 1)) refl (S .own .spent))
           (S .own .shape .0, S .own .shape .1, S .own .shape .2, omega (arith, S .own .shape .3, eqb-false j ω e))
 
-  finish-put : (κ : Kind) (t : Task) (r : Anchor) (i : ℕ) → Shape κ w ω used low q m [] (PutFinish t r) φ → Ends κ w ω used low q (lineStep κ w ω q m i (PutFinish t r))
+  finish-put : (κ : Kind) (t : Task) (r : Anchor) (i : ℕ) → Shape κ w ω used low q m [] (PutFinish t r) φ → Ends κ w ω used low q (lineStep ρ κ w ω q m i (PutFinish t r))
   unfolding lineStep
   finish-put Lifo t r i S = (((S .own .shape .1 .0, omega (arith, S .own .shape .2), mod-lt (r .tag + 1) (pow-pos w)), tt), record { claims = S .own .claims; spent = tt; shape = tt })
   finish-put Fifo t r i S =
@@ -167,7 +168,7 @@ module _ (w ω used low : ℕ) (q : Queue) (m : List ℕ) (φ : ℕ → Line) wh
   finish-put Deque t r i S = (((S .own .shape .1 .0, omega (arith, S .own .shape .2), mod-lt (r .tag + 1) (pow-pos w)), tt), record { claims = S .own .claims; spent = tt; shape = tt })
 
   -- X1 that answers FULL
-  claim-full : (κ : Kind) (t : Growth) → Shape κ w ω used low q m [] (Claim t) φ → (x : Bool) → fits ω q m ≡ x
+  claim-full : (κ : Kind) (t : Growth) → Shape κ w ω used low q m [] (Claim t) φ → (x : Bool) → fits ρ ω q ≡ x
       → (if x then record { claims = true; stores = []; line = Note t; answer = GoesOn } else eff [] Idle (Full 0 (taskFor t))) .claims ≡ false
       → Ends κ w ω used low q (if x then record { claims = true; stores = []; line = Note t; answer = GoesOn } else eff [] Idle (Full 0 (taskFor t)))
   unfolding if_then_else_
@@ -190,7 +191,7 @@ module _ (w ω used low : ℕ) (q : Queue) (m : List ℕ) (φ : ℕ → Line) wh
       let E = note-expands t h k (eqb k 0) in
       stay S (noteAll t h k) (E .0) (E .1) (note-all κ (size ω q) (tail κ (q .anchor)) t h k (eqb k 0) refl (S .own .shape) s u)
 
-  note-x2 : (κ : Kind) (t : Growth) → Shape κ w ω used low q m [] (Note t) φ → Ends κ w ω used low q (lineStep κ w ω q m 0 (Note t))
+  note-x2 : (κ : Kind) (t : Growth) → Shape κ w ω used low q m [] (Note t) φ → Ends κ w ω used low q (lineStep ρ κ w ω q m 0 (Note t))
   unfolding lineStep
   note-x2 Lifo t S = note-to Lifo t 0 (size ω q) S refl (omega arith)
   note-x2 Fifo t S = note-to Fifo t (q .anchor .head) (q .anchor .count - q .anchor .head) S (omega (arith, S .anchor .1)) (omega (arith, S .anchor .0, S .anchor .2))
@@ -219,7 +220,7 @@ module _ (w ω used low : ℕ) (q : Queue) (m : List ℕ) (φ : ℕ → Line) wh
       index Deque z l s = tt
 
       pos : 0 < size ω q
-      pos = size-pos (now A .0)
+      pos = size-pos (now A)
 
       there : slot κ (sizeAt ω (q .arrays) (q .published)) (h + k) < sizeAt ω (q .arrays) (q .published)
       there = slot-in κ (sizeAt ω (q .arrays) (q .published)) (h + k) (omega (arith, twice, pos)) (index κ _ (omega (arith, twice)) (S .own .shape .1))
@@ -251,7 +252,7 @@ module _ (w ω used low : ℕ) (q : Queue) (m : List ℕ) (φ : ℕ → Line) wh
       (((refl, omega (arith, S .own .claims)), tt), record { claims = S .own .claims; spent = spent-put κ _ _ (Publish ForCommit) Idle refl (S .own .spent); shape = tt })
 
   -- take
-  read-take : (κ : Kind) → Shape κ w ω used low q m [] TakeRead φ → Exact κ low (q .anchor) → Ends κ w ω used low q (lineStep κ w ω q m 0 TakeRead)
+  read-take : (κ : Kind) → Shape κ w ω used low q m [] TakeRead φ → Exact κ low (q .anchor) → Ends κ w ω used low q (lineStep ρ κ w ω q m 0 TakeRead)
   unfolding lineStep
   read-take Lifo S x = stay S (TakeTest (q .anchor)) refl refl (S .anchor)
   read-take Fifo S x = stay S (TakeTail (q .anchor .head)) refl refl x
@@ -280,7 +281,7 @@ module _ (w ω used low : ℕ) (q : Queue) (m : List ℕ) (φ : ℕ → Line) wh
       u = withWord t j (wordOf κ ω q m (q .published - 1) (takeIndex κ r) j)
 
       number : wordOf κ ω q m (q .published - 1) (takeIndex κ r) 0 ≤ 65535
-      number = number-now (S .arrays) _ (slot-in κ (size ω q) _ (size-pos (now (S .arrays) .0)) (take-slot κ w (size ω q) low (tail κ (q .anchor)) r (S .own .shape .0) (S .own .shape .1)))
+      number = number-now (S .arrays) _ (slot-in κ (size ω q) _ (size-pos (now (S .arrays))) (take-slot κ w (size ω q) low (tail κ (q .anchor)) r (S .own .shape .0) (S .own .shape .1)))
 
       more : Known (j + 1) u
       more = known-more j t _ (omega (arith, S .own .shape .3)) (S .own .shape .2) (λ z. rw z number)
@@ -289,15 +290,15 @@ module _ (w ω used low : ℕ) (q : Queue) (m : List ℕ) (φ : ℕ → Line) wh
       go true e = stay S (TakeFinish r u) refl refl (S .own .shape .0, S .own .shape .1, subst (λ (n : ℕ). Known (n + 1) u) (eqb-true j ω e) more)
       go false e = stay S (TakeWord r u (j + 1)) refl refl (S .own .shape .0, S .own .shape .1, more, omega (arith, S .own .shape .3, eqb-false j ω e))
 
-  finish-take : (κ : Kind) (r : Anchor) (t : Task) (i : ℕ) → Shape κ w ω used low q m [] (TakeFinish r t) φ → Ends κ w ω used low q (lineStep κ w ω q m i (TakeFinish r t))
+  finish-take : (κ : Kind) (r : Anchor) (t : Task) (i : ℕ) → Shape κ w ω used low q m [] (TakeFinish r t) φ → Ends κ w ω used low q (lineStep ρ κ w ω q m i (TakeFinish r t))
   unfolding lineStep
   finish-take Lifo r t i S = (((S .own .shape .0 .0, omega (arith, S .own .shape .0 .1), S .own .shape .0 .2), tt), record { claims = S .own .claims; spent = tt; shape = tt })
   finish-take Fifo r t i S = (((omega (arith, S .own .shape .0 .0), omega (arith, S .own .shape .0 .1, S .own .shape .1)), tt), record { claims = S .own .claims; spent = S .own .spent; shape = tt })
   finish-take Deque r t i S = (((S .own .shape .0 .0, omega (arith, S .own .shape .0 .1), S .own .shape .0 .2), tt), record { claims = S .own .claims; spent = tt; shape = tt })
 
   -- a line that is neither X1 nor of a steal
-  pub own-ends : (κ : Kind) (o : Line) → ω ≤ 4 → Shape κ w ω used low q m [] o φ → (Reading o → Exact κ low (q .anchor)) → (x : Bool) → lineStep κ w ω q m 0 o .claims ≡ x → x ≡ false
-      → Ends κ w ω used low q (lineStep κ w ω q m 0 o)
+  pub own-ends : (κ : Kind) (o : Line) → ω ≤ 4 → Shape κ w ω used low q m [] o φ → (Reading o → Exact κ low (q .anchor)) → (x : Bool) → lineStep ρ κ w ω q m 0 o .claims ≡ x → x ≡ false
+      → Ends κ w ω used low q (lineStep ρ κ w ω q m 0 o)
   unfolding lineStep
   own-ends κ Idle wide S X x ex f = stay S Idle refl refl tt
   own-ends κ (PutRead t) wide S X x ex f = read-put κ t S (X tt)
@@ -305,7 +306,7 @@ module _ (w ω used low : ℕ) (q : Queue) (m : List ℕ) (φ : ℕ → Line) wh
   own-ends κ (PutTest t r) wide S X x ex f = test-put κ t r (isFull κ (size ω q) r) refl S
   own-ends κ (PutWord t r j) wide S X x ex f = word-put κ t r j (eqb j ω) refl S
   own-ends κ (PutFinish t r) wide S X x ex f = finish-put κ t r 0 S
-  own-ends κ (Claim t) wide S X x ex f = claim-full κ t S (fits ω q m) refl (ex ∙ f)
+  own-ends κ (Claim t) wide S X x ex f = claim-full κ t S (fits ρ ω q) refl (ex ∙ f)
   own-ends κ (Note t) wide S X x ex f = note-x2 κ t S
   own-ends κ (Copy t h j k) wide S X x ex f = copy-x3 κ t h j k (eqb (k + 1) j) refl S
   own-ends κ (Publish t) wide S X x ex f = publish κ t S

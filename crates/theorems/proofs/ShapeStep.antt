@@ -4,6 +4,7 @@ use mathlib.Core.Bool.{Bool, true, false}
 use mathlib.Core.List.{List, [], _∷_, _++_}
 use Prim.Native.Nat.{ℕ, _≤_}
 use native.Mathlib.Omega.{arith}
+use Rattle.model.specs.declared.Room.{Room}
 use Rattle.model.specs.declared.Growth.{Growth}
 use Rattle.model.specs.declared.Growth.the-variants.{ForPut, ForCommit}
 use Rattle.model.specs.declared.Kind.{Kind}
@@ -17,7 +18,8 @@ use Rattle.model.specs.Tests.{if_then_else_}
 use Rattle.model.specs.Memory.{zeros}
 use Rattle.model.specs.Figures.{isEmpty}
 use Rattle.model.specs.Lines.{taskFor, Effect, eff, succeeds, fits, lineStep}
-use Rattle.model.specs.Stores.{taken, nextLength, claiming}
+use Rattle.model.specs.Stores.{nextLength, claiming}
+use Rattle.theorems.proofs.Directory.{Free}
 use Rattle.theorems.proofs.Shape.{tail, tails, lows, Path, OwnEnd, Shape}
 use Rattle.theorems.proofs.ShapeLay.{shape-join, shape-settle, tails-is}
 use Rattle.theorems.proofs.ShapeOwner.{Ends, Exact, Reading, own-ends}
@@ -32,36 +34,36 @@ neither false E E′ p q = q
 pub not-both : {A : Type 0} (x : Bool) → x ≡ false → x ≡ true → A
 not-both x p q = absurd (let z : _≡_ {A = ℕ} 0 1 = cc in omega arith)
 
-claim-fits : (ω : ℕ) (q : Queue) (m : List ℕ) (i : ℕ) (t : Growth) (x : Bool) → fits ω q m ≡ x → (if x then record { claims = true; stores = []; line = Note t; answer = GoesOn } else eff [] Idle (Full i (taskFor t))) .claims ≡ true → fits ω q m ≡ true
+claim-fits : (ρ : Room) (ω : ℕ) (q : Queue) (i : ℕ) (t : Growth) (x : Bool) → fits ρ ω q ≡ x → (if x then record { claims = true; stores = []; line = Note t; answer = GoesOn } else eff [] Idle (Full i (taskFor t))) .claims ≡ true → fits ρ ω q ≡ true
 unfolding if_then_else_
-claim-fits ω q m i t true e f = e
-claim-fits ω q m i t false e f = not-both false refl f
+claim-fits ρ ω q i t true e f = e
+claim-fits ρ ω q i t false e f = not-both false refl f
 
-pub claim-only : (κ : Kind) (w ω : ℕ) (q : Queue) (m : List ℕ) (i : ℕ) (o : Line) → lineStep κ w ω q m i o .claims ≡ true → (t : Growth) × (o ≡ Claim t) × (fits ω q m ≡ true)
+pub claim-only : (ρ : Room) (κ : Kind) (w ω : ℕ) (q : Queue) (m : List ℕ) (i : ℕ) (o : Line) → lineStep ρ κ w ω q m i o .claims ≡ true → (t : Growth) × (o ≡ Claim t) × (fits ρ ω q ≡ true)
 unfolding lineStep
-claim-only κ w ω q m i Idle f = not-both false refl f
-claim-only κ w ω q m i (PutRead t) f = not-both false refl f
-claim-only κ w ω q m i (PutTail t h) f = not-both false refl f
-claim-only κ w ω q m i (PutTest t r) f = not-both false refl f
-claim-only κ w ω q m i (PutWord t r j) f = not-both false refl f
-claim-only κ w ω q m i (PutFinish t r) f = not-both false refl f
-claim-only κ w ω q m i (Claim t) f = (t, refl, claim-fits ω q m i t (fits ω q m) refl f)
-claim-only κ w ω q m i (Note t) f = not-both false refl f
-claim-only κ w ω q m i (Copy t h j k) f = not-both false refl f
-claim-only κ w ω q m i (Publish (ForPut t)) f = not-both false refl f
-claim-only κ w ω q m i (Publish ForCommit) f = not-both false refl f
-claim-only κ w ω q m i TakeRead f = not-both false refl f
-claim-only κ w ω q m i (TakeTail h) f = not-both false refl f
-claim-only κ w ω q m i (TakeTest r) f = not-both _ (neither (isEmpty κ r) _ _ refl refl) f
-claim-only κ w ω q m i (TakeWord r t j) f = not-both false refl f
-claim-only κ w ω q m i (TakeFinish r t) f = not-both false refl f
-claim-only κ w ω q m i StealRead f = not-both false refl f
-claim-only κ w ω q m i (StealTail h) f = not-both false refl f
-claim-only κ w ω q m i (StealTest r) f = not-both _ (neither (isEmpty κ r) _ _ refl refl) f
-claim-only κ w ω q m i (StealNote r) f = not-both false refl f
-claim-only κ w ω q m i (StealWord r k t j) f = not-both false refl f
-claim-only κ w ω q m i (StealNext r t) f = not-both false refl f
-claim-only κ w ω q m i (StealCompare r e t) f = not-both _ (neither (succeeds κ q i r) _ _ refl refl) f
+claim-only ρ κ w ω q m i Idle f = not-both false refl f
+claim-only ρ κ w ω q m i (PutRead t) f = not-both false refl f
+claim-only ρ κ w ω q m i (PutTail t h) f = not-both false refl f
+claim-only ρ κ w ω q m i (PutTest t r) f = not-both false refl f
+claim-only ρ κ w ω q m i (PutWord t r j) f = not-both false refl f
+claim-only ρ κ w ω q m i (PutFinish t r) f = not-both false refl f
+claim-only ρ κ w ω q m i (Claim t) f = (t, refl, claim-fits ρ ω q i t (fits ρ ω q) refl f)
+claim-only ρ κ w ω q m i (Note t) f = not-both false refl f
+claim-only ρ κ w ω q m i (Copy t h j k) f = not-both false refl f
+claim-only ρ κ w ω q m i (Publish (ForPut t)) f = not-both false refl f
+claim-only ρ κ w ω q m i (Publish ForCommit) f = not-both false refl f
+claim-only ρ κ w ω q m i TakeRead f = not-both false refl f
+claim-only ρ κ w ω q m i (TakeTail h) f = not-both false refl f
+claim-only ρ κ w ω q m i (TakeTest r) f = not-both _ (neither (isEmpty κ r) _ _ refl refl) f
+claim-only ρ κ w ω q m i (TakeWord r t j) f = not-both false refl f
+claim-only ρ κ w ω q m i (TakeFinish r t) f = not-both false refl f
+claim-only ρ κ w ω q m i StealRead f = not-both false refl f
+claim-only ρ κ w ω q m i (StealTail h) f = not-both false refl f
+claim-only ρ κ w ω q m i (StealTest r) f = not-both _ (neither (isEmpty κ r) _ _ refl refl) f
+claim-only ρ κ w ω q m i (StealNote r) f = not-both false refl f
+claim-only ρ κ w ω q m i (StealWord r k t j) f = not-both false refl f
+claim-only ρ κ w ω q m i (StealNext r t) f = not-both false refl f
+claim-only ρ κ w ω q m i (StealCompare r e t) f = not-both _ (neither (succeeds κ q i r) _ _ refl refl) f
 
 -- what the owner is about to read
 refresh-any : (κ : Kind) (w ω used low : ℕ) (q : Queue) (m : List ℕ) (ss : List Store) (o : Line) (φ : ℕ → Line) → Shape κ w ω used low q m ss o φ
@@ -94,49 +96,49 @@ pub no-more : (ss : List Store) → ss ++ [] ≡ ss
 no-more [] = refl
 no-more (s ∷ ss) = ap (λ (l : List Store). s ∷ l) (no-more ss)
 
-claim-step : (κ : Kind) (w ω used low : ℕ) (q : Queue) (m : List ℕ) (ss : List Store) (φ : ℕ → Line) (t : Growth) (x : Bool) → x ≡ true → fits ω (laid ss q) (words ω (q .arrays) ss m) ≡ true → Shape κ w ω used low q m ss (Claim t) φ
+claim-step : (ρ : Room) (κ : Kind) (w ω used low : ℕ) (q : Queue) (m : List ℕ) (ss : List Store) (φ : ℕ → Line) (t : Growth) (x : Bool) → x ≡ true → fits ρ ω (laid ss q) ≡ true → Free ρ q m → Shape κ w ω used low q m ss (Claim t) φ
     → let E : Effect = (if x then record { claims = true; stores = []; line = Note t; answer = GoesOn } else eff [] Idle (Full 0 (taskFor t))) in
-    (low′ : ℕ) × Shape κ w ω used low′ (queueAfter (E .claims) q) (storeAfter (E .claims) q m) (ss ++ E .stores) (E .line) φ
+    (low′ : ℕ) × Shape κ w ω used low′ (queueAfter ρ (E .claims) q) (storeAfter ρ (E .claims) q m) (ss ++ E .stores) (E .line) φ
 unfolding if_then_else_
-claim-step κ w ω used low q m ss φ t false e f S = not-both false refl e
-claim-step κ w ω used low q m ss φ t true e f S =
-    (low, subst (λ (l : List Store). Shape κ w ω used low (claiming q) (zeros m (taken q) (nextLength q)) l (Note t) φ) (sym (no-more ss)) (shape-claim κ w ω used low q m ss t φ f S))
+claim-step ρ κ w ω used low q m ss φ t false e f R S = not-both false refl e
+claim-step ρ κ w ω used low q m ss φ t true e f R S =
+    (low, subst (λ (l : List Store). Shape κ w ω used low (claiming ρ q) (zeros m (ρ .next) (nextLength q)) l (Note t) φ) (sym (no-more ss)) (shape-claim ρ κ w ω used low q m ss t φ f R S))
 
-claim-shaped : (κ : Kind) (w ω used low : ℕ) (q : Queue) (m : List ℕ) (ss : List Store) (o : Line) (φ : ℕ → Line) (t : Growth) → o ≡ Claim t → fits ω (laid ss q) (words ω (q .arrays) ss m) ≡ true → Shape κ w ω used low q m ss o φ
-    → let E = lineStep κ w ω (laid ss q) (words ω (q .arrays) ss m) 0 o in
-    (low′ : ℕ) × Shape κ w ω used low′ (queueAfter (E .claims) q) (storeAfter (E .claims) q m) (ss ++ E .stores) (E .line) φ
+claim-shaped : (ρ : Room) (κ : Kind) (w ω used low : ℕ) (q : Queue) (m : List ℕ) (ss : List Store) (o : Line) (φ : ℕ → Line) (t : Growth) → o ≡ Claim t → fits ρ ω (laid ss q) ≡ true → Free ρ q m → Shape κ w ω used low q m ss o φ
+    → let E = lineStep ρ κ w ω (laid ss q) (words ω (q .arrays) ss m) 0 o in
+    (low′ : ℕ) × Shape κ w ω used low′ (queueAfter ρ (E .claims) q) (storeAfter ρ (E .claims) q m) (ss ++ E .stores) (E .line) φ
 unfolding lineStep
-claim-shaped κ w ω used low q m ss o φ t is f S = subst P (sym is) (here (fits ω v (words ω (q .arrays) ss m)) f)
+claim-shaped ρ κ w ω used low q m ss o φ t is f R S = subst P (sym is) (here (fits ρ ω v) f)
   where
     v : Queue
     v = laid ss q
 
     P : Line → Type 0
-    P o = let E = lineStep κ w ω (laid ss q) (words ω (q .arrays) ss m) 0 o in
-        (low′ : ℕ) × Shape κ w ω used low′ (queueAfter (E .claims) q) (storeAfter (E .claims) q m) (ss ++ E .stores) (E .line) φ
+    P o = let E = lineStep ρ κ w ω (laid ss q) (words ω (q .arrays) ss m) 0 o in
+        (low′ : ℕ) × Shape κ w ω used low′ (queueAfter ρ (E .claims) q) (storeAfter ρ (E .claims) q m) (ss ++ E .stores) (E .line) φ
 
     S′ : Shape κ w ω used low q m ss (Claim t) φ
     S′ = subst (λ (o : Line). Shape κ w ω used low q m ss o φ) is S
 
     here : (x : Bool) → x ≡ true
         → let E : Effect = (if x then record { claims = true; stores = []; line = Note t; answer = GoesOn } else eff [] Idle (Full 0 (taskFor t))) in
-        (low′ : ℕ) × Shape κ w ω used low′ (queueAfter (E .claims) q) (storeAfter (E .claims) q m) (ss ++ E .stores) (E .line) φ
-    here x e = claim-step κ w ω used low q m ss φ t x e f S′
+        (low′ : ℕ) × Shape κ w ω used low′ (queueAfter ρ (E .claims) q) (storeAfter ρ (E .claims) q m) (ss ++ E .stores) (E .line) φ
+    here x e = claim-step ρ κ w ω used low q m ss φ t x e f R S′
 
 -- the owner's line o, done on what it reads: its stores join
-pub own-shaped : (κ : Kind) (w ω used low : ℕ) (q : Queue) (m : List ℕ) (ss : List Store) (o : Line) (φ : ℕ → Line) → ω ≤ 4 → Shape κ w ω used low q m ss o φ
-    → let E = lineStep κ w ω (laid ss q) (words ω (q .arrays) ss m) 0 o in
-    (low′ : ℕ) × Shape κ w ω used low′ (queueAfter (E .claims) q) (storeAfter (E .claims) q m) (ss ++ E .stores) (E .line) φ
-own-shaped κ w ω used low q m ss o φ wide S = go (E .claims) refl
+pub own-shaped : (ρ : Room) (κ : Kind) (w ω used low : ℕ) (q : Queue) (m : List ℕ) (ss : List Store) (o : Line) (φ : ℕ → Line) → ω ≤ 4 → Free ρ q m → Shape κ w ω used low q m ss o φ
+    → let E = lineStep ρ κ w ω (laid ss q) (words ω (q .arrays) ss m) 0 o in
+    (low′ : ℕ) × Shape κ w ω used low′ (queueAfter ρ (E .claims) q) (storeAfter ρ (E .claims) q m) (ss ++ E .stores) (E .line) φ
+own-shaped ρ κ w ω used low q m ss o φ wide Z S = go (E .claims) refl
   where
     v : Queue
     v = laid ss q
 
     E : Effect
-    E = lineStep κ w ω (laid ss q) (words ω (q .arrays) ss m) 0 o
+    E = lineStep ρ κ w ω (laid ss q) (words ω (q .arrays) ss m) 0 o
 
     Goal : Bool → Type 0
-    Goal x = (low′ : ℕ) × Shape κ w ω used low′ (queueAfter x q) (storeAfter x q m) (ss ++ E .stores) (E .line) φ
+    Goal x = (low′ : ℕ) × Shape κ w ω used low′ (queueAfter ρ x q) (storeAfter ρ x q m) (ss ++ E .stores) (E .line) φ
 
     go : (x : Bool) → E .claims ≡ x → Goal (E .claims)
     go false e = subst Goal (sym e) (R .0, shape-join (R .1) (E .stores) (E .line) (subst PathAt (sym te) (K .0)) (subst EndAt (sym te) (K .1)))
@@ -148,14 +150,14 @@ own-shaped κ w ω used low q m ss o φ wide S = go (E .claims) refl
         te = tails-is κ w ω _ _ (R .0) _ ss (q .anchor) (R .1 .path)
 
         K : Ends κ w ω used (lows ss (R .0)) v E
-        K = own-ends w ω used (lows ss (R .0)) v (words ω (q .arrays) ss m) φ κ o wide (shape-settle κ ss (R .1)) (R .2) false e refl
+        K = own-ends ρ w ω used (lows ss (R .0)) v (words ω (q .arrays) ss m) φ κ o wide (shape-settle κ ss (R .1)) (R .2) false e refl
 
         PathAt : ℕ → Type 0
         PathAt τ = Path κ w ω (q .arrays) (q .claimed) (lows ss (R .0)) (places ss (q .published)) τ (E .stores)
 
         EndAt : ℕ → Type 0
         EndAt τ = OwnEnd κ w ω used (q .arrays) (q .claimed) (lows (E .stores) (lows ss (R .0))) (places (E .stores) (places ss (q .published))) (tails (E .stores) τ) (E .line)
-    go true e = claimed (claim-only κ w ω v (words ω (q .arrays) ss m) 0 o e)
+    go true e = claimed (claim-only ρ κ w ω v (words ω (q .arrays) ss m) 0 o e)
       where
-        claimed : (t : Growth) × (o ≡ Claim t) × (fits ω v (words ω (q .arrays) ss m) ≡ true) → Goal (E .claims)
-        claimed (t, is, f) = claim-shaped κ w ω used low q m ss o φ t is f S
+        claimed : (t : Growth) × (o ≡ Claim t) × (fits ρ ω v ≡ true) → Goal (E .claims)
+        claimed (t, is, f) = claim-shaped ρ κ w ω used low q m ss o φ t is f Z S

@@ -8,6 +8,7 @@ use native.Mathlib.Omega.{arith}
 use native.Mathlib.Nat.{mod-lt}
 use lib.Dec.{eqb}
 use borrow.Author.Tests.{eqb-true, eqb-false}
+use Rattle.model.specs.declared.Room.{Room}
 use Rattle.model.specs.declared.Kind.{Kind}
 use Rattle.model.specs.declared.Kind.the-variants.{Lifo, Fifo, Deque}
 use Rattle.model.specs.declared.Line.{Line}
@@ -103,14 +104,14 @@ compare κ w ω used low q m ss o φ k r e t false i n S s = thief-stay S k Stea
 
 thief-some : (κ : Kind) (w z τ : ℕ) (r : Anchor) → ThiefRead κ w z τ r → isEmpty κ r ≡ false → Some κ r
 thief-some Lifo w z τ r R e = omega (arith, eqb-false (r .count) 0 e)
-thief-some Fifo w z τ r (ρ, s, u) e = omega (arith, eqb-false (r .head) (r .count) e)
+thief-some Fifo w z τ r (r′, s, u) e = omega (arith, eqb-false (r .head) (r .count) e)
 thief-some Deque w z τ r R e = omega (arith, eqb-false (r .count) 0 e)
 
-test-steal : (κ : Kind) (w ω used low : ℕ) (q : Queue) (m : List ℕ) (ss : List Store) (o : Line) (φ : ℕ → Line) (k : ℕ) (r : Anchor) (x : Bool) → isEmpty κ r ≡ x → (S : Shape κ w ω used low q m ss o φ)
+test-steal : (ρ : Room) (κ : Kind) (w ω used low : ℕ) (q : Queue) (m : List ℕ) (ss : List Store) (o : Line) (φ : ℕ → Line) (k : ℕ) (r : Anchor) (x : Bool) → isEmpty κ r ≡ x → (S : Shape κ w ω used low q m ss o φ)
     → ThiefRead κ w (size ω q) (tail κ (q .anchor)) r → ShapeKeptT κ w ω used low q m ss o φ k (if x then eff [] Idle (Empty (suc k)) else goes (StealNote r))
 unfolding if_then_else_
-test-steal κ w ω used low q m ss o φ k r true e S R = thief-stay S k Idle tt
-test-steal κ w ω used low q m ss o φ k r false e S R = thief-stay S k (StealNote r) (R, thief-some κ w (size ω q) (tail κ (q .anchor)) r R e)
+test-steal ρ κ w ω used low q m ss o φ k r true e S R = thief-stay S k Idle tt
+test-steal ρ κ w ω used low q m ss o φ k r false e S R = thief-stay S k (StealNote r) (R, thief-some κ w (size ω q) (tail κ (q .anchor)) r R e)
 
 -- line 1
 read-steal : (κ : Kind) (w ω used low : ℕ) (q : Queue) (m : List ℕ) (ss : List Store) (o : Line) (φ : ℕ → Line) → Shape κ w ω used low q m ss o φ → ThiefShape κ w ω q (tail κ (q .anchor)) (stealRead κ (q .anchor))
@@ -130,7 +131,7 @@ slot-now Fifo w z τ r R = tt
 slot-now Deque w z τ r R = tt
 
 -- the slot about to be read
-steal-slot : (κ : Kind) (z : ℕ) (r : Anchor) → 0 < z → Some κ r → Slot κ z (r .count) → slot κ z (stealIndex κ r) < z
+pub steal-slot : (κ : Kind) (z : ℕ) (r : Anchor) → 0 < z → Some κ r → Slot κ z (r .count) → slot κ z (stealIndex κ r) < z
 steal-slot Lifo z r p s l = omega arith
 steal-slot Fifo z r p s l = mod-lt (r .head) p
 steal-slot Deque z r p s l = mod-lt (r .head) p
@@ -152,7 +153,7 @@ word-steal κ w ω used low q m ss o φ r b t j x e wide S (R, s, p, l, κn, h) 
     u = withWord t j (wordOf κ ω q m b (stealIndex κ r) j)
 
     first : wordOf κ ω q m b (stealIndex κ r) 0 ≤ 65535
-    first = number (S .arrays) b _ p (steal-slot κ _ r (size-pos (tidy-proper ω (q .arrays) (q .claimed) b (S .arrays .tidied) (omega (arith, S .arrays .below)) .0)) s l)
+    first = number (S .arrays) b _ p (steal-slot κ _ r (size-pos (tidy-proper ω (q .arrays) (q .claimed) b (S .arrays .tidied) (omega (arith, S .arrays .below)))) s l)
 
     more : Known (j + 1) u
     more = known-more j t _ (omega arith) κn (λ z. rw z first)
@@ -166,30 +167,30 @@ next-steal Lifo h d = absurd d
 next-steal Fifo h d = absurd d
 next-steal Deque h d = refl
 
-pub thief-shaped : (κ : Kind) (w ω used low : ℕ) (q : Queue) (m : List ℕ) (ss : List Store) (o : Line) (φ : ℕ → Line) (k : ℕ) (θ : Line) → ω ≤ 4 → kindOk κ (q .linked) ≡ true → (S : Shape κ w ω used low q m ss o φ) → ThiefShape κ w ω q (tail κ (q .anchor)) θ
-    → ShapeKeptT κ w ω used low q m ss o φ k (lineStep κ w ω q m (suc k) θ)
+pub thief-shaped : (ρ : Room) (κ : Kind) (w ω used low : ℕ) (q : Queue) (m : List ℕ) (ss : List Store) (o : Line) (φ : ℕ → Line) (k : ℕ) (θ : Line) → ω ≤ 4 → kindOk κ (q .linked) ≡ true → (S : Shape κ w ω used low q m ss o φ) → ThiefShape κ w ω q (tail κ (q .anchor)) θ
+    → ShapeKeptT κ w ω used low q m ss o φ k (lineStep ρ κ w ω q m (suc k) θ)
 unfolding lineStep
-thief-shaped κ w ω used low q m ss o φ k Idle wide n S s = thief-stay S k Idle tt
-thief-shaped κ w ω used low q m ss o φ k StealRead wide n S s = thief-stay S k (stealRead κ (q .anchor)) (read-steal κ w ω used low q m ss o φ S)
-thief-shaped κ w ω used low q m ss o φ k (StealTail h) wide n S s = thief-stay S k (StealTest (anchor h (q .anchor .count) (q .anchor .tag))) (tail-steal κ w ω used low q m ss o φ h S s)
-thief-shaped κ w ω used low q m ss o φ k (StealTest r) wide n S s = test-steal κ w ω used low q m ss o φ k r (isEmpty κ r) refl S s
-thief-shaped κ w ω used low q m ss o φ k (StealNote r) wide n S (R, s) =
+thief-shaped ρ κ w ω used low q m ss o φ k Idle wide n S s = thief-stay S k Idle tt
+thief-shaped ρ κ w ω used low q m ss o φ k StealRead wide n S s = thief-stay S k (stealRead κ (q .anchor)) (read-steal κ w ω used low q m ss o φ S)
+thief-shaped ρ κ w ω used low q m ss o φ k (StealTail h) wide n S s = thief-stay S k (StealTest (anchor h (q .anchor .count) (q .anchor .tag))) (tail-steal κ w ω used low q m ss o φ h S s)
+thief-shaped ρ κ w ω used low q m ss o φ k (StealTest r) wide n S s = test-steal ρ κ w ω used low q m ss o φ k r (isEmpty κ r) refl S s
+thief-shaped ρ κ w ω used low q m ss o φ k (StealNote r) wide n S (R, s) =
     thief-stay S k (StealWord r (q .published - 1) noTask 0) (R, s, omega (arith, S .arrays .some), slot-now κ w (size ω q) (tail κ (q .anchor)) r R, none-known, omega arith)
-thief-shaped κ w ω used low q m ss o φ k (StealWord r b t j) wide n S s =
+thief-shaped ρ κ w ω used low q m ss o φ k (StealWord r b t j) wide n S s =
     thief-stay S k (stealOn κ ω r b (withWord t j (wordOf κ ω q m b (stealIndex κ r) j)) j) (word-steal κ w ω used low q m ss o φ r b t j (eqb j ω) refl wide S s)
-thief-shaped κ w ω used low q m ss o φ k (StealNext r t) wide n S (R, s, d, u) = thief-stay S k (StealCompare r ((r .head + 1) % 2048) t) (R, s, next-steal κ (r .head) d, u)
-thief-shaped κ w ω used low q m ss o φ k (StealCompare r e t) wide n S s = compare κ w ω used low q m ss o φ k r e t (succeeds κ q (suc k) r) refl n S s
-thief-shaped κ w ω used low q m ss o φ k (PutRead t) wide n S s = absurd s
-thief-shaped κ w ω used low q m ss o φ k (PutTail t h) wide n S s = absurd s
-thief-shaped κ w ω used low q m ss o φ k (PutTest t r) wide n S s = absurd s
-thief-shaped κ w ω used low q m ss o φ k (PutWord t r j) wide n S s = absurd s
-thief-shaped κ w ω used low q m ss o φ k (PutFinish t r) wide n S s = absurd s
-thief-shaped κ w ω used low q m ss o φ k (Claim t) wide n S s = absurd s
-thief-shaped κ w ω used low q m ss o φ k (Note t) wide n S s = absurd s
-thief-shaped κ w ω used low q m ss o φ k (Copy t h j i) wide n S s = absurd s
-thief-shaped κ w ω used low q m ss o φ k (Publish t) wide n S s = absurd s
-thief-shaped κ w ω used low q m ss o φ k TakeRead wide n S s = absurd s
-thief-shaped κ w ω used low q m ss o φ k (TakeTail h) wide n S s = absurd s
-thief-shaped κ w ω used low q m ss o φ k (TakeTest r) wide n S s = absurd s
-thief-shaped κ w ω used low q m ss o φ k (TakeWord r t j) wide n S s = absurd s
-thief-shaped κ w ω used low q m ss o φ k (TakeFinish r t) wide n S s = absurd s
+thief-shaped ρ κ w ω used low q m ss o φ k (StealNext r t) wide n S (R, s, d, u) = thief-stay S k (StealCompare r ((r .head + 1) % 2048) t) (R, s, next-steal κ (r .head) d, u)
+thief-shaped ρ κ w ω used low q m ss o φ k (StealCompare r e t) wide n S s = compare κ w ω used low q m ss o φ k r e t (succeeds κ q (suc k) r) refl n S s
+thief-shaped ρ κ w ω used low q m ss o φ k (PutRead t) wide n S s = absurd s
+thief-shaped ρ κ w ω used low q m ss o φ k (PutTail t h) wide n S s = absurd s
+thief-shaped ρ κ w ω used low q m ss o φ k (PutTest t r) wide n S s = absurd s
+thief-shaped ρ κ w ω used low q m ss o φ k (PutWord t r j) wide n S s = absurd s
+thief-shaped ρ κ w ω used low q m ss o φ k (PutFinish t r) wide n S s = absurd s
+thief-shaped ρ κ w ω used low q m ss o φ k (Claim t) wide n S s = absurd s
+thief-shaped ρ κ w ω used low q m ss o φ k (Note t) wide n S s = absurd s
+thief-shaped ρ κ w ω used low q m ss o φ k (Copy t h j i) wide n S s = absurd s
+thief-shaped ρ κ w ω used low q m ss o φ k (Publish t) wide n S s = absurd s
+thief-shaped ρ κ w ω used low q m ss o φ k TakeRead wide n S s = absurd s
+thief-shaped ρ κ w ω used low q m ss o φ k (TakeTail h) wide n S s = absurd s
+thief-shaped ρ κ w ω used low q m ss o φ k (TakeTest r) wide n S s = absurd s
+thief-shaped ρ κ w ω used low q m ss o φ k (TakeWord r t j) wide n S s = absurd s
+thief-shaped ρ κ w ω used low q m ss o φ k (TakeFinish r t) wide n S s = absurd s

@@ -7,6 +7,7 @@ use Prim.Native.Nat.{ℕ, zero, suc, _+_, _≤_, _<_}
 use native.Mathlib.Omega.{arith}
 use lib.Dec.{eqb}
 use lib.ListN.{getD, set}
+use Rattle.model.specs.declared.Room.{Room}
 use Rattle.model.specs.declared.Kind.{Kind}
 use Rattle.model.specs.declared.Kind.the-variants.{Lifo, Fifo, Deque}
 use Rattle.model.specs.declared.Growth.the-variants.{ForCommit}
@@ -26,10 +27,10 @@ use Rattle.model.specs.Tests.{_and_, _or_}
 use Rattle.model.specs.Figures.{putStore}
 use Rattle.model.specs.Stores.{inLine, oldest}
 use Rattle.model.specs.Lines.{Effect, lineStep, holdsLink}
-use Rattle.model.specs.World.{World, Outcome, refuse, tagBits, lineAt, isSteal1, isPast1}
-use Rattle.model.specs.Calls.{firstLine, begun, beginAnswer, landing, Call, begin, step, dropLink, drain, callOf, ask, dropAsk}
+use Rattle.model.specs.World.{World, Outcome, refuse, tagBits, lineAt, isSteal1, isPast1, roomAlone}
+use Rattle.model.specs.Calls.{firstLine, begun, beginAnswer, landing, Call, begin, step, dropLink, drain, ask, dropAsk, callIn, callOf}
 use Rattle.model.specs.Listing.{isRefused}
-use Rattle.model.specs.Run.{Played, played, after}
+use Rattle.model.specs.Run.{Played}
 use Rattle.model.proofs.Tasks.{gathered-again, first-number}
 use Rattle.model.specs.Tasks.{task}
 use Rattle.theorems.proofs.Folds.{laid, words, NotPut, NonePut}
@@ -45,8 +46,11 @@ use Rattle.theorems.proofs.ThiefLines.{LinkSound, thief-same}
 use Rattle.theorems.proofs.Held.{line-drain}
 use Rattle.theorems.proofs.Links.{held-set, links-held, link-parts}
 use Rattle.theorems.proofs.Valid.{thieves, Whole, tagged}
-use Rattle.theorems.proofs.Cases.{MayBegin, MayStep, effectOf, queueThen, storeThen, stepTo, dropped, drainTo, begin-cases, step-cases, drop-cases, drain-cases, call-cases, ask-cases, drop-ask-cases}
-use Rattle.theorems.proofs.WholeRun.{idle-is, own-back, thief-back, not-thief, not-owner, in-crew, in-line, thief-calm, thief-lands, linked-step, call-whole}
+use Rattle.theorems.proofs.Cases.{MayBegin, MayStep, effectOf, queueThen, storeThen, stepTo, dropped, drainTo, ask-by, drop-ask-by, begin-by, step-by, drop-by, drain-by, call-by, lone-cases}
+use Rattle.theorems.proofs.WholeRun.{idle-is, own-back, thief-back, not-thief, not-owner, in-crew, in-line, thief-calm, thief-lands, linked-step, call-whole, storing, others-whole}
+use Rattle.theorems.proofs.Directory.{Admits, Others}
+use Rattle.theorems.proofs.InvOthers.{inv-others}
+use Rattle.theorems.proofs.Company.{Turn, others, own, playedIn, afterIn, InCompany}
 use Rattle.theorems.proofs.Places.{rev}
 use Rattle.theorems.proofs.PutNumbers.{used-kept}
 
@@ -92,7 +96,7 @@ not-waiting t n q = let z : _≡_ {A = ℕ} 0 1 = cc in omega arith
 inv-quiet : {κ : Kind} {w ω : ℕ} {δ : Bool} {Q : Queue} {μ : List ℕ} {ss : List Store} {o : Line} {φ : ℕ → Line} {h : History} → Inv κ w ω δ Q μ ss o φ h → Inv κ w ω δ Q μ ss o φ (quiet ∷ h)
 inv-quiet {κ} {w} {ω} {δ} {Q} {μ} {ss} {o} {φ} {h} I = own-first I quiet o tt tt (λ k. tt) refl not-waiting (own-later κ _ _ h quiet tt (told-before quiet h tt) o (I .own))
 
-module _ (W : World) (H : Whole W) (h : History) (I : InvOf W h) (L : LinkedSince W h) (spent : (u : Task) → Told u h → u .number ≤ W .bench .used) where
+module _ (ρ : Room) (W : World) (H : Whole W) (R : Admits ρ (W .bench) (W .store)) (h : History) (I : InvOf W h) (L : LinkedSince W h) (spent : (u : Task) → Told u h → u .number ≤ W .bench .used) where
   abbrev InvLines : History → Line → (ℕ → Line) → Type 0
   InvLines h o φ = Inv (W .bench .kind) (tagBits (W .bench)) (W .bench .words) (W .bench .delayed) (W .bench .queue) (W .store) (inLine (W .bench .waiting)) o φ h
 
@@ -145,26 +149,26 @@ module _ (W : World) (H : Whole W) (h : History) (I : InvOf W h) (L : LinkedSinc
   -- STEP
   abbrev InvAfter : ℕ → History → Line → (ℕ → Line) → Type 0
   InvAfter i h o φ =
-      Inv (W .bench .kind) (tagBits (W .bench)) (W .bench .words) (W .bench .delayed) (queueThen W i (effectOf W i)) (storeThen W i (effectOf W i)) (inLine (stepTo W i .world .bench .waiting)) o φ h
+      Inv (W .bench .kind) (tagBits (W .bench)) (W .bench .words) (W .bench .delayed) (queueThen ρ W i (effectOf ρ W i)) (storeThen ρ W i (effectOf ρ W i)) (inLine (stepTo ρ W i .world .bench .waiting)) o φ h
 
-  stepped-kept : (i : ℕ) → MayStep W i → Fine W h (step i) (stepTo W i)
+  stepped-kept : (i : ℕ) → MayStep ρ W i → Fine W h (step i) (stepTo ρ W i)
   stepped-kept zero M f =
-      let K : Stepped (W .bench .kind) (tagBits (W .bench)) (W .bench .words) (W .bench .delayed) (W .bench .waiting) (W .bench .queue) (W .store) (lineAt (W .bench .workers) 0) (thieves (W .bench .workers)) h (effectOf W 0)
-      = own-stepped (W .bench .kind) (tagBits (W .bench)) (W .bench .words) (W .bench .delayed) (W .bench .waiting) (W .bench .queue) (W .store) (W .bench .used) (H .low) (lineAt (W .bench .workers) 0) (thieves (W .bench .workers)) h (H .words .1) (H .mode) (in-line H) (H .shape) I in
-      (inv-relink 0 _ (own-back (InvAfter 0 (event-in W (step 0) (effectOf W 0 .answer) ∷ h)) (W .bench .workers) (effectOf W 0 .line) (in-crew H 0 (M .member)) (K .0)), K .1)
+      let K : Stepped ρ (W .bench .kind) (tagBits (W .bench)) (W .bench .words) (W .bench .delayed) (W .bench .waiting) (W .bench .queue) (W .store) (lineAt (W .bench .workers) 0) (thieves (W .bench .workers)) h (effectOf ρ W 0)
+      = own-stepped ρ (W .bench .kind) (tagBits (W .bench)) (W .bench .words) (W .bench .delayed) (W .bench .waiting) (W .bench .queue) (W .store) (W .bench .used) (H .low) (lineAt (W .bench .workers) 0) (thieves (W .bench .workers)) h (H .words .1) (H .mode) (in-line H) (R .free) (H .shape) I in
+      (inv-relink 0 _ (own-back (InvAfter 0 (event-in W (step 0) (effectOf ρ W 0 .answer) ∷ h)) (W .bench .workers) (effectOf ρ W 0 .line) (in-crew H 0 (M .member)) (K .0)), K .1)
   stepped-kept (suc k) M f =
       let θ = thieves (W .bench .workers) k in
       let sound : LinkSound (W .bench .kind) (W .bench .queue) h k θ = λ x. (link-parts (W .bench .kind) (W .bench .queue) θ (H .links (suc k) x) .2, L k x) in
-      let K = thief-step (W .bench .kind) (tagBits (W .bench)) (W .bench .words) (W .bench .delayed) (W .bench .waiting .count) (W .bench .queue) (W .store) (inLine (W .bench .waiting)) (lineAt (W .bench .workers) 0) (thieves (W .bench .workers)) h k I (H .shape .arrays .some) (H .words .1) (tagged H) sound f in
+      let K = thief-step ρ (W .bench .kind) (tagBits (W .bench)) (W .bench .words) (W .bench .delayed) (W .bench .waiting .count) (W .bench .queue) (W .store) (inLine (W .bench .waiting)) (lineAt (W .bench .workers) 0) (thieves (W .bench .workers)) h k I (H .shape .arrays .some) (H .words .1) (tagged H) sound f in
       (inv-relink (suc k) _ (thief-back (InvAfter (suc k) (event-in W (step (suc k)) (E .answer) ∷ h)) (W .bench .workers) k (E .line) (in-crew H (suc k) (M .member)) (λ φ′ is rest. back (K .0 φ′ is rest))), K .1)
     where
       E : Effect
-      E = effectOf W (suc k)
+      E = effectOf ρ W (suc k)
 
       back : {o : Line} {φ′ : ℕ → Line} {h′ : History}
           → Inv (W .bench .kind) (tagBits (W .bench)) (W .bench .words) (W .bench .delayed) (laid (E .stores) (W .bench .queue)) (words (W .bench .words) (W .bench .queue .arrays) (E .stores) (W .store)) (inLine (W .bench .waiting)) o φ′ h′
           → InvAfter (suc k) h′ o φ′
-      back J = rw (thief-calm H k, thief-lands H k .0, thief-lands H k .1) J
+      back J = rw (thief-calm ρ H k, thief-lands ρ H k .0, thief-lands ρ H k .1) J
 
   -- LINK DROPPED
   dropped-kept : (i : ℕ) → Fine W h (dropLink i) (record { world = dropped W i; answer = Accepted })
@@ -193,13 +197,13 @@ module _ (W : World) (H : Whole W) (h : History) (I : InvOf W h) (L : LinkedSinc
       Q : Bool → Type 0
       Q δ = Inv (W .bench .kind) (tagBits (W .bench)) (W .bench .words) δ (drainTo W .bench .queue) (drainTo W .store) (inLine (drainTo W .bench .waiting)) (lineAt (W .bench .workers) 0) (thieves (W .bench .workers)) (e ∷ h) × GoodEvent δ e h
 
-  pub call-kept : (c : Call) → Fine W h c (callOf W c)
-  call-kept (begin i op) = begin-cases (Fine W h (begin i op)) W (λ r l. refused-kept (begin i op) r) i op (begun-kept i op)
-  call-kept (step i) = step-cases (Fine W h (step i)) W (λ r l. refused-kept (step i) r) i (stepped-kept i)
-  call-kept (dropLink i) = drop-cases (Fine W h (dropLink i)) W (λ r l. refused-kept (dropLink i) r) i (dropped-kept i)
-  call-kept drain = drain-cases (Fine W h drain) W (λ r l. refused-kept drain r) drained-kept
-  call-kept (ask i) = ask-cases (Fine W h (ask i)) W (λ r l. refused-kept (ask i) r) i (λ n A f. (inv-quiet I, tt))
-  call-kept (dropAsk i) = drop-ask-cases (Fine W h (dropAsk i)) W (λ r l. refused-kept (dropAsk i) r) i (λ n A f. (inv-quiet I, tt))
+  pub call-kept : (c : Call) → Fine W h c (callIn ρ W c)
+  call-kept (begin i op) = begin-by (Fine W h (begin i op)) W (λ r l. refused-kept (begin i op) r) ρ i op (begun-kept i op)
+  call-kept (step i) = step-by (Fine W h (step i)) W (λ r l. refused-kept (step i) r) ρ i (stepped-kept i)
+  call-kept (dropLink i) = drop-by (Fine W h (dropLink i)) W (λ r l. refused-kept (dropLink i) r) ρ i (dropped-kept i)
+  call-kept drain = drain-by (Fine W h drain) W (λ r l. refused-kept drain r) ρ drained-kept
+  call-kept (ask i) = ask-by (Fine W h (ask i)) W (λ r l. refused-kept (ask i) r) ρ i (λ n A f. (inv-quiet I, tt))
+  call-kept (dropAsk i) = drop-ask-by (Fine W h (dropAsk i)) W (λ r l. refused-kept (dropAsk i) r) ρ i (λ n A f. (inv-quiet I, tt))
 
 -- WHAT A HELD LINK SAYS. An event that brings no put to memory
 since-zero : (k : ℕ) (h : History) (e : Event) → NotDone e → puts-since k h ≡ 0 → puts-since k (e ∷ h) ≡ 0
@@ -218,10 +222,10 @@ since-zero k h (found-full t) n z = z
 since-zero k h (waiting-put t y) n z = z
 since-zero k h drained n z = z
 
-since-read : (κ : Kind) (w ω : ℕ) (δ : Bool) (y : ℕ) (q : Queue) (m : List ℕ) (i k : ℕ) (h : History) → k ≡ i → (l : Line) → l ≡ StealRead
-    → puts-since k (event-of ω δ y (step i) l (lineStep κ w ω q m i l .answer) ∷ h) ≡ 0
+since-read : (ρ : Room) (κ : Kind) (w ω : ℕ) (δ : Bool) (y : ℕ) (q : Queue) (m : List ℕ) (i k : ℕ) (h : History) → k ≡ i → (l : Line) → l ≡ StealRead
+    → puts-since k (event-of ω δ y (step i) l (lineStep ρ κ w ω q m i l .answer) ∷ h) ≡ 0
 unfolding lineStep
-since-read κ w ω δ y q m i k h e l r = rw (r, e) (since-now i h)
+since-read ρ κ w ω δ y q m i k h e l r = rw (r, e) (since-now i h)
 
 -- a step whose stores that are put down are no put's
 put-none : (κ : Kind) (w : ℕ) (r : Anchor) → NonePut (putStore κ w r ∷ []) → ⊥
@@ -229,33 +233,33 @@ put-none Lifo w r n = n .0
 put-none Fifo w r n = n .0
 put-none Deque w r n = n .0
 
-put-stores : (κ : Kind) (w ω : ℕ) (Q : Queue) (μ : List ℕ) (i : ℕ) (o : Line) (t : Task) (r : Anchor) → o ≡ PutFinish t r → lineStep κ w ω Q μ i o .stores ≡ putStore κ w r ∷ []
+put-stores : (ρ : Room) (κ : Kind) (w ω : ℕ) (Q : Queue) (μ : List ℕ) (i : ℕ) (o : Line) (t : Task) (r : Anchor) → o ≡ PutFinish t r → lineStep ρ κ w ω Q μ i o .stores ≡ putStore κ w r ∷ []
 unfolding lineStep
-put-stores κ w ω Q μ i o t r e = rw e
+put-stores ρ κ w ω Q μ i o t r e = rw e
 
-step-done : (κ : Kind) (w ω : ℕ) (δ : Bool) (y : ℕ) (Q : Queue) (μ : List ℕ) (i : ℕ) (o : Line) (a : Answer) → lineStep κ w ω Q μ i o .answer ≡ a → NonePut (landing δ i (lineStep κ w ω Q μ i o .stores))
+step-done : (ρ : Room) (κ : Kind) (w ω : ℕ) (δ : Bool) (y : ℕ) (Q : Queue) (μ : List ℕ) (i : ℕ) (o : Line) (a : Answer) → lineStep ρ κ w ω Q μ i o .answer ≡ a → NonePut (landing δ i (lineStep ρ κ w ω Q μ i o .stores))
     → NotDone (event-of ω δ y (step i) o a)
-step-done κ w ω δ y Q μ i o Accepted e n = tt
-step-done κ w ω δ y Q μ i o (Numbered m) e n = tt
-step-done κ w ω δ y Q μ i o GoesOn e n = go (is-line-1 o) (is-compare o)
+step-done ρ κ w ω δ y Q μ i o Accepted e n = tt
+step-done ρ κ w ω δ y Q μ i o (Numbered m) e n = tt
+step-done ρ κ w ω δ y Q μ i o GoesOn e n = go (is-line-1 o) (is-compare o)
   where
     go : (x z : Bool) → NotDone (cond x (line-1 i) (cond z (failed-compare i) quiet))
     go true z = tt
     go false true = tt
     go false false = tt
-step-done κ w ω true y Q μ i o (Finished j t) e n = tt
-step-done κ w ω false y Q μ i o (Finished j t) e n =
-    let F = finish-only κ w ω Q μ i o j t e in
-    put-none κ w (F .0) (subst NonePut (put-stores κ w ω Q μ i o t (F .0) (F .1)) n)
-step-done κ w ω δ y Q μ i o (HandedOut j t) e n = go (is-compare o)
+step-done ρ κ w ω true y Q μ i o (Finished j t) e n = tt
+step-done ρ κ w ω false y Q μ i o (Finished j t) e n =
+    let F = finish-only ρ κ w ω Q μ i o j t e in
+    put-none κ w (F .0) (subst NonePut (put-stores ρ κ w ω Q μ i o t (F .0) (F .1)) n)
+step-done ρ κ w ω δ y Q μ i o (HandedOut j t) e n = go (is-compare o)
   where
     go : (x : Bool) → NotDone (cond x (handed-out i t) (handed-out 0 t))
     go true = tt
     go false = tt
-step-done κ w ω δ y Q μ i o (Empty j) e n = tt
-step-done κ w ω δ y Q μ i o (Full j t) e n = tt
-step-done κ w ω δ y Q μ i o (Grown j) e n = tt
-step-done κ w ω δ y Q μ i o (Refused r) e n = tt
+step-done ρ κ w ω δ y Q μ i o (Empty j) e n = tt
+step-done ρ κ w ω δ y Q μ i o (Full j t) e n = tt
+step-done ρ κ w ω δ y Q μ i o (Grown j) e n = tt
+step-done ρ κ w ω δ y Q μ i o (Refused r) e n = tt
 
 begin-done : (ω : ℕ) (δ : Bool) (y i : ℕ) (op : Operation) (u : ℕ) (o : Line) → NotDone (event-of ω δ y (begin i op) o (beginAnswer op u))
 begin-done ω δ y zero (Put p) u o = tt
@@ -279,7 +283,7 @@ fewer l i k e = go (held-set l i k false e)
     go (inl (q, x)) = absurd (true≢false (sym x))
     go (inr (ne, x)) = x
 
-module _ (W : World) (H : Whole W) (h : History) (L : LinkedSince W h) where
+module _ (ρ : Room) (W : World) (H : Whole W) (R : Admits ρ (W .bench) (W .store)) (h : History) (L : LinkedSince W h) where
   abbrev SinceAfter : Call → Outcome → Type 0
   SinceAfter c D = LinkedSince (D .world) (event-in W c (D .answer) ∷ h)
 
@@ -291,30 +295,30 @@ module _ (W : World) (H : Whole W) (h : History) (L : LinkedSince W h) where
   refused-since (dropAsk i) r k x = L k x
   refused-since drain r k x = L k x
 
-  step-not-done : (i : ℕ) → NonePut (landing (W .bench .delayed) i (effectOf W i .stores)) → NotDone (event-in W (step i) (effectOf W i .answer))
-  step-not-done zero n = step-done (W .bench .kind) (tagBits (W .bench)) (W .bench .words) (W .bench .delayed) _ _ _ 0 (lineAt (W .bench .workers) 0) (effectOf W 0 .answer) refl n
-  step-not-done (suc k) n = step-done (W .bench .kind) (tagBits (W .bench)) (W .bench .words) (W .bench .delayed) _ _ _ (suc k) (lineAt (W .bench .workers) (suc k)) (effectOf W (suc k) .answer) refl n
+  step-not-done : (i : ℕ) → NonePut (landing (W .bench .delayed) i (effectOf ρ W i .stores)) → NotDone (event-in W (step i) (effectOf ρ W i .answer))
+  step-not-done zero n = step-done ρ (W .bench .kind) (tagBits (W .bench)) (W .bench .words) (W .bench .delayed) _ _ _ 0 (lineAt (W .bench .workers) 0) (effectOf ρ W 0 .answer) refl n
+  step-not-done (suc k) n = step-done ρ (W .bench .kind) (tagBits (W .bench)) (W .bench .words) (W .bench .delayed) _ _ _ (suc k) (lineAt (W .bench .workers) (suc k)) (effectOf ρ W (suc k) .answer) refl n
 
-  read-since : (i k : ℕ) → suc k ≡ i → lineAt (W .bench .workers) i ≡ StealRead → puts-since (suc k) (event-in W (step i) (effectOf W i .answer) ∷ h) ≡ 0
+  read-since : (i k : ℕ) → suc k ≡ i → lineAt (W .bench .workers) i ≡ StealRead → puts-since (suc k) (event-in W (step i) (effectOf ρ W i .answer) ∷ h) ≡ 0
   read-since zero k e q = absurd (omega arith)
-  read-since (suc i) k e q = since-read (W .bench .kind) (tagBits (W .bench)) (W .bench .words) (W .bench .delayed) _ _ _ (suc i) (suc k) h e (lineAt (W .bench .workers) (suc i)) q
+  read-since (suc i) k e q = since-read ρ (W .bench .kind) (tagBits (W .bench)) (W .bench .words) (W .bench .delayed) _ _ _ (suc i) (suc k) h e (lineAt (W .bench .workers) (suc i)) q
 
-  stepped-since : (i : ℕ) → SinceAfter (step i) (stepTo W i)
-  stepped-since i k x = go (held-set (queueThen W i (effectOf W i) .links) i (suc k) _ x)
+  stepped-since : (i : ℕ) → SinceAfter (step i) (stepTo ρ W i)
+  stepped-since i k x = go (held-set (queueThen ρ W i (effectOf ρ W i) .links) i (suc k) _ x)
     where
-      held : holdsLink (queueThen W i (effectOf W i)) (suc k) ≡ true → puts-since (suc k) (event-in W (step i) (effectOf W i .answer) ∷ h) ≡ 0
+      held : holdsLink (queueThen ρ W i (effectOf ρ W i)) (suc k) ≡ true → puts-since (suc k) (event-in W (step i) (effectOf ρ W i .answer) ∷ h) ≡ 0
       held y =
-          let (a, b, n) = links-held (landing (W .bench .delayed) i (effectOf W i .stores)) (W .bench .queue .links) (W .bench .queue .anchor) (suc k) y in
-          since-zero (suc k) h (event-in W (step i) (effectOf W i .answer)) (step-not-done i n) (L k a)
+          let (a, b, n) = links-held (landing (W .bench .delayed) i (effectOf ρ W i .stores)) (W .bench .queue .links) (W .bench .queue .anchor) (suc k) y in
+          since-zero (suc k) h (event-in W (step i) (effectOf ρ W i .answer)) (step-not-done i n) (L k a)
 
-      go : ((suc k ≡ i) × ((isPast1 (effectOf W i .line) and ((W .bench .queue .linked and isSteal1 (lineAt (W .bench .workers) i)) or holdsLink (queueThen W i (effectOf W i)) i)) ≡ true))
-          ⊎ ((suc k ≢ i) × (holdsLink (queueThen W i (effectOf W i)) (suc k) ≡ true))
-          → puts-since (suc k) (event-in W (step i) (effectOf W i .answer) ∷ h) ≡ 0
-      go (inl (e, y)) = now (linked-step H i y .0)
+      go : ((suc k ≡ i) × ((isPast1 (effectOf ρ W i .line) and ((W .bench .queue .linked and isSteal1 (lineAt (W .bench .workers) i)) or holdsLink (queueThen ρ W i (effectOf ρ W i)) i)) ≡ true))
+          ⊎ ((suc k ≢ i) × (holdsLink (queueThen ρ W i (effectOf ρ W i)) (suc k) ≡ true))
+          → puts-since (suc k) (event-in W (step i) (effectOf ρ W i .answer) ∷ h) ≡ 0
+      go (inl (e, y)) = now (linked-step ρ H R i y .0)
         where
-          now : (lineAt (W .bench .workers) i ≡ StealRead) ⊎ (holdsLink (queueThen W i (effectOf W i)) i ≡ true) → puts-since (suc k) (event-in W (step i) (effectOf W i .answer) ∷ h) ≡ 0
+          now : (lineAt (W .bench .workers) i ≡ StealRead) ⊎ (holdsLink (queueThen ρ W i (effectOf ρ W i)) i ≡ true) → puts-since (suc k) (event-in W (step i) (effectOf ρ W i .answer) ∷ h) ≡ 0
           now (inl q) = read-since i k e q
-          now (inr z) = held (subst (λ (n : ℕ). holdsLink (queueThen W i (effectOf W i)) n ≡ true) (sym e) z)
+          now (inr z) = held (subst (λ (n : ℕ). holdsLink (queueThen ρ W i (effectOf ρ W i)) n ≡ true) (sym e) z)
       go (inr (ne, y)) = held y
 
   drained-since : SinceAfter drain (record { world = drainTo W; answer = Accepted })
@@ -322,16 +326,16 @@ module _ (W : World) (H : Whole W) (h : History) (L : LinkedSince W h) where
       let (a, b, n) = links-held (oldest (W .bench .waiting) ∷ []) (W .bench .queue .links) (W .bench .queue .anchor) (suc k) x in
       since-zero (suc k) h (event-of-drain (W .bench .kind) (W .bench .words) (W .bench .queue) (W .store) (oldest (W .bench .waiting))) (drain-done (W .bench .kind) (W .bench .words) (W .bench .queue) (W .store) (oldest (W .bench .waiting)) (n .0)) (L k a)
 
-  pub call-since : (c : Call) → SinceAfter c (callOf W c)
+  pub call-since : (c : Call) → SinceAfter c (callIn ρ W c)
   call-since (begin i op) =
-      begin-cases (SinceAfter (begin i op)) W (λ r f. refused-since (begin i op) r) i op
+      begin-by (SinceAfter (begin i op)) W (λ r f. refused-since (begin i op) r) ρ i op
       (λ B k x. since-zero (suc k) h (event-in W (begin i op) (beginAnswer op (W .bench .used))) (begin-done (W .bench .words) (W .bench .delayed) _ i op (W .bench .used) (lineAt (W .bench .workers) i)) (L k x))
-  call-since (step i) = step-cases (SinceAfter (step i)) W (λ r f. refused-since (step i) r) i (λ M. stepped-since i)
+  call-since (step i) = step-by (SinceAfter (step i)) W (λ r f. refused-since (step i) r) ρ i (λ M. stepped-since i)
   call-since (dropLink i) =
-      drop-cases (SinceAfter (dropLink i)) W (λ r f. refused-since (dropLink i) r) i (λ k x. L k (fewer (W .bench .queue .links) i (suc k) x))
-  call-since drain = drain-cases (SinceAfter drain) W (λ r f. refused-since drain r) (λ some. drained-since)
-  call-since (ask i) = ask-cases (SinceAfter (ask i)) W (λ r f. refused-since (ask i) r) i (λ n A. L)
-  call-since (dropAsk i) = drop-ask-cases (SinceAfter (dropAsk i)) W (λ r f. refused-since (dropAsk i) r) i (λ n A. L)
+      drop-by (SinceAfter (dropLink i)) W (λ r f. refused-since (dropLink i) r) ρ i (λ k x. L k (fewer (W .bench .queue .links) i (suc k) x))
+  call-since drain = drain-by (SinceAfter drain) W (λ r f. refused-since drain r) ρ (λ some. drained-since)
+  call-since (ask i) = ask-by (SinceAfter (ask i)) W (λ r f. refused-since (ask i) r) ρ i (λ n A. L)
+  call-since (dropAsk i) = drop-ask-by (SinceAfter (dropAsk i)) W (λ r f. refused-since (dropAsk i) r) ρ i (λ n A. L)
 
 -- a call keeps the kind, the tag's bits, the payload words, and the way of storing
 pub record Like (W : World) (D : Outcome) : Type 0 where
@@ -344,10 +348,13 @@ same-like : (W : World) (D : Outcome) → D .world .bench .kind ≡ W .bench .ki
     → D .world .bench .words ≡ W .bench .words → D .world .bench .delayed ≡ W .bench .delayed → Like W D
 same-like W D a b c d = record { kind = a; bits = b; words = c; delayed = d }
 
-pub call-like : (W : World) (c : Call) → Like W (callOf W c)
-call-like W c =
-    call-cases (Like W) W (λ r l. same-like W _ refl refl refl refl) (λ i op B. same-like W _ refl refl refl refl) (λ i M. same-like W _ refl refl refl refl)
+pub call-like : (ρ : Room) (W : World) (c : Call) → Like W (callIn ρ W c)
+call-like ρ W c =
+    call-by (Like W) W (λ r l. same-like W _ refl refl refl refl) ρ (λ i op B. same-like W _ refl refl refl refl) (λ i M. same-like W _ refl refl refl refl)
     (λ i. same-like W _ refl refl refl refl) (λ some. same-like W _ refl refl refl refl) (λ n A. same-like W _ refl refl refl refl) c
+
+pub lone-like : (W : World) (c : Call) → Like W (callOf W c)
+lone-like W c = lone-cases (Like W) W (same-like W _ refl refl refl refl) c (call-like (roomAlone W) W c)
 
 -- put numbers: those begun are used
 abbrev pub Used : World → History → Type 0
@@ -426,24 +433,24 @@ begin-within W i Take = tt
 begin-within W i Steal = tt
 begin-within W i Commit = tt
 
-call-within : (W : World) (c : Call) → Within (callOf W c .world .bench .used) (event-in W c (callOf W c .answer))
-call-within W (begin i op) =
-    begin-cases (λ (D : Outcome). Within (D .world .bench .used) (event-in W (begin i op) (D .answer))) W (λ r q. tt) i op (λ B. begin-within W i op)
-call-within W (step i) =
-    step-cases (λ (D : Outcome). Within (D .world .bench .used) (event-in W (step i) (D .answer))) W (λ r q. tt) i
-    (λ M. step-within (W .bench .used) (W .bench .words) (W .bench .delayed) (W .bench .waiting .count) i _ (effectOf W i .answer))
-call-within W (dropLink i) = drop-cases (λ (D : Outcome). Within (D .world .bench .used) (event-in W (dropLink i) (D .answer))) W (λ r q. tt) i tt
-call-within W (ask i) = ask-cases (λ (D : Outcome). Within (D .world .bench .used) (event-in W (ask i) (D .answer))) W (λ r q. tt) i (λ n A. tt)
-call-within W (dropAsk i) = drop-ask-cases (λ (D : Outcome). Within (D .world .bench .used) (event-in W (dropAsk i) (D .answer))) W (λ r q. tt) i (λ n A. tt)
-call-within W drain =
-    drain-cases (λ (D : Outcome). Within (D .world .bench .used) (event-in W drain (D .answer))) W (λ r q. tt) (λ some. drain-within (W .bench .used) _ _ _ _ (oldest (W .bench .waiting)) false)
+call-within : (ρ : Room) (W : World) (c : Call) → Within (callIn ρ W c .world .bench .used) (event-in W c (callIn ρ W c .answer))
+call-within ρ W (begin i op) =
+    begin-by (λ (D : Outcome). Within (D .world .bench .used) (event-in W (begin i op) (D .answer))) W (λ r q. tt) ρ i op (λ B. begin-within W i op)
+call-within ρ W (step i) =
+    step-by (λ (D : Outcome). Within (D .world .bench .used) (event-in W (step i) (D .answer))) W (λ r q. tt) ρ i
+    (λ M. step-within (W .bench .used) (W .bench .words) (W .bench .delayed) (W .bench .waiting .count) i _ (effectOf ρ W i .answer))
+call-within ρ W (dropLink i) = drop-by (λ (D : Outcome). Within (D .world .bench .used) (event-in W (dropLink i) (D .answer))) W (λ r q. tt) ρ i tt
+call-within ρ W (ask i) = ask-by (λ (D : Outcome). Within (D .world .bench .used) (event-in W (ask i) (D .answer))) W (λ r q. tt) ρ i (λ n A. tt)
+call-within ρ W (dropAsk i) = drop-ask-by (λ (D : Outcome). Within (D .world .bench .used) (event-in W (dropAsk i) (D .answer))) W (λ r q. tt) ρ i (λ n A. tt)
+call-within ρ W drain =
+    drain-by (λ (D : Outcome). Within (D .world .bench .used) (event-in W drain (D .answer))) W (λ r q. tt) ρ (λ some. drain-within (W .bench .used) _ _ _ _ (oldest (W .bench .waiting)) false)
 
-used-next : (W : World) (c : Call) (h : History) → Used W h → Used (callOf W c .world) (event-in W c (callOf W c .answer) ∷ h)
-used-next W c h U u d = go (List·Memᴰ·cases-cons d)
+used-next : (ρ : Room) (W : World) (c : Call) (h : History) → Used W h → Used (callIn ρ W c .world) (event-in W c (callIn ρ W c .answer) ∷ h)
+used-next ρ W c h U u d = go (List·Memᴰ·cases-cons d)
   where
-    go : (began-put u ≡ event-in W c (callOf W c .answer)) ⊎ List·Memᴰ (began-put u) h → u .number ≤ callOf W c .world .bench .used
-    go (inl q) = subst (Within (callOf W c .world .bench .used)) (sym q) (call-within W c)
-    go (inr m) = omega (arith, U u m, used-kept W c)
+    go : (began-put u ≡ event-in W c (callIn ρ W c .answer)) ⊎ List·Memᴰ (began-put u) h → u .number ≤ callIn ρ W c .world .bench .used
+    go (inl q) = subst (Within (callIn ρ W c .world .bench .used)) (sym q) (call-within ρ W c)
+    go (inr m) = omega (arith, U u m, used-kept ρ W c)
 
 -- the whole list
 pub prem-tail : (κ : Kind) (w : ℕ) (T : List Event) (h : History) → Premise κ w (rev T h) → Premise κ w h
@@ -462,25 +469,40 @@ pub record Runs (κ : Kind) (w : ℕ) (δ : Bool) (W : World) (h : History) : Ty
   pub good : GoodHistory δ h
   pub numbers : Used W h
 
-pub run-kept : (κ : Kind) (w : ℕ) (δ : Bool) (cs : List Call) (W : World) (h : History) → Runs κ w δ W h
-    → Premise κ w (rev (events (played W cs)) h) → InvOf (after W cs) (rev (events (played W cs)) h) × GoodHistory δ (rev (events (played W cs)) h)
-unfolding rev played after
-run-kept κ w δ [] W h R f = (R .inv, R .good)
-run-kept κ w δ (c ∷ cs) W h R f =
-    let D = callOf W c in
+-- others wrote
+storing-runs : {κ : Kind} {w : ℕ} {δ : Bool} {W : World} {h : History} (m : List ℕ) → Others (W .bench .queue) (W .store) m → Runs κ w δ W h → Runs κ w δ (storing W m) h
+storing-runs m O R =
+    record {
+      kind = R .kind;
+      bits = R .bits;
+      delayed = R .delayed;
+      whole = others-whole (R .whole) O;
+      inv = inv-others (R .whole .shape) O (R .inv);
+      since = R .since;
+      good = R .good;
+      numbers = R .numbers;
+    }
+
+pub run-kept : (κ : Kind) (w : ℕ) (δ : Bool) (ts : List Turn) (W : World) (h : History) → InCompany W ts → Runs κ w δ W h
+    → Premise κ w (rev (events (playedIn W ts)) h) → InvOf (afterIn W ts) (rev (events (playedIn W ts)) h) × GoodHistory δ (rev (events (playedIn W ts)) h)
+unfolding rev playedIn afterIn InCompany
+run-kept κ w δ [] W h C R f = (R .inv, R .good)
+run-kept κ w δ (others m ∷ ts) W h (O, C) R f = run-kept κ w δ ts (storing W m) h C (storing-runs m O R) f
+run-kept κ w δ (own ρ c ∷ ts) W h (Z, C) R f =
+    let D = callIn ρ W c in
     let e = event-in W c (D .answer) in
-    let p = prem-tail κ w (events (played (D .world) cs)) (e ∷ h) f .0 in
-    let k = call-kept W (R .whole) h (R .inv) (R .since) (λ u d. R .numbers u (good-begun δ h u (R .good) d)) c
+    let p = prem-tail κ w (events (playedIn (D .world) ts)) (e ∷ h) f .0 in
+    let k = call-kept ρ W (R .whole) Z h (R .inv) (R .since) (λ u d. R .numbers u (good-begun δ h u (R .good) d)) c
     (subst₂ (λ (y : Kind) (z : ℕ). PremiseAt y z e h) (sym (R .kind)) (sym (R .bits)) p) in
-    let s = call-like W c in
-    run-kept κ w δ cs (D .world) (e ∷ h)
+    let s = call-like ρ W c in
+    run-kept κ w δ ts (D .world) (e ∷ h) C
     (record {
       kind = s .kind ∙ R .kind;
       bits = s .bits ∙ R .bits;
       delayed = s .delayed ∙ R .delayed;
-      whole = call-whole (R .whole) c;
+      whole = call-whole ρ (R .whole) Z c;
       inv = k .0;
-      since = call-since W (R .whole) h (R .since) c;
+      since = call-since ρ W (R .whole) Z h (R .since) c;
       good = (subst (λ (δ : Bool). GoodEvent δ e h) (R .delayed) (k .1), R .good);
-      numbers = used-next W c h (R .numbers);
+      numbers = used-next ρ W c h (R .numbers);
     }) f

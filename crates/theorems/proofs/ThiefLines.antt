@@ -8,6 +8,7 @@ use native.Mathlib.Omega.{arith}
 use native.Mathlib.Nat.{mod-eq-of-lt, add-zero, mod-add-mod}
 use lib.Dec.{eqb}
 use borrow.Author.Tests.{eqb-true, eqb-false}
+use Rattle.model.specs.declared.Room.{Room}
 use Rattle.model.specs.declared.Kind.{Kind}
 use Rattle.model.specs.declared.Kind.the-variants.{Lifo, Fifo, Deque}
 use Rattle.model.specs.declared.Line.{Line}
@@ -82,6 +83,7 @@ thief-same κ w ω δ y Q μ ol oh ss φ h k θ e nd c I new φ′ is rest =
       tops = I .tops;
       core = core-ev e (plain-done e nd) (I .core);
       sized = I .sized;
+      sorted = I .sorted;
       room = I .room;
       tag = I .tag;
       owed = owed-later κ w δ _ (Q .anchor .tag) h e ss (I .owed);
@@ -105,6 +107,7 @@ steal-end κ w ω δ y Q μ ol oh ss φ h k r e t r′ A C n I l m u ln un only 
         core-window (handed-out (suc k) t) ol oh A C tt (I .core) (omega arith) (omega (arith, I .core .low)) m
         (omega (arith, I .core .high)) (omega arith) leave;
     sized = I .sized;
+    sorted = I .sorted;
     room = I .room;
     tag = rw eg (I .tag);
     owed = rw eg (owed-later κ w δ _ (Q .anchor .tag) h (handed-out (suc k) t) ss (I .owed));
@@ -338,22 +341,22 @@ steal-next Lifo a = tt
 steal-next Fifo a = tt
 steal-next Deque a = refl
 
-pub thief-kept : (κ : Kind) (w ω : ℕ) (δ : Bool) (y : ℕ) (Q : Queue) (μ : List ℕ) (ol oh : ℕ) (ss : List Store) (φ : ℕ → Line) (h : History) (k : ℕ) (θ : Line) (I : Base κ w ω δ Q μ ol oh ss φ h) → ThiefOk κ w (view ω Q μ ol oh) (Q .anchor .tag) h (suc k) θ → 0 < Q .published → ω ≤ 4 → (Q .linked ≡ false → 0 < w) → LinkSound κ Q h k θ
-    → PremiseAt κ w (event-of ω δ y (step (suc k)) θ (lineStep κ w ω Q μ (suc k) θ .answer)) h → ThiefKept κ w ω δ y Q μ ol oh ss φ h k θ (lineStep κ w ω Q μ (suc k) θ)
+pub thief-kept : (ρ : Room) (κ : Kind) (w ω : ℕ) (δ : Bool) (y : ℕ) (Q : Queue) (μ : List ℕ) (ol oh : ℕ) (ss : List Store) (φ : ℕ → Line) (h : History) (k : ℕ) (θ : Line) (I : Base κ w ω δ Q μ ol oh ss φ h) → ThiefOk κ w (view ω Q μ ol oh) (Q .anchor .tag) h (suc k) θ → 0 < Q .published → ω ≤ 4 → (Q .linked ≡ false → 0 < w) → LinkSound κ Q h k θ
+    → PremiseAt κ w (event-of ω δ y (step (suc k)) θ (lineStep ρ κ w ω Q μ (suc k) θ .answer)) h → ThiefKept κ w ω δ y Q μ ol oh ss φ h k θ (lineStep ρ κ w ω Q μ (suc k) θ)
 unfolding lineStep
-thief-kept κ w ω δ y Q μ ol oh ss φ h k Idle I ok pos wide some L f = (thief-same κ w ω δ y Q μ ol oh ss φ h k Idle quiet tt (λ i q. tt) I tt, tt, (refl, refl, refl), λ Y. order-ev κ (view ω Q μ ol oh) (Q .anchor .head) ss h _ tt Y)
-thief-kept κ w ω δ y Q μ ol oh ss φ h k StealRead I ok pos wide some L f =
+thief-kept ρ κ w ω δ y Q μ ol oh ss φ h k Idle I ok pos wide some L f = (thief-same κ w ω δ y Q μ ol oh ss φ h k Idle quiet tt (λ i q. tt) I tt, tt, (refl, refl, refl), λ Y. order-ev κ (view ω Q μ ol oh) (Q .anchor .head) ss h _ tt Y)
+thief-kept ρ κ w ω δ y Q μ ol oh ss φ h k StealRead I ok pos wide some L f =
     (thief-same κ w ω δ y Q μ ol oh ss φ h k (stealRead κ (Q .anchor)) (line-1 (suc k)) tt (λ i ne. omega arith) I (steal-read κ w ω δ y Q μ ol oh ss φ h k I), tt, (refl, refl, refl), λ Y. order-ev κ (view ω Q μ ol oh) (Q .anchor .head) ss h _ tt Y)
-thief-kept κ w ω δ y Q μ ol oh ss φ h k (StealTail a) I ok pos wide some L f = (thief-same κ w ω δ y Q μ ol oh ss φ h k (StealTest (anchor a (Q .anchor .count) (Q .anchor .tag))) quiet tt (λ i q. tt) I (steal-tail κ w ω δ y Q μ ol oh ss φ h k a I ok), tt, (refl, refl, refl), λ Y. order-ev κ (view ω Q μ ol oh) (Q .anchor .head) ss h _ tt Y)
-thief-kept κ w ω δ y Q μ ol oh ss φ h k (StealTest r) I ok pos wide some L f = steal-test κ w ω δ y Q μ ol oh ss φ h k r (isEmpty κ r) refl I ok
-thief-kept κ w ω δ y Q μ ol oh ss φ h k (StealNote r) I (R, l) pos wide some L f = (
+thief-kept ρ κ w ω δ y Q μ ol oh ss φ h k (StealTail a) I ok pos wide some L f = (thief-same κ w ω δ y Q μ ol oh ss φ h k (StealTest (anchor a (Q .anchor .count) (Q .anchor .tag))) quiet tt (λ i q. tt) I (steal-tail κ w ω δ y Q μ ol oh ss φ h k a I ok), tt, (refl, refl, refl), λ Y. order-ev κ (view ω Q μ ol oh) (Q .anchor .head) ss h _ tt Y)
+thief-kept ρ κ w ω δ y Q μ ol oh ss φ h k (StealTest r) I ok pos wide some L f = steal-test κ w ω δ y Q μ ol oh ss φ h k r (isEmpty κ r) refl I ok
+thief-kept ρ κ w ω δ y Q μ ol oh ss φ h k (StealNote r) I (R, l) pos wide some L f = (
   thief-same κ w ω δ y Q μ ol oh ss φ h k _ quiet tt (λ i q. tt) I
       (soon κ w _ (Q .anchor .tag) h (suc k) (StealWord r _ noTask 0) (R, l, (omega arith, (I .sized, small-now κ ω Q (R .lo) (R .hi) (view ω Q μ ol oh) _ (R .hold) refl), ((size-pos (I .sized), inl (refl, refl)), λ j q x y z. refl)), omega arith, λ x y z. no-words _)),
   tt,
   (refl, refl, refl),
   λ Y. order-ev κ (view ω Q μ ol oh) (Q .anchor .head) ss h _ tt Y,
 )
-thief-kept κ w ω δ y Q μ ol oh ss φ h k (StealWord r b t j) I (R, l, (p, n, (d, q)), u, G) pos wide some L f =
+thief-kept ρ κ w ω δ y Q μ ol oh ss φ h k (StealWord r b t j) I (R, l, (p, n, (d, q)), u, G) pos wide some L f =
     let x = wordOf κ ω Q μ b (stealIndex κ r) j in (
       thief-same κ w ω δ y Q μ ol oh ss φ h k (stealOn κ ω r b (withWord t j x) j) quiet tt (λ i q. tt) I
           (soon κ w _ (Q .anchor .tag) h (suc k) (stealOn κ ω r b (withWord t j x) j)
@@ -363,25 +366,25 @@ thief-kept κ w ω δ y Q μ ol oh ss φ h k (StealWord r b t j) I (R, l, (p, n,
       (refl, refl, refl),
       λ Y. order-ev κ (view ω Q μ ol oh) (Q .anchor .head) ss h _ tt Y,
     )
-thief-kept κ w ω δ y Q μ ol oh ss φ h k (StealNext r t) I (R, l, G) pos wide some L f = (
+thief-kept ρ κ w ω δ y Q μ ol oh ss φ h k (StealNext r t) I (R, l, G) pos wide some L f = (
   thief-same κ w ω δ y Q μ ol oh ss φ h k _ quiet tt (λ i q. tt) I
       (soon κ w _ (Q .anchor .tag) h (suc k) (StealCompare r _ t) (R, l, G, steal-next κ (r .head))),
   tt,
   (refl, refl, refl),
   λ Y. order-ev κ (view ω Q μ ol oh) (Q .anchor .head) ss h _ tt Y,
 )
-thief-kept κ w ω δ y Q μ ol oh ss φ h k (StealCompare r e t) I ok pos wide some L f = steal-compare κ w ω δ y Q μ ol oh ss φ h k r e t (succeeds κ Q (suc k) r) refl I ok some L f
-thief-kept κ w ω δ y Q μ ol oh ss φ h k (PutRead t) I ok pos wide some L f = absurd ok
-thief-kept κ w ω δ y Q μ ol oh ss φ h k (PutTail t a) I ok pos wide some L f = absurd ok
-thief-kept κ w ω δ y Q μ ol oh ss φ h k (PutTest t r) I ok pos wide some L f = absurd ok
-thief-kept κ w ω δ y Q μ ol oh ss φ h k (PutWord t r j) I ok pos wide some L f = absurd ok
-thief-kept κ w ω δ y Q μ ol oh ss φ h k (PutFinish t r) I ok pos wide some L f = absurd ok
-thief-kept κ w ω δ y Q μ ol oh ss φ h k (Claim t) I ok pos wide some L f = absurd ok
-thief-kept κ w ω δ y Q μ ol oh ss φ h k (Note t) I ok pos wide some L f = absurd ok
-thief-kept κ w ω δ y Q μ ol oh ss φ h k (Copy t a q j) I ok pos wide some L f = absurd ok
-thief-kept κ w ω δ y Q μ ol oh ss φ h k (Publish t) I ok pos wide some L f = absurd ok
-thief-kept κ w ω δ y Q μ ol oh ss φ h k TakeRead I ok pos wide some L f = absurd ok
-thief-kept κ w ω δ y Q μ ol oh ss φ h k (TakeTail a) I ok pos wide some L f = absurd ok
-thief-kept κ w ω δ y Q μ ol oh ss φ h k (TakeTest r) I ok pos wide some L f = absurd ok
-thief-kept κ w ω δ y Q μ ol oh ss φ h k (TakeWord r t j) I ok pos wide some L f = absurd ok
-thief-kept κ w ω δ y Q μ ol oh ss φ h k (TakeFinish r t) I ok pos wide some L f = absurd ok
+thief-kept ρ κ w ω δ y Q μ ol oh ss φ h k (StealCompare r e t) I ok pos wide some L f = steal-compare κ w ω δ y Q μ ol oh ss φ h k r e t (succeeds κ Q (suc k) r) refl I ok some L f
+thief-kept ρ κ w ω δ y Q μ ol oh ss φ h k (PutRead t) I ok pos wide some L f = absurd ok
+thief-kept ρ κ w ω δ y Q μ ol oh ss φ h k (PutTail t a) I ok pos wide some L f = absurd ok
+thief-kept ρ κ w ω δ y Q μ ol oh ss φ h k (PutTest t r) I ok pos wide some L f = absurd ok
+thief-kept ρ κ w ω δ y Q μ ol oh ss φ h k (PutWord t r j) I ok pos wide some L f = absurd ok
+thief-kept ρ κ w ω δ y Q μ ol oh ss φ h k (PutFinish t r) I ok pos wide some L f = absurd ok
+thief-kept ρ κ w ω δ y Q μ ol oh ss φ h k (Claim t) I ok pos wide some L f = absurd ok
+thief-kept ρ κ w ω δ y Q μ ol oh ss φ h k (Note t) I ok pos wide some L f = absurd ok
+thief-kept ρ κ w ω δ y Q μ ol oh ss φ h k (Copy t a q j) I ok pos wide some L f = absurd ok
+thief-kept ρ κ w ω δ y Q μ ol oh ss φ h k (Publish t) I ok pos wide some L f = absurd ok
+thief-kept ρ κ w ω δ y Q μ ol oh ss φ h k TakeRead I ok pos wide some L f = absurd ok
+thief-kept ρ κ w ω δ y Q μ ol oh ss φ h k (TakeTail a) I ok pos wide some L f = absurd ok
+thief-kept ρ κ w ω δ y Q μ ol oh ss φ h k (TakeTest r) I ok pos wide some L f = absurd ok
+thief-kept ρ κ w ω δ y Q μ ol oh ss φ h k (TakeWord r t j) I ok pos wide some L f = absurd ok
+thief-kept ρ κ w ω δ y Q μ ol oh ss φ h k (TakeFinish r t) I ok pos wide some L f = absurd ok

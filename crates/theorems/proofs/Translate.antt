@@ -6,6 +6,7 @@ use mathlib.Core.List.{List, [], _∷_}
 use Prim.Native.Nat.{ℕ, zero, suc, _+_, _-_, _<_}
 use native.Mathlib.Omega.{arith}
 use lib.ListN.{take, drop}
+use Rattle.model.specs.declared.Room.{Room}
 use Rattle.model.specs.declared.Kind.{Kind}
 use Rattle.model.specs.declared.Line.{Line}
 use Rattle.model.specs.declared.Line.the-variants.{Idle, PutRead, PutTail, PutTest, PutWord, PutFinish, Claim, Note, Copy, Publish, TakeRead, TakeTail, TakeTest, TakeWord, TakeFinish, StealRead, StealTail, StealTest, StealNote, StealWord, StealNext, StealCompare}
@@ -21,14 +22,16 @@ use Rattle.model.specs.declared.Refusal.{Refusal}
 use Rattle.model.specs.Lines.{lineStep}
 use Rattle.model.specs.World.{World, Outcome, tagBits, lineAt}
 use Rattle.model.specs.Stores.{oldest}
-use Rattle.model.specs.Calls.{Call, begin, step, dropLink, ask, dropAsk, drain, callOf}
+use Rattle.model.specs.Calls.{Call, begin, step, dropLink, ask, dropAsk, drain, callIn}
 use Rattle.model.specs.declared.Store.{Store}
 use Rattle.model.specs.declared.Store.the-variants.{StoreWord, StoreNote, StorePut, StoreOut, StoreHead, StoreTail}
-use Rattle.model.specs.Run.{Played, played}
-use Rattle.theorems.specs.Demand3.{At, Begins, Finishes, HandsOut, Empties, Line1, Compares, Attempt, finishes, ofPut, arrivesAs, puts, drainsAs, drains, between, Few, FewPuts}
+use Rattle.model.specs.Run.{Played}
+use Rattle.theorems.specs.Demand3.{At, Begins, Finishes, HandsOut, Empties, Line1, Compares, Attempt, finishes, ofPut, arrivesAs, puts, drainsAs, drains, between, Few, FewPutsIn}
 use Rattle.theorems.proofs.Events.{Event, quiet, line-1, finished-put, handed-out, failed-compare, found-empty, began-put, found-full, waiting-put, drained, is-line-1, is-compare, event-of-begin, event-of-going-on, event-of-hand-out, event-of-finish, event-of, event-of-drain}
 use Rattle.theorems.proofs.Places.{EventAt, EventLine1, finishes-put, finished-puts, events-between, EventCompares, EventFew}
-use Rattle.theorems.proofs.Cases.{effectOf, step-cases, drain-cases}
+use Rattle.theorems.proofs.WholeRun.{storing}
+use Rattle.theorems.proofs.Company.{Turn, others, own, playedIn}
+use Rattle.theorems.proofs.Cases.{effectOf, step-by, drain-by}
 use Rattle.theorems.proofs.SoundRun.{event-in, event-at, events, call-like}
 use Rattle.theorems.proofs.Invariant.{drain-of}
 use Rattle.theorems.proofs.ShapeStep.{not-both}
@@ -58,13 +61,14 @@ from-ev (x ∷ T) (suc j) e a = from-ev T j e a
 
 -- the answer at a place is the call's
 abbrev pub True : Played → Type 0
-True s = s .answer ≡ callOf (s .before) (s .call) .answer
+True s = (ρ : Room) × (s .answer ≡ callIn ρ (s .before) (s .call) .answer)
 
-pub at-true : (cs : List Call) (W : World) (j : ℕ) (P Q : Played → Type 0) → ((s : Played) → True s → P s → Q s) → At (played W cs) j P → At (played W cs) j Q
-unfolding played
-at-true [] W j P Q f a = a
-at-true (c ∷ cs) W zero P Q f a = f _ refl a
-at-true (c ∷ cs) W (suc j) P Q f a = at-true cs (callOf W c .world) j P Q f a
+pub at-true : (ts : List Turn) (W : World) (j : ℕ) (P Q : Played → Type 0) → ((s : Played) → True s → P s → Q s) → At (playedIn W ts) j P → At (playedIn W ts) j Q
+unfolding playedIn
+at-true [] W j P Q f a = absurd a
+at-true (others m ∷ ts) W j P Q f a = at-true ts (storing W m) j P Q f a
+at-true (own ρ c ∷ ts) W zero P Q f a = f _ (ρ, refl) a
+at-true (own ρ c ∷ ts) W (suc j) P Q f a = at-true ts (callIn ρ W c .world) j P Q f a
 
 abbrev isPlain : Answer → Bool
 isPlain Accepted = true
@@ -172,12 +176,12 @@ told s e q = subst (SaysAt s) q (says-in (s .before) (s .call) (s .answer))
 abbrev Plainly : Answer → Type 0
 Plainly a = (a ≡ Accepted) ⊎ ((r : Refusal) × (a ≡ Refused r))
 
-drain-answer : (W : World) → Plainly (callOf W drain .answer)
-drain-answer W = drain-cases (λ (D : Outcome). Plainly (D .answer)) W (λ r l. inr (r, refl)) (λ some. inl refl)
+drain-answer : (ρ : Room) (W : World) → Plainly (callIn ρ W drain .answer)
+drain-answer ρ W = drain-by (λ (D : Outcome). Plainly (D .answer)) W (λ r l. inr (r, refl)) ρ (λ some. inl refl)
 
 -- a call whose answer is neither is no drain: its event is by its answer
 ordinary : (s : Played) → True s → (Plainly (s .answer) → ⊥) → event-at s ≡ event-of (s .before .bench .words) (s .before .bench .delayed) (s .before .bench .waiting .count) (s .call) (lineOf s) (s .answer)
-ordinary s t n = go (s .call) refl
+ordinary s (ρ, t) n = go (s .call) refl
   where
     go : (c : Call) → s .call ≡ c → event-in (s .before) c (s .answer) ≡ event-of (s .before .bench .words) (s .before .bench .delayed) (s .before .bench .waiting .count) c (lineAt (s .before .bench .workers) (workerOf c)) (s .answer)
     go (begin i op) e = refl
@@ -185,7 +189,7 @@ ordinary s t n = go (s .call) refl
     go (dropLink i) e = refl
     go (ask i) e = refl
     go (dropAsk i) e = refl
-    go drain e = absurd (n (subst Plainly (sym (t ∙ ap (λ (c : Call). callOf (s .before) c .answer) e)) (drain-answer (s .before))))
+    go drain e = absurd (n (subst Plainly (sym (t ∙ ap (λ (c : Call). callIn ρ (s .before) c .answer) e)) (drain-answer ρ (s .before))))
 
 not-plain : (a : Answer) → isPlain a ≡ false → Plainly a → ⊥
 not-plain a p (inl q) = not-both (isPlain a) p (ap isPlain q)
@@ -291,32 +295,32 @@ ev-line1 i s e = go (first-is (lineOf s) (T .1))
     go (inr q) = inr (T .0, sym (of-step s i (T .0)) ∙ q, not-refused (s .answer) (T .2))
 
 -- a step is refused, or answers what its line answers
-abbrev Stepped : World → ℕ → Answer → Type 0
-Stepped W i a = ((r : Refusal) × (a ≡ Refused r)) ⊎ (a ≡ effectOf W i .answer)
+abbrev Stepped : Room → World → ℕ → Answer → Type 0
+Stepped ρ W i a = ((r : Refusal) × (a ≡ Refused r)) ⊎ (a ≡ effectOf ρ W i .answer)
 
-step-answer : (W : World) (i : ℕ) → Stepped W i (callOf W (step i) .answer)
-step-answer W i = step-cases (λ (D : Outcome). Stepped W i (D .answer)) W (λ r l. inl (r, refl)) i (λ M. inr refl)
+step-answer : (ρ : Room) (W : World) (i : ℕ) → Stepped ρ W i (callIn ρ W (step i) .answer)
+step-answer ρ W i = step-by (λ (D : Outcome). Stepped ρ W i (D .answer)) W (λ r l. inl (r, refl)) ρ i (λ M. inr refl)
 
-goes-take : (κ : Kind) (w ω : ℕ) (q : Queue) (m : List ℕ) (i : ℕ) (l : Line) → l ≡ TakeRead → lineStep κ w ω q m i l .answer ≡ GoesOn
+goes-take : (ρ : Room) (κ : Kind) (w ω : ℕ) (q : Queue) (m : List ℕ) (i : ℕ) (l : Line) → l ≡ TakeRead → lineStep ρ κ w ω q m i l .answer ≡ GoesOn
 unfolding lineStep
-goes-take κ w ω q m i l e = rw e
+goes-take ρ κ w ω q m i l e = rw e
 
-goes-steal : (κ : Kind) (w ω : ℕ) (q : Queue) (m : List ℕ) (i : ℕ) (l : Line) → l ≡ StealRead → lineStep κ w ω q m i l .answer ≡ GoesOn
+goes-steal : (ρ : Room) (κ : Kind) (w ω : ℕ) (q : Queue) (m : List ℕ) (i : ℕ) (l : Line) → l ≡ StealRead → lineStep ρ κ w ω q m i l .answer ≡ GoesOn
 unfolding lineStep
-goes-steal κ w ω q m i l e = rw e
+goes-steal ρ κ w ω q m i l e = rw e
 
-take-goes : (W : World) (i : ℕ) → lineAt (W .bench .workers) i ≡ TakeRead → effectOf W i .answer ≡ GoesOn
-take-goes W zero e = goes-take _ _ _ _ _ 0 _ e
-take-goes W (suc i) e = goes-take _ _ _ _ _ (suc i) _ e
+take-goes : (ρ : Room) (W : World) (i : ℕ) → lineAt (W .bench .workers) i ≡ TakeRead → effectOf ρ W i .answer ≡ GoesOn
+take-goes ρ W zero e = goes-take ρ _ _ _ _ _ 0 _ e
+take-goes ρ W (suc i) e = goes-take ρ _ _ _ _ _ (suc i) _ e
 
-steal-goes : (W : World) (i : ℕ) → lineAt (W .bench .workers) i ≡ StealRead → effectOf W i .answer ≡ GoesOn
-steal-goes W zero e = goes-steal _ _ _ _ _ 0 _ e
-steal-goes W (suc i) e = goes-steal _ _ _ _ _ (suc i) _ e
+steal-goes : (ρ : Room) (W : World) (i : ℕ) → lineAt (W .bench .workers) i ≡ StealRead → effectOf ρ W i .answer ≡ GoesOn
+steal-goes ρ W zero e = goes-steal ρ _ _ _ _ _ 0 _ e
+steal-goes ρ W (suc i) e = goes-steal ρ _ _ _ _ _ (suc i) _ e
 
-accepted-is : (W : World) (i : ℕ) (a b : Answer) → effectOf W i .answer ≡ b
-    → ((r : Refusal) → a ≡ Refused r → ⊥) → Stepped W i a → a ≡ b
-accepted-is W i a b e n (inl (r, q)) = absurd (n r q)
-accepted-is W i a b e n (inr q) = q ∙ e
+accepted-is : (ρ : Room) (W : World) (i : ℕ) (a b : Answer) → effectOf ρ W i .answer ≡ b
+    → ((r : Refusal) → a ≡ Refused r → ⊥) → Stepped ρ W i a → a ≡ b
+accepted-is ρ W i a b e n (inl (r, q)) = absurd (n r q)
+accepted-is ρ W i a b e n (inr q) = q ∙ e
 
 line1-is : (i : ℕ) (s : Played) (l : Line) → is-line-1 l ≡ true → s .call ≡ step i → lineAt (s .before .bench .workers) i ≡ l → s .answer ≡ GoesOn → event-at s ≡ line-1 i
 line1-is i s l f ec el ea =
@@ -326,12 +330,12 @@ line1-is i s l f ec el ea =
     ∙ ap (λ (x : Bool). cond x (line-1 i) (cond (is-compare l) (failed-compare i) quiet)) f
 
 pub line1-ev : (i : ℕ) (s : Played) → True s → Line1 i s → event-at s ≡ line-1 i
-line1-ev i s t (inl (ec, el, n)) =
+line1-ev i s (ρ, t) (inl (ec, el, n)) =
     line1-is i s TakeRead refl ec el
-    (accepted-is (s .before) i (s .answer) GoesOn (take-goes (s .before) i el) n (subst (Stepped (s .before) i) (sym (t ∙ ap (λ (c : Call). callOf (s .before) c .answer) ec)) (step-answer (s .before) i)))
-line1-ev i s t (inr (ec, el, n)) =
+    (accepted-is ρ (s .before) i (s .answer) GoesOn (take-goes ρ (s .before) i el) n (subst (Stepped ρ (s .before) i) (sym (t ∙ ap (λ (c : Call). callIn ρ (s .before) c .answer) ec)) (step-answer ρ (s .before) i)))
+line1-ev i s (ρ, t) (inr (ec, el, n)) =
     line1-is i s StealRead refl ec el
-    (accepted-is (s .before) i (s .answer) GoesOn (steal-goes (s .before) i el) n (subst (Stepped (s .before) i) (sym (t ∙ ap (λ (c : Call). callOf (s .before) c .answer) ec)) (step-answer (s .before) i)))
+    (accepted-is ρ (s .before) i (s .answer) GoesOn (steal-goes ρ (s .before) i el) n (subst (Stepped ρ (s .before) i) (sym (t ∙ ap (λ (c : Call). callIn ρ (s .before) c .answer) ec)) (step-answer ρ (s .before) i)))
 
 -- compares
 compares-is : (i : ℕ) (s : Played) → s .call ≡ step i → is-compare (lineOf s) ≡ true → ((r : Refusal) → s .answer ≡ Refused r → ⊥) → Compares i s
@@ -499,10 +503,11 @@ delayed-drop T zero D = D
 delayed-drop [] (suc n) D = tt
 delayed-drop (s ∷ T) (suc n) D = delayed-drop T n (D .1)
 
-pub delayed-all : (cs : List Call) (W : World) → W .bench .delayed ≡ true → Delayed (played W cs)
-unfolding played
+pub delayed-all : (ts : List Turn) (W : World) → W .bench .delayed ≡ true → Delayed (playedIn W ts)
+unfolding playedIn
 delayed-all [] W e = tt
-delayed-all (c ∷ cs) W e = (e, delayed-all cs (callOf W c .world) (call-like W c .delayed ∙ e))
+delayed-all (others m ∷ ts) W e = delayed-all ts (storing W m) e
+delayed-all (own ρ c ∷ ts) W e = (e, delayed-all ts (callIn ρ W c .world) (call-like ρ W c .delayed ∙ e))
 
 drains-is : (T : List Played) → Delayed T → drain-sum (events T) ≡ drains T
 drains-is [] D = refl
@@ -514,22 +519,22 @@ drained-is T l j D =
     ∙ drains-is (between l j T) (delayed-take (drop (suc l) T) (j - suc l) (delayed-drop T (suc l) D))
 
 -- attempts
-pub ev-attempt : (cs : List Call) (W : World) (i l j : ℕ) → EventLine1 (events (played W cs)) i l j → Attempt (played W cs) i l j
-ev-attempt cs W i l j L =
+pub ev-attempt : (ts : List Turn) (W : World) (i l j : ℕ) → EventLine1 (events (playedIn W ts)) i l j → Attempt (playedIn W ts) i l j
+ev-attempt ts W i l j L =
     record {
       before = L .before;
-      line1 = at-map (played W cs) l (λ s. event-at s ≡ line-1 i) (Line1 i) (ev-line1 i) (from-ev (played W cs) l (line-1 i) (L .here));
-      newest = λ k a b x. L .newest k a b (to-ev (played W cs) k (line-1 i) (at-true cs W k (Line1 i) (λ s. event-at s ≡ line-1 i) (line1-ev i) x));
+      line1 = at-map (playedIn W ts) l (λ s. event-at s ≡ line-1 i) (Line1 i) (ev-line1 i) (from-ev (playedIn W ts) l (line-1 i) (L .here));
+      newest = λ k a b x. L .newest k a b (to-ev (playedIn W ts) k (line-1 i) (at-true ts W k (Line1 i) (λ s. event-at s ≡ line-1 i) (line1-ev i) x));
     }
 
-pub few-ev : (cs : List Call) (W : World) → FewPuts W cs → EventFew (W .bench .kind) (tagBits (W .bench)) (events (played W cs))
-few-ev cs W f i l j c L =
-    subst (Few (W .bench .kind) (tagBits (W .bench))) (sym (between-is (played W cs) l j)) (f i l j (go c) (ev-attempt cs W i l j L))
+pub few-ev : (ts : List Turn) (W : World) → FewPutsIn (W .bench .kind) (tagBits (W .bench)) (playedIn W ts) → EventFew (W .bench .kind) (tagBits (W .bench)) (events (playedIn W ts))
+few-ev ts W f i l j c L =
+    subst (Few (W .bench .kind) (tagBits (W .bench))) (sym (between-is (playedIn W ts) l j)) (f i l j (go c) (ev-attempt ts W i l j L))
   where
-    stolen : (i : ℕ) (t : Task) → 0 < i → EventAt (events (played W cs)) j (handed-out i t) → At (played W cs) j (Compares i)
+    stolen : (i : ℕ) (t : Task) → 0 < i → EventAt (events (playedIn W ts)) j (handed-out i t) → At (playedIn W ts) j (Compares i)
     stolen zero t z a = absurd (omega arith)
-    stolen (suc k) t z a = at-map (played W cs) j (λ s. event-at s ≡ handed-out (suc k) t) (Compares (suc k)) (stolen-compares k t) (from-ev (played W cs) j (handed-out (suc k) t) a)
+    stolen (suc k) t z a = at-map (playedIn W ts) j (λ s. event-at s ≡ handed-out (suc k) t) (Compares (suc k)) (stolen-compares k t) (from-ev (playedIn W ts) j (handed-out (suc k) t) a)
 
-    go : EventCompares (events (played W cs)) j i → At (played W cs) j (Compares i)
-    go (inl a) = at-map (played W cs) j (λ s. event-at s ≡ failed-compare i) (Compares i) (missed-compares i) (from-ev (played W cs) j (failed-compare i) a)
+    go : EventCompares (events (playedIn W ts)) j i → At (playedIn W ts) j (Compares i)
+    go (inl a) = at-map (playedIn W ts) j (λ s. event-at s ≡ failed-compare i) (Compares i) (missed-compares i) (from-ev (playedIn W ts) j (failed-compare i) a)
     go (inr (t, z, a)) = stolen i t z a

@@ -16,10 +16,11 @@ use Rattle.model.specs.declared.Kind.the-variants.{Lifo, Fifo, Deque}
 use Rattle.model.specs.declared.Line.{Line}
 use Rattle.model.specs.declared.Line.the-variants.{Idle, PutRead, PutTail, PutTest, PutWord, PutFinish, Claim, Note, Copy, Publish, TakeRead, TakeTail, TakeTest, TakeWord, TakeFinish, StealRead, StealTail, StealTest, StealNote, StealWord, StealNext, StealCompare}
 use Rattle.model.specs.declared.Queue.{Queue}
+use Rattle.model.specs.declared.Bench.{Bench}
 use Rattle.model.specs.declared.Region.{Region}
 use Rattle.model.specs.declared.Store.{Store}
 use Rattle.model.specs.declared.Store.the-variants.{StoreWord, StoreNote, StorePut, StoreOut, StoreHead, StoreTail}
-use Rattle.model.specs.Memory.{sizeAt}
+use Rattle.model.specs.Memory.{sizeAt, usable}
 use Rattle.model.specs.declared.Worker.{Worker}
 use Rattle.model.specs.declared.Anchor.{Anchor}
 use Rattle.model.specs.declared.Task.{Task}
@@ -27,14 +28,14 @@ use Rattle.model.proofs.Tasks.{none-from}
 use Rattle.model.specs.Tests.{if_then_else_, _and_, _or_}
 use Rattle.model.proofs.Tests.{and-both, or-either}
 use Rattle.model.specs.Lines.{size, holdsLink}
-use Rattle.model.specs.Stores.{Shared, inLine}
-use Rattle.model.specs.World.{World, tagBits, lineAt, isIdle}
-use Rattle.model.specs.Limits.{kindOk, linkOk, linksOk, taskOk, numberOk, anchorOk, readOk, headOk, roomOk, someOk, notedOk, slotOk, isDeque, nextOk, ownerOk, thiefOk, thievesOk, hasAnchor, storesOk, benchOk, validOf, growthOk}
+use Rattle.model.specs.Stores.{Shared, inLine, taken, wordsTaken}
+use Rattle.model.specs.World.{World, tagBits, lineAt, isIdle, ownersView}
+use Rattle.model.specs.Limits.{kindOk, linkOk, linksOk, taskOk, numberOk, anchorOk, readOk, headOk, roomOk, someOk, notedOk, slotOk, isDeque, nextOk, ownerOk, thiefOk, thievesOk, hasAnchor, storesOk, benchOk, validOf, growthOk, logOk}
 use Rattle.theorems.proofs.Folds.{places, laid, words, landed-is}
 use Rattle.model.specs.Figures.{anchor}
 use Rattle.theorems.proofs.Directory.{Arrays, tidy-below}
 use Rattle.theorems.proofs.Asides.{Aside, ok-aside}
-use Rattle.theorems.proofs.Shape.{openFor, KnownFor, tail, Bounded, Head, OwnRead, Room, Some, Span, Early, ThiefRead, Slot, Double, After, Known, pending, Spent, OwnShape, ThiefShape, tails, lows, FitAnchor, FitHead, FitTail, Path, Shape}
+use Rattle.theorems.proofs.Shape.{openFor, KnownFor, tail, Bounded, Head, OwnRead, Some, Span, Early, ThiefRead, Slot, Double, After, Known, pending, Spent, OwnShape, ThiefShape, tails, lows, FitAnchor, FitHead, FitTail, Path, Shape, Spare}
 use Rattle.theorems.proofs.ShapeLay.{shape-settle, tails-is}
 use Rattle.theorems.proofs.ShapeClaim.{path-places}
 
@@ -69,7 +70,7 @@ ok-own Lifo w z low τ r u l (a, b, d) = and-both _ _ (eq-eqb (r .head) 0 a) (an
 ok-own Fifo w z low τ r u l (a, b, d) = and-both _ _ (le-leb (r .head) (r .count) (omega arith)) (and-both _ _ (le-leb (r .count) 65535 (omega arith)) (eq-eqb (r .tag) 0 d))
 ok-own Deque w z low τ r u l (a, b, d) = and-both _ _ (lt-ltb (r .head) 2048 a) (and-both _ _ (le-leb (r .count) z b) (lt-ltb (r .tag) (2 ^ w) d))
 
-ok-room : (κ : Kind) (w z low τ : ℕ) (r : Anchor) → τ + 1 ≤ 65535 → OwnRead κ w z low τ r → Room κ z low (r .count) → roomOk κ z r ≡ true
+ok-room : (κ : Kind) (w z low τ : ℕ) (r : Anchor) → τ + 1 ≤ 65535 → OwnRead κ w z low τ r → Spare κ z low (r .count) → roomOk κ z r ≡ true
 ok-room Lifo w z low τ r u R ρ = lt-ltb (r .count) z ρ
 ok-room Fifo w z low τ r u (a, b, d) ρ = lt-ltb (r .count) 65535 (omega arith)
 ok-room Deque w z low τ r u R ρ = lt-ltb (r .count) z ρ
@@ -294,7 +295,7 @@ pub record Whole (W : World) : Type 0 where
   pub stores : length (W .bench .waiting .stores) ≡ 8
   pub line : W .bench .waiting .count ≤ 8
   pub mode : W .bench .delayed ≡ false → W .bench .waiting .count ≡ 0
-  pub aside : Aside (W .bench .words) (laid (inLine (W .bench .waiting)) (W .bench .queue)) (W .store) (lineAt (W .bench .workers) 0) (W .bench .aside)
+  pub aside : Aside (W .bench .words) (laid (inLine (W .bench .waiting)) (W .bench .queue)) (lineAt (W .bench .workers) 0) (W .bench .aside)
   pub low : ℕ
   pub shape : Shape (W .bench .kind) (tagBits (W .bench)) (W .bench .words) (W .bench .used) low (W .bench .queue) (W .store) (inLine (W .bench .waiting)) (lineAt (W .bench .workers) 0) (thieves (W .bench .workers))
 
@@ -308,24 +309,23 @@ pub tagged : {W : World} → Whole W → W .bench .queue .linked ≡ false → 0
 unfolding if_then_else_
 tagged {W} H e = subst (λ (x : Bool). 0 < (if x then 0 else W .bench .width)) (sym e) (H .width .0)
 
-pub valid : (W : World) → Whole W → validOf W ≡ true
-unfolding validOf
-valid W H =
-    subst (λ (S : Shared). benchOk (W .bench) (W .bench .queue) (S .queue) (W .store) (W .log) ≡ true) (sym (landed-is ω q (W .store) ss))
+-- a whole state is within the limits of its queue
+pub own-valid : (W : World) → Whole W → benchOk (W .bench) (W .bench .queue) (ownersView W .queue) ≡ true
+own-valid W H =
+    subst (λ (S : Shared). benchOk (W .bench) (W .bench .queue) (S .queue) ≡ true) (sym (landed-is ω q (W .store) ss))
     (and-both _ _ (H .kinds)
     (and-both _ _ (and-both _ _ (lt-ltb _ _ (H .width .0)) (le-leb _ _ (H .width .1)))
     (and-both _ _ (and-both _ _ (lt-ltb _ _ (H .words .0)) (le-leb _ _ (H .words .1)))
     (and-both _ _ (and-both _ _ (lt-ltb _ _ (H .crew .0)) (le-leb _ _ (H .crew .1)))
-    (and-both _ _ (and-both _ _ (lt-ltb _ _ (A .some)) (and-both _ _ (le-leb _ _ (pl .0)) (and-both _ _ (le-leb _ _ (A .few)) (and-both _ _ (eq-eqb _ _ (S .own .claims)) (and-both _ _ (A .tidied) (and-both _ _ (le-leb _ _ (A .room)) (eq-eqb _ _ (A .kept))))))))
-    (and-both _ _ (le-leb _ _ (H .logged))
+    (and-both _ _ (and-both _ _ (lt-ltb _ _ (A .some)) (and-both _ _ (le-leb _ _ (pl .0)) (and-both _ _ (le-leb _ _ (A .few)) (and-both _ _ (eq-eqb _ _ (S .own .claims)) (and-both _ _ (A .tidied) (eq-eqb _ _ (A .kept)))))))
     (and-both _ _ (ok-anchor κ w (size ω q) (H .low) (q .anchor) (omega (arith, T, ts, te)) (S .anchor))
     (and-both _ _ (ok-anchor κ w (size ω v) _ (v .anchor) (omega (arith, T)) (B .anchor))
     (and-both _ _ (le-leb _ _ (H .used))
     (and-both _ _ (and-both _ _ (ok-count (W .bench .delayed) (W .bench .waiting .count) (H .line) (H .mode)) (ok-stores κ w ω (H .low) (q .published) _ v ss mono (A .some) (A .below) refl (sym te) (omega (arith, T)) (S .path)))
-    (and-both _ _ (ok-aside ω v (W .store) o (W .bench .aside) (H .aside))
+    (and-both _ _ (ok-aside ω v o (W .bench .aside) (H .aside))
     (and-both _ _ (ok-links κ q (W .bench .workers) (H .links) 8)
     (and-both _ _ (ok-owner κ w ω v _ (tail κ (v .anchor)) o T (low-ok κ w (size ω v) _ (v .anchor) (B .anchor)) (B .own .shape))
-    (ok-thieves κ w ω q (tail κ (q .anchor)) (W .bench .crew) (W .bench .workers) (omega (arith, T, ts, te)) (S .th) (H .rest) 7))))))))))))))
+    (ok-thieves κ w ω q (tail κ (q .anchor)) (W .bench .crew) (W .bench .workers) (omega (arith, T, ts, te)) (S .th) (H .rest) 7)))))))))))))
   where
     κ : Kind
     κ = W .bench .kind
@@ -371,3 +371,15 @@ valid W H =
 
     mono : (j k : ℕ) → j ≤ k → k < q .claimed → sizeAt ω (q .arrays) j ≤ sizeAt ω (q .arrays) k
     mono j k h l = tidy-below ω (q .arrays) (q .claimed) j k (A .tidied) h l .1
+
+pub log-valid : (W : World) → Whole W → logOk (W .bench) (W .log) ≡ true
+log-valid W H = le-leb _ _ (H .logged)
+
+-- a lone queue leaves no gap, and its words fit the store, those set aside counted
+pub record Snug (b : Bench) (m : List ℕ) : Type 0 where
+  pub close : taken (b .queue) ≤ wordsTaken (b .queue)
+  pub fitting : wordsTaken (b .queue) + b .aside ≤ usable m
+
+pub valid : (W : World) → Whole W → Snug (W .bench) (W .store) → validOf W ≡ true
+unfolding validOf
+valid W H s = and-both _ _ (own-valid W H) (and-both _ _ (log-valid W H) (and-both _ _ (le-leb _ _ (s .close)) (le-leb _ _ (s .fitting))))

@@ -2,22 +2,25 @@
 use mathlib.Core.Path.{_≡_, refl, sym, ap, subst, _∙_}
 use mathlib.Core.Bool.{Bool, true, false, not}
 use mathlib.Core.List.{List, [], _∷_}
-use Prim.Native.Nat.{ℕ, zero, suc, _+_, _≤_}
+use Prim.Native.Nat.{ℕ, zero, suc, _+_, _≤_, _<_}
 use native.Mathlib.Omega.{arith}
 use lib.Dec.{eqb, leb}
 use lib.ListN.{length, replicate, length-set}
 use borrow.Author.Tests.{eqb-true, eqb-false, leb-true, leb-false, lt-ltb}
 use Rattle.model.specs.declared.Tally.the-variants.{Counted}
+use Rattle.model.specs.declared.Room.{Room}
 use Rattle.model.specs.Tests.{if_then_else_, _and_}
 use Rattle.model.specs.Lines.{failsCompare}
 use Rattle.model.specs.World.{World, Outcome, lineAt}
-use Rattle.model.specs.Calls.{freshOf, oneMore, restartsOf, raised, whoOf, Call, begin, step, dropLink, drain, ask, dropAsk, callOf}
-use Rattle.model.specs.Run.{played, after}
+use Rattle.model.specs.Calls.{oneMore, restartsOf, raised, whoIn, whoOf, Call, begin, step, dropLink, drain, ask, dropAsk, callIn}
+use Rattle.model.specs.Run.{Played}
 use Rattle.model.proofs.Tests.{if-true}
 use Rattle.theorems.specs.Restarts.{beats, beaten, upTo, WhoCounts}
-use Rattle.theorems.proofs.Cases.{begin-cases, step-cases, drop-cases, drain-cases, ask-cases, drop-ask-cases}
+use Rattle.theorems.proofs.Cases.{begin-by, step-by, drop-by, drain-by, ask-by, drop-ask-by}
+use Rattle.theorems.proofs.WholeRun.{storing}
+use Rattle.theorems.proofs.Company.{Turn, others, own, playedIn, afterIn}
 use Rattle.theorems.proofs.Restarts.{counted}
-use Rattle.theorems.proofs.Fresh.{fresh-is}
+use Rattle.theorems.proofs.Fresh.{Started, fresh-started, from-company}
 use Rattle.theorems.proofs.NeverForeign.{effect-answers, never-foreign}
 
 -- THE CEILING. Counting up to it
@@ -83,24 +86,24 @@ accepted : (y b : Bool) → y ≡ false → (not y and b) ≡ b
 unfolding _and_
 accepted y b e = subst (λ (z : Bool). (not z and b) ≡ b) (sym e) refl
 
-call-counts : (W : World) (c : Call) (k : ℕ) → W .bench .crew ≤ length (W .bench .restarts) → Counts k W c (callOf W c)
+call-counts : (ρ : Room) (W : World) (c : Call) (k : ℕ) → W .bench .crew ≤ length (W .bench .restarts) → Counts k W c (callIn ρ W c)
 unfolding if_then_else_ _and_
-call-counts W (begin i op) k h =
-    begin-cases (Counts k W (begin i op)) W (λ r l. record { crew = refl; many = refl; count = refl }) i op
+call-counts ρ W (begin i op) k h =
+    begin-by (Counts k W (begin i op)) W (λ r l. record { crew = refl; many = refl; count = refl }) ρ i op
     (λ M. record { crew = refl; many = refl; count = refl })
-call-counts W (dropLink i) k h =
-    drop-cases (Counts k W (dropLink i)) W (λ r l. record { crew = refl; many = refl; count = refl }) i
+call-counts ρ W (dropLink i) k h =
+    drop-by (Counts k W (dropLink i)) W (λ r l. record { crew = refl; many = refl; count = refl }) ρ i
     (record { crew = refl; many = refl; count = refl })
-call-counts W drain k h =
-    drain-cases (Counts k W drain) W (λ r l. record { crew = refl; many = refl; count = refl }) (λ some. record { crew = refl; many = refl; count = refl })
-call-counts W (ask i) k h =
-    ask-cases (Counts k W (ask i)) W (λ r l. record { crew = refl; many = refl; count = refl }) i
+call-counts ρ W drain k h =
+    drain-by (Counts k W drain) W (λ r l. record { crew = refl; many = refl; count = refl }) ρ (λ some. record { crew = refl; many = refl; count = refl })
+call-counts ρ W (ask i) k h =
+    ask-by (Counts k W (ask i)) W (λ r l. record { crew = refl; many = refl; count = refl }) ρ i
     (λ n A. record { crew = refl; many = refl; count = refl })
-call-counts W (dropAsk i) k h =
-    drop-ask-cases (Counts k W (dropAsk i)) W (λ r l. record { crew = refl; many = refl; count = refl }) i
+call-counts ρ W (dropAsk i) k h =
+    drop-ask-by (Counts k W (dropAsk i)) W (λ r l. record { crew = refl; many = refl; count = refl }) ρ i
     (λ n A. record { crew = refl; many = refl; count = refl })
-call-counts W (step i) k h =
-    step-cases (Counts k W (step i)) W (λ r l. record { crew = refl; many = refl; count = refl }) i
+call-counts ρ W (step i) k h =
+    step-by (Counts k W (step i)) W (λ r l. record { crew = refl; many = refl; count = refl }) ρ i
     (λ M.
     let ns = W .bench .restarts in
     let x = failsCompare (W .bench .kind) (W .bench .queue) i (lineAt (W .bench .workers) i) in
@@ -110,25 +113,26 @@ call-counts W (step i) k h =
       count =
           counted ns i k x (omega (arith, M .member, h))
           ∙ sym (ap (λ (y : Bool). if y then oneMore (restartsOf ns k) else restartsOf ns k)
-          (accepted _ (eqb k i and x) (effect-answers W i)));
+          (accepted _ (eqb k i and x) (effect-answers ρ W i)));
     })
 
 -- A LIST
-run-counts : (cs : List Call) (W : World) (k : ℕ) → W .bench .crew ≤ length (W .bench .restarts) → restartsOf (W .bench .restarts) k ≤ 4294967295
-    → (after W cs .bench .crew ≡ W .bench .crew)
-    × (restartsOf (after W cs .bench .restarts) k ≡ upTo (restartsOf (W .bench .restarts) k + beaten k (played W cs)))
-unfolding played after
+run-counts : (ts : List Turn) (W : World) (k : ℕ) → W .bench .crew ≤ length (W .bench .restarts) → restartsOf (W .bench .restarts) k ≤ 4294967295
+    → (afterIn W ts .bench .crew ≡ W .bench .crew)
+    × (restartsOf (afterIn W ts .bench .restarts) k ≡ upTo (restartsOf (W .bench .restarts) k + beaten k (playedIn W ts)))
+unfolding playedIn afterIn
 run-counts [] W k h b =
     let n = restartsOf (W .bench .restarts) k in
     (refl, sym (ap upTo {x = n + 0} {y = n} (omega arith) ∙ up-small n b))
-run-counts (c ∷ cs) W k h b =
-    let F = call-counts W c k h in
+run-counts (others m ∷ ts) W k h b = run-counts ts (storing W m) k h b
+run-counts (own ρ c ∷ ts) W k h b =
+    let F = call-counts ρ W c k h in
     let n = restartsOf (W .bench .restarts) k in
-    let x = beats k W c (callOf W c .answer) in
-    let U = callOf W c .world in
-    let I = run-counts cs U k (omega (arith, F .crew, F .many, h)) (subst (λ (y : ℕ). y ≤ 4294967295) (sym (F .count)) (step-le x n b)) in (
+    let x = beats k W c (callIn ρ W c .answer) in
+    let U = callIn ρ W c .world in
+    let I = run-counts ts U k (omega (arith, F .crew, F .many, h)) (subst (λ (y : ℕ). y ≤ 4294967295) (sym (F .count)) (step-le x n b)) in (
       I .0 ∙ F .crew,
-      I .1 ∙ ap (λ (y : ℕ). upTo (y + beaten k (played U cs))) (F .count) ∙ up-step x n (beaten k (played U cs)) b,
+      I .1 ∙ ap (λ (y : ℕ). upTo (y + beaten k (playedIn U ts))) (F .count) ∙ up-step x n (beaten k (playedIn U ts)) b,
     )
 
 none-yet : (n k : ℕ) → restartsOf (replicate n 0) k ≡ 0
@@ -136,17 +140,18 @@ none-yet zero k = refl
 none-yet (suc n) zero = refl
 none-yet (suc n) (suc k) = none-yet n k
 
+-- in company, and alone
+pub who-in : (ts : List Turn) (U : World) → Started U → (k : ℕ) → k < U .bench .crew → whoIn (afterIn U ts) k ≡ Counted (upTo (beaten k (playedIn U ts)))
+who-in ts U F k h =
+    let start : restartsOf (U .bench .restarts) k ≡ 0 = ap (λ (ns : List ℕ). restartsOf ns k) (F .counts) ∙ none-yet 8 k in
+    let many : length (U .bench .restarts) ≡ 8 = ap length (F .counts) in
+    let R = run-counts ts U k (omega (arith, many, F .whole .crew .1)) (omega (arith, start)) in
+    if-true _ (lt-ltb k (afterIn U ts .bench .crew) (omega (arith, R .0, h)))
+    ∙ ap (λ (n : ℕ). Counted n)
+    (R .1 ∙ ap upTo {x = restartsOf (U .bench .restarts) k + beaten k (playedIn U ts)} {y = beaten k (playedIn U ts)} (omega (arith, start)))
+
 pub who-counts : WhoCounts
 unfolding whoOf
 who-counts s m l e cs k h =
-    let W = freshOf s m l .world in
-    let f = fresh-is s m l e in
-    let zeros : W .bench .restarts ≡ replicate 8 0 = ap (λ (U : World). U .bench .restarts) (f .0) in
-    let crew : W .bench .crew ≡ s .crew = ap (λ (U : World). U .bench .crew) (f .0) in
-    let start : restartsOf (W .bench .restarts) k ≡ 0 = ap (λ (ns : List ℕ). restartsOf ns k) zeros ∙ none-yet 8 k in
-    let many : length (W .bench .restarts) ≡ 8 = ap length zeros in
-    let R = run-counts cs W k (omega (arith, crew, many, f .1 .crew .1)) (omega (arith, start)) in
     if-true _ (never-foreign s m l e cs .valid)
-    ∙ if-true _ (lt-ltb k (after W cs .bench .crew) (omega (arith, R .0, h)))
-    ∙ ap (λ (n : ℕ). Counted n)
-    (R .1 ∙ ap upTo {x = restartsOf (W .bench .restarts) k + beaten k (played W cs)} {y = beaten k (played W cs)} (omega (arith, start)))
+    ∙ from-company (λ (T : List Played) (X : World). whoIn X k ≡ Counted (upTo (beaten k T))) s m l e (λ ts C. who-in ts _ (fresh-started s m l e) k h) cs

@@ -9,6 +9,7 @@ use lib.Dec.{eqb, ltb}
 use lib.ListN.{length, set, take, length-set}
 use lib.Seq.{getD-set-other, getD-set-same}
 use borrow.Author.Tests.{ltb-true, ltb-false, eqb-true}
+use Rattle.model.specs.declared.Room.{Room}
 use Rattle.model.specs.declared.Kind.{Kind}
 use Rattle.model.specs.declared.Kind.the-variants.{Lifo, Fifo, Deque}
 use Rattle.model.specs.declared.Growth.the-variants.{ForPut, ForCommit}
@@ -29,20 +30,19 @@ use Rattle.model.specs.Stores.{inLine, joined, oldest, oneLess}
 use Rattle.model.specs.Lines.{Effect, holdsLink}
 use Rattle.model.specs.World.{World, Outcome, tagBits, resting, lineAt, isIdle, isSteal1, isPast1, isExpanding, isCommit1}
 use Rattle.model.specs.Limits.{linkOk}
-use Rattle.model.specs.Calls.{linkSet, relinked, joining, landing, logFull, usedBy, firstLine, begun, Call, callOf, setAside}
-use Rattle.model.specs.Run.{after}
-use Rattle.model.proofs.Tests.{or-false}
+use Rattle.model.specs.Calls.{linkSet, relinked, joining, landing, logFull, usedBy, firstLine, begun, Call, setAside, callIn, lent}
+use Rattle.model.proofs.Tests.{or-false, and-left}
 use Rattle.model.proofs.Tasks.{gathered-again, first-number}
 use Rattle.theorems.proofs.Remainders.{le-or-lt}
-use Rattle.theorems.proofs.Folds.{laid, words, places, arraysAfter, queueAfter, storeAfter}
+use Rattle.theorems.proofs.Folds.{laid, words, places, arraysAfter, queueAfter}
 use Rattle.theorems.proofs.Words.{set-all-length}
-use Rattle.theorems.proofs.Directory.{arrays-anchor}
-use Rattle.theorems.proofs.Cases.{dropped, effectOf, queueThen, storeThen, stepTo, drainTo, MayBegin, MayStep, call-cases, MayAside}
+use Rattle.theorems.proofs.Directory.{arrays-anchor, Admits, Others}
+use Rattle.theorems.proofs.Cases.{dropped, effectOf, queueThen, storeThen, stepTo, drainTo, MayBegin, MayStep, MayAside, call-by}
 use Rattle.theorems.proofs.Asides.{Aside, none-aside, aside-move, at-rest, line-next}
+use Rattle.theorems.proofs.ShapeOthers.{shape-others}
 use Rattle.theorems.proofs.Shape.{tail, Spent, Known, lowOf, lows, ThiefShape, thief-keep, Shape}
 use Rattle.theorems.proofs.ShapeLay.{shape-lay, shape-settle}
 use Rattle.theorems.proofs.ShapeOwner.{spent-put}
-use Rattle.theorems.proofs.ShapeClaim.{words-length}
 use Rattle.theorems.proofs.ShapeThief.{thief-shaped, thief-stay}
 use Rattle.theorems.proofs.ShapeStep.{no-more, not-both, claim-only, own-shaped}
 use Rattle.theorems.proofs.Held.{line-join, joined-length, line-drain, drained-length}
@@ -223,10 +223,10 @@ module _ {W : World} (H : Whole W) where
 
   -- the words set aside, while worker i's line becomes x
   abbrev AsideAt : Line → Type 0
-  AsideAt o = Aside (W .bench .words) (laid (inLine (W .bench .waiting)) (W .bench .queue)) (W .store) o (W .bench .aside)
+  AsideAt o = Aside (W .bench .words) (laid (inLine (W .bench .waiting)) (W .bench .queue)) o (W .bench .aside)
 
   first-aside : (o : Line) → (isCommit1 o ≡ true → 0 < W .bench .aside) → isExpanding o ≡ false → AsideAt o
-  first-aside o some calm = aside-move (W .bench .words) (laid (inLine (W .bench .waiting)) (W .bench .queue)) (laid (inLine (W .bench .waiting)) (W .bench .queue)) (W .store) (W .store) (lineAt (W .bench .workers) 0) o (W .bench .aside) refl refl refl (λ e. refl) some (λ e. calm) (H .aside)
+  first-aside o some calm = aside-move (W .bench .words) (laid (inLine (W .bench .waiting)) (W .bench .queue)) (laid (inLine (W .bench .waiting)) (W .bench .queue)) (lineAt (W .bench .workers) 0) o (W .bench .aside) refl refl (λ e. refl) some (λ e. calm) (H .aside)
 
   thief-aside : (k : ℕ) (x : Line) → AsideAt (lineAt (set (W .bench .workers) (suc k) (record { line = x })) 0)
   thief-aside k x = subst AsideAt (sym (line-other (W .bench .workers) (suc k) 0 x (omega arith))) (H .aside)
@@ -261,41 +261,42 @@ module _ {W : World} (H : Whole W) where
         shape = first-shape i op B;
       }
 
-  -- STEP
+-- STEP: X1 finds the room ρ
+module _ (ρ : Room) {W : World} (H : Whole W) where
   abbrev ShapeAfter : ℕ → ℕ → Line → (ℕ → Line) → Type 0
   ShapeAfter i low o φ =
-      Shape (W .bench .kind) (tagBits (W .bench)) (W .bench .words) (W .bench .used) low (queueThen W i (effectOf W i)) (storeThen W i (effectOf W i)) (inLine (stepTo W i .world .bench .waiting)) o φ
+      Shape (W .bench .kind) (tagBits (W .bench)) (W .bench .words) (W .bench .used) low (queueThen ρ W i (effectOf ρ W i)) (storeThen ρ W i (effectOf ρ W i)) (inLine (stepTo ρ W i .world .bench .waiting)) o φ
 
-  own-after : (low : ℕ) × ShapeAfter 0 low (effectOf W 0 .line) (thieves (W .bench .workers))
-  own-after =
-      let E = effectOf W 0 in
-      let S = own-shaped (W .bench .kind) (tagBits (W .bench)) (W .bench .words) (W .bench .used) (H .low) (W .bench .queue) (W .store) (inLine (W .bench .waiting)) (lineAt (W .bench .workers) 0) (thieves (W .bench .workers)) (H .words .1) (H .shape) in
-      own-landed (W .bench .kind) (tagBits (W .bench)) (W .bench .words) (W .bench .used) (S .0) _ _ (E .line) (thieves (W .bench .workers)) (W .bench .delayed) (W .bench .waiting) (E .stores) (H .mode) in-line (S .1)
+  own-after : Admits ρ (W .bench) (W .store) → (low : ℕ) × ShapeAfter 0 low (effectOf ρ W 0 .line) (thieves (W .bench .workers))
+  own-after R =
+      let E = effectOf ρ W 0 in
+      let S = own-shaped ρ (W .bench .kind) (tagBits (W .bench)) (W .bench .words) (W .bench .used) (H .low) (W .bench .queue) (W .store) (inLine (W .bench .waiting)) (lineAt (W .bench .workers) 0) (thieves (W .bench .workers)) (H .words .1) (R .free) (H .shape) in
+      own-landed (W .bench .kind) (tagBits (W .bench)) (W .bench .words) (W .bench .used) (S .0) _ _ (E .line) (thieves (W .bench .workers)) (W .bench .delayed) (W .bench .waiting) (E .stores) (H .mode) (in-line H) (S .1)
 
   -- a thief claims nothing, and its stores are put down
-  pub thief-calm : (k : ℕ) → effectOf W (suc k) .claims ≡ false
-  thief-calm k = go (effectOf W (suc k) .claims) refl
+  pub thief-calm : (k : ℕ) → effectOf ρ W (suc k) .claims ≡ false
+  thief-calm k = go (effectOf ρ W (suc k) .claims) refl
     where
-      go : (x : Bool) → effectOf W (suc k) .claims ≡ x → effectOf W (suc k) .claims ≡ false
+      go : (x : Bool) → effectOf ρ W (suc k) .claims ≡ x → effectOf ρ W (suc k) .claims ≡ false
       go false e = e
       go true e =
-          let C = claim-only (W .bench .kind) (tagBits (W .bench)) (W .bench .words) (W .bench .queue) (W .store) (suc k) (lineAt (W .bench .workers) (suc k)) e in
+          let C = claim-only ρ (W .bench .kind) (tagBits (W .bench)) (W .bench .words) (W .bench .queue) (W .store) (suc k) (lineAt (W .bench .workers) (suc k)) e in
           absurd (subst (λ (θ : Line). ThiefShape (W .bench .kind) (tagBits (W .bench)) (W .bench .words) (W .bench .queue) (tail (W .bench .kind) (W .bench .queue .anchor)) θ) (C .1) (H .shape .th k))
 
-  pub thief-lands : (k : ℕ) → (inLine (stepTo W (suc k) .world .bench .waiting) ≡ inLine (W .bench .waiting)) × (landing (W .bench .delayed) (suc k) (effectOf W (suc k) .stores) ≡ effectOf W (suc k) .stores)
-  thief-lands k = let N = none-join (W .bench .waiting) k (W .bench .delayed) (effectOf W (suc k) .stores) in-line in (N .0, N .1)
+  pub thief-lands : (k : ℕ) → (inLine (stepTo ρ W (suc k) .world .bench .waiting) ≡ inLine (W .bench .waiting)) × (landing (W .bench .delayed) (suc k) (effectOf ρ W (suc k) .stores) ≡ effectOf ρ W (suc k) .stores)
+  thief-lands k = let N = none-join (W .bench .waiting) k (W .bench .delayed) (effectOf ρ W (suc k) .stores) (in-line H) in (N .0, N .1)
 
-  line-shape : (i : ℕ) → i < W .bench .crew → (low : ℕ) × ShapeAfter i low (lineAt (stepTo W i .world .bench .workers) 0) (thieves (stepTo W i .world .bench .workers))
-  line-shape zero l = (own-after .0, own-back (ShapeAfter 0 (own-after .0)) (W .bench .workers) (effectOf W 0 .line) (in-crew 0 l) (own-after .1))
-  line-shape (suc k) l =
-      (H .low, thief-back (ShapeAfter (suc k) (H .low)) (W .bench .workers) k (E .line) (in-crew (suc k) l) (λ φ′ is rest. kept (T φ′ is rest)))
+  line-shape : Admits ρ (W .bench) (W .store) → (i : ℕ) → i < W .bench .crew → (low : ℕ) × ShapeAfter i low (lineAt (stepTo ρ W i .world .bench .workers) 0) (thieves (stepTo ρ W i .world .bench .workers))
+  line-shape R zero l = (own-after R .0, own-back (ShapeAfter 0 (own-after R .0)) (W .bench .workers) (effectOf ρ W 0 .line) (in-crew H 0 l) (own-after R .1))
+  line-shape R (suc k) l =
+      (H .low, thief-back (ShapeAfter (suc k) (H .low)) (W .bench .workers) k (E .line) (in-crew H (suc k) l) (λ φ′ is rest. kept (T φ′ is rest)))
     where
       E : Effect
-      E = effectOf W (suc k)
+      E = effectOf ρ W (suc k)
 
       T : (φ′ : ℕ → Line) → φ′ k ≡ E .line → ((i : ℕ) → i ≢ k → φ′ i ≡ thieves (W .bench .workers) i)
           → Shape (W .bench .kind) (tagBits (W .bench)) (W .bench .words) (W .bench .used) (H .low) (laid (E .stores) (W .bench .queue)) (words (W .bench .words) (W .bench .queue .arrays) (E .stores) (W .store)) (inLine (W .bench .waiting)) (lineAt (W .bench .workers) 0) φ′
-      T = thief-shaped _ _ _ _ _ _ _ _ _ _ k (lineAt (W .bench .workers) (suc k)) (H .words .1) (H .kinds) (H .shape) (H .shape .th k)
+      T = thief-shaped ρ _ _ _ _ _ _ _ _ _ _ k (lineAt (W .bench .workers) (suc k)) (H .words .1) (H .kinds) (H .shape) (H .shape .th k)
 
       kept : {φ′ : ℕ → Line}
           → Shape (W .bench .kind) (tagBits (W .bench)) (W .bench .words) (W .bench .used) (H .low) (laid (E .stores) (W .bench .queue)) (words (W .bench .words) (W .bench .queue .arrays) (E .stores) (W .store)) (inLine (W .bench .waiting)) (lineAt (W .bench .workers) 0) φ′
@@ -304,54 +305,53 @@ module _ {W : World} (H : Whole W) where
 
   -- the words set aside after it
   abbrev AsideAfter : ℕ → Line → ℕ → Type 0
-  AsideAfter i o n = Aside (W .bench .words) (laid (inLine (stepTo W i .world .bench .waiting)) (stepTo W i .world .bench .queue)) (storeThen W i (effectOf W i)) o n
+  AsideAfter i o n = Aside (W .bench .words) (laid (inLine (stepTo ρ W i .world .bench .waiting)) (stepTo ρ W i .world .bench .queue)) o n
 
-  next-line : (i : ℕ) → (isCommit1 (effectOf W i .line) ≡ false) × (effectOf W i .claims ≡ false → isExpanding (lineAt (W .bench .workers) i) ≡ false → isExpanding (effectOf W i .line) ≡ false)
-  next-line zero = line-next (W .bench .kind) (tagBits (W .bench)) (W .bench .words) _ _ 0 (lineAt (W .bench .workers) 0)
-  next-line (suc k) = line-next (W .bench .kind) (tagBits (W .bench)) (W .bench .words) (W .bench .queue) (W .store) (suc k) (lineAt (W .bench .workers) (suc k))
+  next-line : (i : ℕ) → (isCommit1 (effectOf ρ W i .line) ≡ false) × (effectOf ρ W i .claims ≡ false → isExpanding (lineAt (W .bench .workers) i) ≡ false → isExpanding (effectOf ρ W i .line) ≡ false)
+  next-line zero = line-next ρ (W .bench .kind) (tagBits (W .bench)) (W .bench .words) _ _ 0 (lineAt (W .bench .workers) 0)
+  next-line (suc k) = line-next ρ (W .bench .kind) (tagBits (W .bench)) (W .bench .words) (W .bench .queue) (W .store) (suc k) (lineAt (W .bench .workers) (suc k))
 
   -- the owner's line then
-  owner-next : (i : ℕ) → i < W .bench .crew → effectOf W i .claims ≡ false → let o = lineAt (stepTo W i .world .bench .workers) 0 in
+  owner-next : (i : ℕ) → i < W .bench .crew → effectOf ρ W i .claims ≡ false → let o = lineAt (stepTo ρ W i .world .bench .workers) 0 in
       (isCommit1 o ≡ true → 0 < W .bench .aside) × (isExpanding (lineAt (W .bench .workers) 0) ≡ false → isExpanding o ≡ false)
   owner-next zero l f =
-      subst (λ (o : Line). (isCommit1 o ≡ true → 0 < W .bench .aside) × (isExpanding (lineAt (W .bench .workers) 0) ≡ false → isExpanding o ≡ false)) (sym (line-same (W .bench .workers) 0 _ (in-crew 0 l)))
+      subst (λ (o : Line). (isCommit1 o ≡ true → 0 < W .bench .aside) × (isExpanding (lineAt (W .bench .workers) 0) ≡ false → isExpanding o ≡ false)) (sym (line-same (W .bench .workers) 0 _ (in-crew H 0 l)))
       ((λ c. absurd (true≢false (sym c ∙ next-line 0 .0))), next-line 0 .1 f)
   owner-next (suc k) l f =
       subst (λ (o : Line). (isCommit1 o ≡ true → 0 < W .bench .aside) × (isExpanding (lineAt (W .bench .workers) 0) ≡ false → isExpanding o ≡ false)) (sym (line-other (W .bench .workers) (suc k) 0 _ (omega arith)))
       (H .aside .0, λ e. e)
 
-  stepped-aside : (i : ℕ) → i < W .bench .crew → AsideAfter i (lineAt (stepTo W i .world .bench .workers) 0) (stepTo W i .world .bench .aside)
+  stepped-aside : Admits ρ (W .bench) (W .store) → (i : ℕ) → i < W .bench .crew → AsideAfter i (lineAt (stepTo ρ W i .world .bench .workers) 0) (stepTo ρ W i .world .bench .aside)
   unfolding if_then_else_
-  stepped-aside i l = go i l (effectOf W i .claims) refl
+  stepped-aside R i l = go i l (effectOf ρ W i .claims) refl
     where
-      go : (i : ℕ) → i < W .bench .crew → (x : Bool) → effectOf W i .claims ≡ x → AsideAfter i (lineAt (stepTo W i .world .bench .workers) 0) (stepTo W i .world .bench .aside)
+      go : (i : ℕ) → i < W .bench .crew → (x : Bool) → effectOf ρ W i .claims ≡ x → AsideAfter i (lineAt (stepTo ρ W i .world .bench .workers) 0) (stepTo ρ W i .world .bench .aside)
       go i l false f =
-          subst (λ (x : Bool). AsideAfter i (lineAt (stepTo W i .world .bench .workers) 0) (if x then 0 else W .bench .aside)) (sym f)
-          (aside-move (W .bench .words) (laid (inLine (W .bench .waiting)) (W .bench .queue)) (laid (inLine (stepTo W i .world .bench .waiting)) (stepTo W i .world .bench .queue)) (W .store) (storeThen W i (effectOf W i)) (lineAt (W .bench .workers) 0) (lineAt (stepTo W i .world .bench .workers) 0) (W .bench .aside) (ap (λ (x : Bool). arraysAfter x (W .bench .queue)) f) same
-          (words-length (W .bench .words) (arraysAfter (effectOf W i .claims) (W .bench .queue)) (landing (W .bench .delayed) i (effectOf W i .stores)) (storeAfter (effectOf W i .claims) (W .bench .queue) (W .store)) ∙ ap (λ (x : Bool). length (storeAfter x (W .bench .queue) (W .store))) f)
-          (λ e. at-rest _ _ _ (line-shape i l .1 .own .claims) (owner-next i l f .1 e) ∙ same ∙ sym (at-rest _ _ _ (H .shape .own .claims) e))
+          subst (λ (x : Bool). AsideAfter i (lineAt (stepTo ρ W i .world .bench .workers) 0) (if x then 0 else W .bench .aside)) (sym f)
+          (aside-move (W .bench .words) (laid (inLine (W .bench .waiting)) (W .bench .queue)) (laid (inLine (stepTo ρ W i .world .bench .waiting)) (stepTo ρ W i .world .bench .queue)) (lineAt (W .bench .workers) 0) (lineAt (stepTo ρ W i .world .bench .workers) 0) (W .bench .aside) (ap (λ (x : Bool). arraysAfter ρ x (W .bench .queue)) f) same
+          (λ e. at-rest _ _ _ (line-shape R i l .1 .own .claims) (owner-next i l f .1 e) ∙ same ∙ sym (at-rest _ _ _ (H .shape .own .claims) e))
           (owner-next i l f .0) (owner-next i l f .1) (H .aside))
         where
-          same : queueAfter (effectOf W i .claims) (W .bench .queue) .claimed ≡ W .bench .queue .claimed
-          same = ap (λ (x : Bool). queueAfter x (W .bench .queue) .claimed) f
+          same : queueAfter ρ (effectOf ρ W i .claims) (W .bench .queue) .claimed ≡ W .bench .queue .claimed
+          same = ap (λ (x : Bool). queueAfter ρ x (W .bench .queue) .claimed) f
       go zero l true f =
-          subst (λ (x : Bool). AsideAfter 0 (lineAt (stepTo W 0 .world .bench .workers) 0) (if x then 0 else W .bench .aside)) (sym f)
-          (none-aside (W .bench .words) (laid (inLine (stepTo W 0 .world .bench .waiting)) (stepTo W 0 .world .bench .queue)) (storeThen W 0 (effectOf W 0)) (lineAt (stepTo W 0 .world .bench .workers) 0) (ap isCommit1 (line-same (W .bench .workers) 0 _ (in-crew 0 l)) ∙ next-line 0 .0))
+          subst (λ (x : Bool). AsideAfter 0 (lineAt (stepTo ρ W 0 .world .bench .workers) 0) (if x then 0 else W .bench .aside)) (sym f)
+          (none-aside (W .bench .words) (laid (inLine (stepTo ρ W 0 .world .bench .waiting)) (stepTo ρ W 0 .world .bench .queue)) (lineAt (stepTo ρ W 0 .world .bench .workers) 0) (ap isCommit1 (line-same (W .bench .workers) 0 _ (in-crew H 0 l)) ∙ next-line 0 .0))
       go (suc k) l true f = absurd (true≢false (sym f ∙ thief-calm k))
 
   -- worker i holds a link after its step
   abbrev Linked : ℕ → Type 0
   Linked i =
-      (isPast1 (effectOf W i .line) and ((W .bench .queue .linked and isSteal1 (lineAt (W .bench .workers) i)) or holdsLink (queueThen W i (effectOf W i)) i)) ≡ true
+      (isPast1 (effectOf ρ W i .line) and ((W .bench .queue .linked and isSteal1 (lineAt (W .bench .workers) i)) or holdsLink (queueThen ρ W i (effectOf ρ W i)) i)) ≡ true
 
-  pub linked-step : (i : ℕ) → Linked i
-      → ((lineAt (W .bench .workers) i ≡ StealRead) ⊎ (holdsLink (queueThen W i (effectOf W i)) i ≡ true))
-      × (linkOk (W .bench .kind) (relinked (queueThen W i (effectOf W i)) i (lineAt (W .bench .workers) i) (effectOf W i .line)) (effectOf W i .line) ≡ true)
-  linked-step zero x = absurd (own-unlinked (W .bench .kind) _ _ _ _ _ (effectOf W 0 .line) _ (own-after .1 .own .shape) x)
-  linked-step (suc k) x = go x
+  pub linked-step : Admits ρ (W .bench) (W .store) → (i : ℕ) → Linked i
+      → ((lineAt (W .bench .workers) i ≡ StealRead) ⊎ (holdsLink (queueThen ρ W i (effectOf ρ W i)) i ≡ true))
+      × (linkOk (W .bench .kind) (relinked (queueThen ρ W i (effectOf ρ W i)) i (lineAt (W .bench .workers) i) (effectOf ρ W i .line)) (effectOf ρ W i .line) ≡ true)
+  linked-step R zero x = absurd (own-unlinked (W .bench .kind) _ _ _ _ _ (effectOf ρ W 0 .line) _ (own-after R .1 .own .shape) x)
+  linked-step R (suc k) x = go x
     where
       E : Effect
-      E = effectOf W (suc k)
+      E = effectOf ρ W (suc k)
 
       Now : Queue → Type 0
       Now Q =
@@ -360,33 +360,33 @@ module _ {W : World} (H : Whole W) where
           × (linkOk (W .bench .kind) (relinked Q (suc k) (lineAt (W .bench .workers) (suc k)) (E .line)) (E .line) ≡ true)
 
       here : Now (laid (E .stores) (W .bench .queue))
-      here = linked-now (W .bench .kind) (tagBits (W .bench)) (W .bench .words) (W .bench .queue) (W .store) (suc k) (H .low) _ (lineAt (W .bench .workers) (suc k)) (H .kinds) (inr (H .shape .th k)) (H .links (suc k))
+      here = linked-now ρ (W .bench .kind) (tagBits (W .bench)) (W .bench .words) (W .bench .queue) (W .store) (suc k) (H .low) _ (lineAt (W .bench .workers) (suc k)) (H .kinds) (inr (H .shape .th k)) (H .links (suc k))
 
-      go : Now (queueThen W (suc k) E)
+      go : Now (queueThen ρ W (suc k) E)
       go = rw (thief-calm k, thief-lands k .1) here
 
-  stepped-links : (i : ℕ) → i < W .bench .crew → LinksOk (W .bench .kind) (stepTo W i .world .bench .queue) (stepTo W i .world .bench .workers)
-  stepped-links i l k h = go (held-set (queueThen W i (effectOf W i) .links) i k _ h)
+  stepped-links : Admits ρ (W .bench) (W .store) → (i : ℕ) → i < W .bench .crew → LinksOk (W .bench .kind) (stepTo ρ W i .world .bench .queue) (stepTo ρ W i .world .bench .workers)
+  stepped-links R i l k h = go (held-set (queueThen ρ W i (effectOf ρ W i) .links) i k _ h)
     where
       E : Effect
-      E = effectOf W i
+      E = effectOf ρ W i
 
       q′ : Queue
-      q′ = relinked (queueThen W i (effectOf W i)) i (lineAt (W .bench .workers) i) (effectOf W i .line)
+      q′ = relinked (queueThen ρ W i (effectOf ρ W i)) i (lineAt (W .bench .workers) i) (effectOf ρ W i .line)
 
-      go : ((k ≡ i) × Linked i) ⊎ ((k ≢ i) × (holdsLink (queueThen W i (effectOf W i)) k ≡ true))
-          → linkOk (W .bench .kind) q′ (lineAt (set (W .bench .workers) i (record { line = effectOf W i .line })) k) ≡ true
-      go (inl (e, x)) = link-line (W .bench .kind) q′ i k (effectOf W i .line) l (λ q. linked-step i x .1) (λ ne. absurd (ne e))
+      go : ((k ≡ i) × Linked i) ⊎ ((k ≢ i) × (holdsLink (queueThen ρ W i (effectOf ρ W i)) k ≡ true))
+          → linkOk (W .bench .kind) q′ (lineAt (set (W .bench .workers) i (record { line = effectOf ρ W i .line })) k) ≡ true
+      go (inl (e, x)) = link-line H (W .bench .kind) q′ i k (effectOf ρ W i .line) l (λ q. linked-step R i x .1) (λ ne. absurd (ne e))
       go (inr (ne, x)) =
-          link-line (W .bench .kind) q′ i k (effectOf W i .line) l (λ q. absurd (ne q))
-          (λ n. let (a, b, c) = links-held (landing (W .bench .delayed) i (effectOf W i .stores)) (W .bench .queue .links) (W .bench .queue .anchor) k x in
+          link-line H (W .bench .kind) q′ i k (effectOf ρ W i .line) l (λ q. absurd (ne q))
+          (λ n. let (a, b, c) = links-held (landing (W .bench .delayed) i (effectOf ρ W i .stores)) (W .bench .queue .links) (W .bench .queue .anchor) k x in
           let θ = lineAt (W .bench .workers) k in
           let o = H .links k a in
           link-as (W .bench .kind) (W .bench .queue) q′ θ θ refl b (link-parts (W .bench .kind) (W .bench .queue) θ o .1) refl o)
 
   -- the log's length stays within the slice
-  written-in : (i : ℕ) (x y : Bool) → ends (effectOf W i .answer) ≡ x → logFull (W .bench .words) (W .log) (W .bench .written) ≡ y → x and y ≡ false
-      → stepTo W i .world .bench .written ≤ length (logged (W .bench .words) (W .log) (W .bench .written) (effectOf W i .answer))
+  written-in : (i : ℕ) (x y : Bool) → ends (effectOf ρ W i .answer) ≡ x → logFull (W .bench .words) (W .log) (W .bench .written) ≡ y → x and y ≡ false
+      → stepTo ρ W i .world .bench .written ≤ length (logged (W .bench .words) (W .log) (W .bench .written) (effectOf ρ W i .answer))
   unfolding _and_ if_then_else_
   written-in i true true ex ey nb = absurd (let z : _≡_ {A = ℕ} 0 1 = cc in omega arith)
   written-in i true false ex ey nb =
@@ -394,31 +394,31 @@ module _ {W : World} (H : Whole W) where
       (omega (
         arith,
         ltb-false (length (W .log)) (W .bench .written + entryLength (W .bench .words)) (or-false (ltb (length (W .log)) (W .bench .written + entryLength (W .bench .words))) _ ey .0),
-        set-all-length (W .log) (W .bench .written) (entryWords (W .bench .words) (entryOf (effectOf W i .answer))),
+        set-all-length (W .log) (W .bench .written) (entryWords (W .bench .words) (entryOf (effectOf ρ W i .answer))),
       ))
   written-in i false y ex ey nb = rw ex (H .logged)
 
-  stepped-whole : (i : ℕ) → MayStep W i → Whole (stepTo W i .world)
-  stepped-whole i M =
+  stepped-whole : Admits ρ (W .bench) (W .store) → (i : ℕ) → MayStep ρ W i → Whole (stepTo ρ W i .world)
+  stepped-whole R i M =
       record {
         kinds = H .kinds;
-        links = stepped-links i (M .member);
+        links = stepped-links R i (M .member);
         width = H .width;
         words = H .words;
         crew = H .crew;
         workers = length-set (W .bench .workers) i _ ∙ H .workers;
-        rest = rested i (effectOf W i .line) (M .member);
+        rest = rested H i (effectOf ρ W i .line) (M .member);
         used = H .used;
         logged = written-in i _ _ refl refl (M .room);
-        stores = joined-length (W .bench .waiting) (joining (W .bench .delayed) i (effectOf W i .stores)) (omega (arith, room, H .stores)) ∙ H .stores;
+        stores = joined-length (W .bench .waiting) (joining (W .bench .delayed) i (effectOf ρ W i .stores)) (omega (arith, room, H .stores)) ∙ H .stores;
         line = room;
-        mode = λ e. omega (arith, H .mode e, none-now (W .bench .delayed) i (effectOf W i .stores) e);
-        aside = stepped-aside i (M .member);
-        low = line-shape i (M .member) .0;
-        shape = shape-relink i _ (line-shape i (M .member) .1);
+        mode = λ e. omega (arith, H .mode e, none-now (W .bench .delayed) i (effectOf ρ W i .stores) e);
+        aside = stepped-aside R i (M .member);
+        low = line-shape R i (M .member) .0;
+        shape = shape-relink i _ (line-shape R i (M .member) .1);
       }
     where
-      room : W .bench .waiting .count + length (joining (W .bench .delayed) i (effectOf W i .stores)) ≤ 8
+      room : W .bench .waiting .count + length (joining (W .bench .delayed) i (effectOf ρ W i .stores)) ≤ 8
       room = ltb-false 8 _ (M .line)
 
   -- LINK DROPPED
@@ -448,7 +448,7 @@ module _ {W : World} (H : Whole W) where
       go k (inr (ne, x)) = H .links k x
 
   -- ASK, DROP
-  aside-whole : (n : ℕ) → MayAside W n → Whole (setAside W n .world)
+  aside-whole : (n : ℕ) → MayAside ρ W n → Whole (setAside W n .world)
   aside-whole n A =
       record {
         kinds = H .kinds;
@@ -463,17 +463,16 @@ module _ {W : World} (H : Whole W) where
         stores = H .stores;
         line = H .line;
         mode = H .mode;
-        aside = subst (λ (o : Line). Aside (W .bench .words) (laid (inLine (W .bench .waiting)) (W .bench .queue)) (W .store) o n) (sym (idle-is (lineAt (W .bench .workers) 0) (A .idle))) ((λ c. absurd (true≢false (sym c))), λ l. let S = A .words l in (S .0, S .1, refl));
+        aside = subst (λ (o : Line). Aside (W .bench .words) (laid (inLine (W .bench .waiting)) (W .bench .queue)) o n) (sym (idle-is (lineAt (W .bench .workers) 0) (A .idle))) ((λ c. absurd (true≢false (sym c))), λ l. let S = A .words l in (S .0, and-left _ _ (S .1), refl));
         low = H .low;
         shape = H .shape;
       }
 
   -- DRAIN
-  drained-aside : 0 < W .bench .waiting .count → Aside (W .bench .words) (laid (inLine (oneLess (W .bench .waiting))) (drainTo W .bench .queue)) (drainTo W .store) (lineAt (W .bench .workers) 0) (W .bench .aside)
+  drained-aside : 0 < W .bench .waiting .count → Aside (W .bench .words) (laid (inLine (oneLess (W .bench .waiting))) (drainTo W .bench .queue)) (lineAt (W .bench .workers) 0) (W .bench .aside)
   drained-aside some =
-      aside-move (W .bench .words) (laid (inLine (W .bench .waiting)) (W .bench .queue)) (laid (inLine (oneLess (W .bench .waiting))) (drainTo W .bench .queue)) (W .store) (drainTo W .store) (lineAt (W .bench .workers) 0) (lineAt (W .bench .workers) 0) (W .bench .aside) refl refl
-      (words-length (W .bench .words) (W .bench .queue .arrays) (oldest (W .bench .waiting) ∷ []) (W .store))
-      (λ e. ap (λ (ss : List Store). places ss (W .bench .queue .published)) (sym (line-drain (W .bench .waiting) some in-line))) (H .aside .0) (λ e. e) (H .aside)
+      aside-move (W .bench .words) (laid (inLine (W .bench .waiting)) (W .bench .queue)) (laid (inLine (oneLess (W .bench .waiting))) (drainTo W .bench .queue)) (lineAt (W .bench .workers) 0) (lineAt (W .bench .workers) 0) (W .bench .aside) refl refl
+      (λ e. ap (λ (ss : List Store). places ss (W .bench .queue .published)) (sym (line-drain (W .bench .waiting) some (in-line H)))) (H .aside .0) (λ e. e) (H .aside)
 
   drained-whole : 0 < W .bench .waiting .count → Whole (drainTo W)
   drained-whole some =
@@ -495,7 +494,7 @@ module _ {W : World} (H : Whole W) where
         shape =
             shape-lay (W .bench .kind) (oldest (W .bench .waiting))
             (subst (λ (ss : List Store). Shape (W .bench .kind) (tagBits (W .bench)) (W .bench .words) (W .bench .used) (H .low) (W .bench .queue) (W .store) ss (lineAt (W .bench .workers) 0) (thieves (W .bench .workers)))
-            (line-drain (W .bench .waiting) some in-line) (H .shape));
+            (line-drain (W .bench .waiting) some (in-line H)) (H .shape));
       }
     where
       links : LinksOk (W .bench .kind) (drainTo W .bench .queue) (W .bench .workers)
@@ -505,10 +504,29 @@ module _ {W : World} (H : Whole W) where
           let o = H .links k a in
           link-as (W .bench .kind) (W .bench .queue) (drainTo W .bench .queue) θ θ refl b (link-parts (W .bench .kind) (W .bench .queue) θ o .1) refl o
 
-  pub call-whole : (c : Call) → Whole (callOf W c .world)
-  call-whole c = call-cases (λ (D : Outcome). Whole (D .world)) W (λ r l. H) begun-whole stepped-whole dropped-whole drained-whole aside-whole c
+  pub call-whole : Admits ρ (W .bench) (W .store) → (c : Call) → Whole (callIn ρ W c .world)
+  call-whole R c = call-by (λ (D : Outcome). Whole (D .world)) W (λ r l. H) ρ (begun-whole H) (stepped-whole R) dropped-whole drained-whole aside-whole c
 
-pub whole-run : (cs : List Call) (W : World) → Whole W → Whole (after W cs)
-unfolding after
-whole-run [] W H = H
-whole-run (c ∷ cs) W H = whole-run cs (callOf W c .world) (call-whole H c)
+-- others wrote
+abbrev pub storing : World → List ℕ → World
+storing W m = lent (W .bench) m (W .log)
+
+pub others-whole : {W : World} {m : List ℕ} → Whole W → Others (W .bench .queue) (W .store) m → Whole (storing W m)
+others-whole H O =
+    record {
+      kinds = H .kinds;
+      links = H .links;
+      width = H .width;
+      words = H .words;
+      crew = H .crew;
+      workers = H .workers;
+      rest = H .rest;
+      used = H .used;
+      logged = H .logged;
+      stores = H .stores;
+      line = H .line;
+      mode = H .mode;
+      aside = H .aside;
+      low = H .low;
+      shape = shape-others O (H .shape);
+    }

@@ -74,11 +74,6 @@ pub put-above : (ω : ℕ) (m : List ℕ) (b z i j b′ z′ k l x : ℕ) → 0 
 unfolding cell put-word
 put-above ω m b z i j b′ z′ k l x hz hj h = getD-set-other m _ _ x 0 (omega (arith, addr-in ω b z i j hz hj))
 
--- an address below
-pub put-low : (ω : ℕ) (m : List ℕ) (a b z k l x : ℕ) → a < b → getD (put-word ω m b z k l x) a 0 ≡ getD m a 0
-unfolding put-word
-put-low ω m a b z k l x h = getD-set-other m _ _ x 0 (omega arith)
-
 pub put-length : (ω : ℕ) (m : List ℕ) (b z k l x : ℕ) → length (put-word ω m b z k l x) ≡ length m
 unfolding put-word
 put-length ω m b z k l x = length-set m _ x

@@ -15,16 +15,20 @@ abbrev pub finished : List Played → ℕ
 finished [] = 0
 finished (s ∷ T) = finished T + finishes (s .answer)
 
-pub record AsBefore (W : World) (cs : List Call) : Type 0 where
+-- the calls T of one queue, the last of which left the world W
+pub record Undelayed (T : List Played) (W : World) : Type 0 where
   -- nothing waits: the owner reads memory, as thieves do, and the window is memory's
-  pub none-wait : after W cs .bench .waiting .count ≡ 0
-  pub reads-memory : ownersView (after W cs) ≡ memory (after W cs)
+  pub none-wait : W .bench .waiting .count ≡ 0
+  pub reads-memory : ownersView W ≡ memory W
   -- every drain is refused
-  pub none-drained : drains (played W cs) ≡ 0
+  pub none-drained : drains T ≡ 0
   -- the premise counts the puts that finish
-  pub counted : (l j : ℕ) → puts (between l j (played W cs)) ≡ finished (between l j (played W cs))
+  pub counted : (l j : ℕ) → puts (between l j T) ≡ finished (between l j T)
   -- an EMPTY of any worker concerns every put that finished by place l
-  pub concerned : (i k l : ℕ) (t : Task) → At (played W cs) k (Finishes t) → Concerned (played W cs) i k l
+  pub concerned : (i k l : ℕ) (t : Task) → At T k (Finishes t) → Concerned T i k l
+
+abbrev pub AsBefore : World → List Call → Type 0
+AsBefore W cs = Undelayed (played W cs) (after W cs)
 
 abbrev pub NothingDelayed : Type 0
 NothingDelayed = FromFresh (λ W. W .bench .delayed ≡ false → (cs : List Call) → AsBefore W cs)

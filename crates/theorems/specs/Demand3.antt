@@ -19,17 +19,7 @@ use Rattle.model.specs.declared.Store.the-variants.{StoreWord, StoreNote, Store
 use Rattle.model.specs.declared.Operation.the-variants.{Put}
 use Rattle.model.specs.declared.Refusal.{Refusal}
 use Rattle.model.specs.declared.Answer.{Answer}
-use Rattle.model.specs.declared.Answer.the-variants.{
-  Accepted,
-  Numbered,
-  GoesOn,
-  Finished,
-  HandedOut,
-  Empty,
-  Full,
-  Grown,
-  Refused,
-}
+use Rattle.model.specs.declared.Answer.the-variants.{Accepted, Numbered, GoesOn, Finished, HandedOut, Empty, Full, Grown, Refused}
 use Rattle.model.specs.Tests.{if_then_else_}
 use Rattle.model.specs.Tasks.{task, firstWords}
 use Rattle.model.specs.Stores.{oldest}
@@ -176,23 +166,28 @@ Few Lifo w d = 0 < w → d < 2 ^ w
 Few Fifo w d = Unit {0}
 Few Deque w d = 0 < w → d < 2 ^ w
 
-abbrev pub FewPuts : World → List Call → Type 0
-FewPuts W cs =
-    (i l j : ℕ) → At (played W cs) j (Compares i) → Attempt (played W cs) i l j
-    → Few (W .bench .kind) (tagBits (W .bench)) (puts (between l j (played W cs)))
+abbrev pub FewPutsIn : Kind → ℕ → List Played → Type 0
+FewPutsIn κ w T = (i l j : ℕ) → At T j (Compares i) → Attempt T i l j → Few κ w (puts (between l j T))
 
--- THE CLAIM, of the list cs from the world W
-pub record Demand3 (W : World) (cs : List Call) : Type 0 where
+abbrev pub FewPuts : World → List Call → Type 0
+FewPuts W cs = FewPutsIn (W .bench .kind) (tagBits (W .bench)) (played W cs)
+
+-- THE CLAIM, of the calls T of one queue, the last of which left the world W
+pub record Sound (T : List Played) (W : World) : Type 0 where
   -- after the list, each finished put's task was handed out or stands whole in the queue
-  pub kept : (b j : ℕ) (t : Task) → Done (played W cs) b j t → ((k : ℕ) × Out (played W cs) k t) ⊎ Stands (after W cs) t
+  pub kept : (b j : ℕ) (t : Task) → Done T b j t → ((k : ℕ) × Out T k t) ⊎ Stands W t
   -- each task handed out belongs to a put finished before it
-  pub belongs : (j : ℕ) (t : Task) → Out (played W cs) j t → FinishedBefore (played W cs) j t
+  pub belongs : (j : ℕ) (t : Task) → Out T j t → FinishedBefore T j t
   -- each EMPTY was answered only if every put finished by that attempt's line 1 (a thief's: and drained by it) had been handed
   -- out before that EMPTY
-  pub none-left : (j i : ℕ) → At (played W cs) j (Empties i) → (l : ℕ) × Attempt (played W cs) i l j × AllOut (played W cs) i l j
+  pub none-left : (j i : ℕ) → At T j (Empties i) → (l : ℕ) × Attempt T i l j × AllOut T i l j
   -- what makes 'the put it belongs to' exact: an entry of kind 1 ends a put that was begun, and no two puts have one number
-  pub ended : (j : ℕ) (t : Task) → At (played W cs) j (Finishes t) → (b : ℕ) × Done (played W cs) b j t
-  pub numbers : (a b : ℕ) (t u : Task) → At (played W cs) a (Begins t) → At (played W cs) b (Begins u) → t .number ≡ u .number → a ≡ b
+  pub ended : (j : ℕ) (t : Task) → At T j (Finishes t) → (b : ℕ) × Done T b j t
+  pub numbers : (a b : ℕ) (t u : Task) → At T a (Begins t) → At T b (Begins u) → t .number ≡ u .number → a ≡ b
+
+-- of the list cs from the world W
+abbrev pub Demand3 : World → List Call → Type 0
+Demand3 W cs = Sound (played W cs) (after W cs)
 
 -- from any accepted fresh, whatever the store and the log held before
 abbrev pub FromFresh : (World → Type 0) → Type 0

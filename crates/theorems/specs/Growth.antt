@@ -26,12 +26,13 @@ SameWindow W U = (windowSize U ≡ windowSize W) × ((i : ℕ) → i < windowSiz
 abbrev pub KeepsWindow : Played → Type 0
 KeepsWindow s = SameWindow (s .before) (callOf (s .before) (s .call) .world)
 
--- an accepted step at X1 to X4 leaves it so, whatever the array grows for, and whatever other workers did in between
-pub record GrowthKeeps (T : List Played) : Type 0 where
-  pub x1 : (j i : ℕ) (g : Growth) → At T j (Does i (Claim g)) → At T j KeepsWindow
-  pub x2 : (j i : ℕ) (g : Growth) → At T j (Does i (Note g)) → At T j KeepsWindow
-  pub x3 : (j i : ℕ) (g : Growth) (h n k : ℕ) → At T j (Does i (Copy g h n k)) → At T j KeepsWindow
-  pub x4 : (j i : ℕ) (g : Growth) → At T j (Does i (Publish g)) → At T j KeepsWindow
+-- K, that it leaves the window so, holds of each accepted step at X1 to X4, whatever the array grows for, and whatever other workers
+-- did in between
+pub record GrowthKeeps (K : Played → Type 0) (T : List Played) : Type 0 where
+  pub x1 : (j i : ℕ) (g : Growth) → At T j (Does i (Claim g)) → At T j K
+  pub x2 : (j i : ℕ) (g : Growth) → At T j (Does i (Note g)) → At T j K
+  pub x3 : (j i : ℕ) (g : Growth) (h n k : ℕ) → At T j (Does i (Copy g h n k)) → At T j K
+  pub x4 : (j i : ℕ) (g : Growth) → At T j (Does i (Publish g)) → At T j K
 
 abbrev pub GrowthMovesNothing : Type 0
-GrowthMovesNothing = FromFresh (λ W. (cs : List Call) → GrowthKeeps (played W cs))
+GrowthMovesNothing = FromFresh (λ W. (cs : List Call) → GrowthKeeps KeepsWindow (played W cs))

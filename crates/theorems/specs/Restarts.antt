@@ -8,6 +8,7 @@ use lib.ListN.{length}
 use Rattle.model.specs.declared.Kind.{Kind}
 use Rattle.model.specs.declared.Line.{Line}
 use Rattle.model.specs.declared.Queue.{Queue}
+use Rattle.model.specs.declared.Room.{Room}
 use Rattle.model.specs.declared.Refusal.{Refusal}
 use Rattle.model.specs.declared.Answer.{Answer}
 use Rattle.model.specs.declared.Answer.the-variants.{Refused}
@@ -58,5 +59,5 @@ WhoCounts =
 -- a compare that fails leaves its thief at line 1, and no other line does
 abbrev pub BackToLine1 : Type 0
 BackToLine1 =
-    (κ : Kind) (w v : ℕ) (q : Queue) (m : List ℕ) (i : ℕ) (l : Line)
-    → isSteal1 (lineStep κ w v q m i l .line) ≡ failsCompare κ q i l
+    (ρ : Room) (κ : Kind) (w v : ℕ) (q : Queue) (m : List ℕ) (i : ℕ) (l : Line)
+    → isSteal1 (lineStep ρ κ w v q m i l .line) ≡ failsCompare κ q i l

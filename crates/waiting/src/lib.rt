@@ -1,7 +1,7 @@
 // The owner's waiting line: what its stores leave of the queue and of memory once they land, a store that joins it, and the
 // oldest that leaves it. The owner reads memory with its waiting words put down; a call that needs to read so puts them down, and
 // lifts them again.
-// Uses `model`, `anchors`, `slots` and `state`. It is used by `limits`, `events`, `owner` and `queues`.
+// Uses `model`, `anchors`, `slots` and `state`. It is used by `limits`, `events`, `owner`, `steps` and `queues`.
 ghost use mathlib.Core.Bool.{true};
 ghost use mathlib.Core.List.{List, [], _∷_};
 ghost use mathlib.Core.Path.{_≡_};

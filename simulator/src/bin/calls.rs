@@ -5,7 +5,8 @@
 //! A line that is not of the form is named on standard error and ends it; the
 //! answers to what was played before stay printed. With `--check` what was played
 //! is also checked by demand 3, the restarts of each worker are counted from its
-//! history, and so on; what was found is said on standard error.
+//! history, and so on, in a yard of each queue and of all in company; what was found
+//! is said on standard error.
 //!
 //! Exit status: 0; 1 if the list can't be read or the answers can't be written;
 //! 2 if a check failed, demand 3 while its premise held; 64 for a flag it does not
@@ -17,6 +18,7 @@ use std::process::ExitCode;
 use simulator::calls::Calls;
 use simulator::checks::Checks;
 use simulator::input::{for_each_line, Trouble};
+use simulator::verdict::Verdict;
 use simulator::witness::{Blind, Witness};
 
 fn main() -> ExitCode {
@@ -33,16 +35,16 @@ fn main() -> ExitCode {
     }
     let mut calls = Calls::new(Checks::new());
     let status = play(&mut calls);
-    let checks = calls.witness();
-    eprintln!("{checks}");
-    if checks.failed() {
+    let verdict = Verdict(&calls);
+    eprintln!("{verdict}");
+    if verdict.failed() {
         ExitCode::from(2)
     } else {
         status
     }
 }
 
-fn play<W: Witness>(calls: &mut Calls<W>) -> ExitCode {
+fn play<W: Witness + Default>(calls: &mut Calls<W>) -> ExitCode {
     let mut lines = 0u64;
     let mut output = BufWriter::new(io::stdout().lock());
     let played = for_each_line(&mut io::stdin().lock(), &mut output, |line, output| {

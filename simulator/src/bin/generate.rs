@@ -157,7 +157,7 @@ fn shape(random: &mut Random, style: Style) -> (Shape, u32) {
         13 | 14 => 8,
         _ => random.between(4, 8),
     };
-    (Shape { kind, width, size, crew, payload_words, delayed: false }, words)
+    (Shape { kind, width, size, crew, payload_words, delayed: false, quota: None }, words)
 }
 
 /// The sixth number with a space before it, which may be left out if it is 1.

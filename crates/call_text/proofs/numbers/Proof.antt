@@ -6,7 +6,7 @@ use Rattle.call_text.proofs.numbers.Statement.{statement}
 use Rattle.call_text.proofs.numbers.Tie as tie
 
 abbrev Inv-loop : tie.InvT-loop
-Inv-loop line end at₀ v₀ n₀ at v n = (at ≤ length line) × (n ≤ 6) × (length v ≡ 6)
+Inv-loop line end at₀ v₀ n₀ at v n = (at ≤ length line) × (n ≤ 7) × (length v ≡ 7)
 
 abbrev μ-loop : tie.MeasureT-loop
 μ-loop line end at₀ v₀ n₀ at v n = length line - at

@@ -7,48 +7,64 @@ use Rattle.call_text.proofs.parse.Tie as tie
 first-end-requires : tie.Need-first-end-requires
 first-end-requires c κs = search needs
 
-slice-aggregate-same : tie.Need-slice-aggregate-same
-slice-aggregate-same c = sym (length-take-le _ _ (c .before .first-end .ensures))
+slice-aggregate-number : tie.Need-slice-aggregate-number
+slice-aggregate-number c = sym (length-take-le _ _ (c .before .first-end .ensures))
 
-slice-aggregate-same-2 : tie.Need-slice-aggregate-same-2
-slice-aggregate-same-2 c = search needs
+number-requires : tie.Need-number-requires
+number-requires c κs = search needs
 
-same-requires : tie.Need-same-requires
-same-requires c κs = search needs
+enum-known-queue : tie.Need-enum-known-queue
+enum-known-queue c = search needs
 
-begin-requires : tie.Need-begin-requires
-begin-requires c κs = search needs
+enum-told : tie.Need-enum-told
+enum-told c = search needs
+
+unnumbered-requires : tie.Need-unnumbered-requires
+unnumbered-requires c κs = search needs
 
 returns : tie.Need-returns
 returns c = search needs
 
-slice-aggregate-keyword : tie.Need-slice-aggregate-keyword
-slice-aggregate-keyword c = sym (length-take-le _ _ (c .before .before .before .before .before .first-end .ensures))
-
-keyword-requires : tie.Need-keyword-requires
-keyword-requires c κs = search needs
-
-numbers-requires : tie.Need-numbers-requires
-numbers-requires c κs = search needs
-
-form-requires : tie.Need-form-requires
-form-requires c κs = search needs
-
 returns-2 : tie.Need-returns-2
 returns-2 c = search needs
+
+add-from : tie.Need-add-from
+add-from c = search needs
+
+sub-unnumbered : tie.Need-sub-unnumbered
+sub-unnumbered c = search needs
+
+part-unnumbered-start : tie.Need-part-unnumbered-start
+part-unnumbered-start c = search needs
+
+part-unnumbered-end : tie.Need-part-unnumbered-end
+part-unnumbered-end c = search needs
+
+unnumbered-requires-2 : tie.Need-unnumbered-requires-2
+unnumbered-requires-2 c κs = search needs
+
+of-queue-requires : tie.Need-of-queue-requires
+of-queue-requires c κs = search needs
+
+returns-3 : tie.Need-returns-3
+returns-3 c = search needs
 
 pub parse-spec : {M : Type 1} → statement M
 parse-spec =
     tie.close
     (tie.spec
     first-end-requires
-    slice-aggregate-same
-    slice-aggregate-same-2
-    same-requires
-    begin-requires
+    slice-aggregate-number
+    number-requires
+    enum-known-queue
+    enum-told
+    unnumbered-requires
     returns
-    slice-aggregate-keyword
-    keyword-requires
-    numbers-requires
-    form-requires
-    returns-2)
+    returns-2
+    add-from
+    sub-unnumbered
+    part-unnumbered-start
+    part-unnumbered-end
+    unnumbered-requires-2
+    of-queue-requires
+    returns-3)

@@ -7,15 +7,15 @@ use Rattle.calls.proofs.play_lines.Statement.{statement}
 use Rattle.calls.proofs.play_lines.Tie as tie
 
 abbrev Inv-loop : tie.InvT-loop
-Inv-loop buf store₀ log₀ out₀ current₀ text₀ used₀ store log out current text used =
+Inv-loop buf store₀ logs₀ out₀ current₀ text₀ used₀ store logs out current text used =
     (length store ≡ length store₀)
-    × (length log ≡ length log₀)
+    × (length logs ≡ length logs₀)
     × (length out ≡ length out₀)
     × (text .end ≤ length out)
     × (used ≤ length buf)
 
 abbrev μ-loop : tie.MeasureT-loop
-μ-loop buf store₀ log₀ out₀ current₀ text₀ used₀ store log out current text used = length buf - used
+μ-loop buf store₀ logs₀ out₀ current₀ text₀ used₀ store logs out current text used = length buf - used
 
 loop-holds : tie.Need-loop-holds Inv-loop μ-loop
 loop-holds c = search needs

@@ -1,4 +1,4 @@
-use mathlib.Core.Path.{_≡_}
+use mathlib.Core.Path.{_≡_, _∙_}
 use Prim.Native.Nat.{_≤_}
 use lib.ListN.{length}
 use borrow.Author.Needs.{needs}
@@ -6,15 +6,15 @@ use Rattle.calls.proofs.run.Statement.{statement}
 use Rattle.calls.proofs.run.Tie as tie
 
 abbrev Inv-loop : tie.InvT-loop
-Inv-loop buf₀ store₀ log₀ out₀ next₀ turns₀ buf store log out next turns =
+Inv-loop buf₀ store₀ logs₀ out₀ next₀ turns₀ buf store logs out next turns =
     (length buf ≡ length buf₀)
     × (length store ≡ length store₀)
-    × (length log ≡ length log₀)
+    × (length logs ≡ length logs₀)
     × (length out ≡ length out₀)
-    × (next .have ≤ 64)
+    × (next .have ≤ 75)
 
 abbrev μ-loop : tie.MeasureT-loop
-μ-loop buf₀ store₀ log₀ out₀ next₀ turns₀ buf store log out next turns = turns
+μ-loop buf₀ store₀ logs₀ out₀ next₀ turns₀ buf store logs out next turns = turns
 
 unbegun-requires : tie.Need-unbegun-requires Inv-loop μ-loop
 unbegun-requires c κs = search needs
@@ -32,7 +32,10 @@ same-length : tie.Need-same-length Inv-loop μ-loop
 same-length c = search needs
 
 same-length-2 : tie.Need-same-length-2 Inv-loop μ-loop
-same-length-2 c = search needs
+same-length-2 c =
+    c .before .before .before .before .before .before .before .before .before .before .play-some .kept .1 .1 .1 .0
+    ∙ c .before .before .before .before .before .before .before .before .before .before .before .before .before .before .before .before .loop .inv .1
+    ∙ c .before .before .before .before .before .before .before .before .before .before .before .before .before .before .before .before .before .before .before .unbegun .kept .0
 
 same-length-3 : tie.Need-same-length-3 Inv-loop μ-loop
 same-length-3 c = search needs

@@ -9,7 +9,7 @@ use Rattle.model.specs.Window.{tasks, windowSize}
 use Rattle.model.specs.Calls.{lent, restartsOf}
 use Rattle.model.specs.Counts.{isKind, outFirst, isLost, entriesIn, countBelow, sumBelow, countsOf}
 use borrow.Author.Needs.{needs}
-use Rattle.counts.proofs.Places.{reads-memory}
+use Rattle.model.proofs.Landing.{reads-memory}
 use Rattle.counts.proofs.counts.Statement.{statement}
 use Rattle.counts.proofs.counts.Tie as tie
 

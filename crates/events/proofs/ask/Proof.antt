@@ -1,143 +1,58 @@
-use mathlib.Core.Path.{refl, sym, ap, subst, _∙_}
-use Prim.Native.Nat.{ℕ, _-_, _*_}
-use native.Mathlib.Omega.{arith}
-use borrow.Author.Needs.{needs}
-use borrow.Author.Tests.{eq-eqb, ne-eqb}
-use Rattle.model.specs.declared.Queue.{Queue}
-use Rattle.model.specs.Memory.{lengthAt}
-use Rattle.model.specs.Stores.{nextLength}
-use Rattle.model.specs.Lines.{fits}
-use Rattle.model.specs.Calls.{lent, setAside, askOf}
+use mathlib.Core.Path.{ap}
+use Rattle.model.specs.declared.Room.{Room}
+use Rattle.model.specs.Calls.{lent, askIn, askOf}
+use Rattle.model.proofs.Alone.{within-alone}
+use Rattle.limits.proofs.Alone.{room-alone}
+use mathlib.Core.Path.{refl, sym, _∙_}
 use Rattle.model.proofs.Tests.{if-true, if-false, passed, refused}
-use Rattle.limits.proofs.Waits.{waits-few, waits-noted}
-use Rattle.limits.proofs.Current.{current}
 use Rattle.state.proofs.Replies.{same-returned}
-use Rattle.events.specs.Idling.{OwnerStops}
+use borrow.Author.Needs.{needs}
 use Rattle.events.proofs.ask.Statement.{statement}
 use Rattle.events.proofs.ask.Tie as tie
+use Rattle.events.proofs.ask.Reads as reads
+use Rattle.events.proofs.ask.Lts as lts
+use Rattle.events.proofs.ask_in.Reads as ask-in-reads
+use Rattle.limits.proofs.valid.Reads as valid-reads
+use Rattle.slots.proofs.room_alone.Reads as room-alone-reads
+use Rattle.state.proofs.refused.Reads as refused-reads
 
-owner-stop-requires : tie.Need-owner-stop-requires
-owner-stop-requires c κs = search needs
-
-enum-known-stop : tie.Need-enum-known-stop
-enum-known-stop c = search needs
+valid-requires : tie.Need-valid-requires
+valid-requires c κs = search needs
 
 refused-requires : tie.Need-refused-requires
 refused-requires c κs = search needs
 
 returns : tie.Need-returns
 unfolding askOf
-returns c =
-    let a = c .before .before .before .before .before .before .before .args in
+returns c = same-returned (c .refused .ensures) refl refl ∙ sym (if-false _ (refused (c .before .before .valid .ensures) (c .before .if1 .taken)))
+
+room-alone-requires : tie.Need-room-alone-requires
+room-alone-requires c κs =
+    let a = c .before .before .before .before .before .args in
+    room-alone (lent (a .bench) (a .store .now) (a .log .now)) (passed (c .before .before .valid .ensures) (c .before .if1 .left))
+
+ask-in-requires : tie.Need-ask-in-requires
+ask-in-requires c κs =
+    let a = c .before .before .before .before .before .before .args in
     let W = lent (a .bench) (a .store .now) (a .log .now) in
-    same-returned (c .refused .ensures) refl refl ∙ sym (subst (OwnerStops W (a .worker)) (c .before .before .stop .given .1) (c .before .before .before .before .owner-stop .ensures) _)
-
-enum-told : tie.Need-enum-told
-enum-told c = search needs
-
-refused-requires-2 : tie.Need-refused-requires-2
-refused-requires-2 c κs = search needs
+    (a .store .now, within-alone W (passed (c .before .before .before .valid .ensures) (c .before .before .if1 .left)) .limits)
 
 returns-2 : tie.Need-returns-2
 unfolding askOf
 returns-2 c =
-    let a = c .before .before .before .before .before .before .before .before .args in
+    let a = c .before .before .before .before .before .before .before .args in
     let W = lent (a .bench) (a .store .now) (a .log .now) in
-    let S = subst (OwnerStops W (a .worker)) (c .before .before .before .enum-told .given .1) (c .before .before .before .before .before .owner-stop .ensures) in
-    same-returned (c .refused2 .ensures) refl refl ∙ sym (S .2 _ ∙ if-false _ (ne-eqb (a .bench .aside) 0 (c .before .if1 .taken)))
-
-seen-requires : tie.Need-seen-requires
-seen-requires c κs =
-    let a = c .before .before .before .before .before .before .before .before .before .args in
-    let W = lent (a .bench) (a .store .now) (a .log .now) in
-    let S = subst (OwnerStops W (a .worker)) (c .before .before .before .before .enum-told .given .1) (c .before .before .before .before .before .before .owner-stop .ensures) in
-    (waits-few W (S .0), waits-noted W (S .0))
-
-has-room-requires : tie.Need-has-room-requires
-has-room-requires c κs =
-    let a = c .before .before .before .before .before .before .before .before .before .before .args in
-    let W = lent (a .bench) (a .store .now) (a .log .now) in
-    let S = subst (OwnerStops W (a .worker)) (c .before .before .before .before .before .enum-told .given .1) (c .before .before .before .before .before .before .before .owner-stop .ensures) in
-    let seen = c .seen .ensures (a .bench .words) (a .store .now) in
-    let C = current W (S .0) (S .1) seen in
-    ((C .some, C .few), (C .low, (C .small _ (omega (arith, C .some, C .claimed)), C .claimed)))
-
-refused-requires-3 : tie.Need-refused-requires-3
-refused-requires-3 c κs = search needs
-
-returns-3 : tie.Need-returns-3
-unfolding askOf
-returns-3 c =
-    let a = c .before .before .before .before .before .before .before .before .before .before .before .before .before .args in
-    let W = lent (a .bench) (a .store .now) (a .log .now) in
-    let S = subst (OwnerStops W (a .worker)) (c .before .before .before .before .before .before .before .before .enum-told .given .1) (c .before .before .before .before .before .before .before .before .before .before .owner-stop .ensures) in
-    let seen = c .before .before .before .seen .ensures (a .bench .words) (a .store .now) in
-    let C = current W (S .0) (S .1) seen in
-    let room = c .before .before .has-room .ensures (a .bench .words) (C .sized) ∙ ap (λ (q : Queue). fits (a .bench .words) q (a .store .now)) seen in
-    same-returned (c .refused3 .ensures) refl refl
-    ∙ sym
-    (S .2 _ ∙ if-true _ (eq-eqb (a .bench .aside) 0 (c .before .before .before .before .before .before .if1 .left))
-    ∙ if-false _ (refused room (c .before .if2 .taken)))
-
-sub-here : tie.Need-sub-here
-sub-here c =
-    let a = c .before .before .before .before .before .before .before .before .before .before .before .before .before .args in
-    let W = lent (a .bench) (a .store .now) (a .log .now) in
-    let S = subst (OwnerStops W (a .worker)) (c .before .before .before .before .before .before .before .before .enum-told .given .1) (c .before .before .before .before .before .before .before .before .before .before .owner-stop .ensures) in
-    let seen = c .before .before .before .seen .ensures (a .bench .words) (a .store .now) in
-    let C = current W (S .0) (S .1) seen in
-    omega (arith, C .some)
-
-cast-at : tie.Need-cast-at
-cast-at c = search needs
-
-twice-as-long-requires : tie.Need-twice-as-long-requires
-twice-as-long-requires c κs =
-    let a = c .before .before .before .before .before .before .before .before .before .before .before .before .before .args in
-    let W = lent (a .bench) (a .store .now) (a .log .now) in
-    let S = subst (OwnerStops W (a .worker)) (c .before .before .before .before .before .before .before .before .enum-told .given .1) (c .before .before .before .before .before .before .before .before .before .before .owner-stop .ensures) in
-    let seen = c .before .before .before .seen .ensures (a .bench .words) (a .store .now) in
-    let C = current W (S .0) (S .1) seen in
-    (omega (arith, C .some, C .few), C .small _ (omega (arith, C .some, C .claimed)))
-
-set-aside-requires : tie.Need-set-aside-requires
-set-aside-requires c κs = search needs
-
-returns-4 : tie.Need-returns-4
-unfolding askOf
-returns-4 c =
-    let a = c .before .before .before .before .before .before .before .before .before .before .before .before .before .before .before .args in
-    let W = lent (a .bench) (a .store .now) (a .log .now) in
-    let S = subst (OwnerStops W (a .worker)) (c .before .before .before .before .before .before .before .before .before .before .enum-told .given .1) (c .before .before .before .before .before .before .before .before .before .before .before .before .owner-stop .ensures) in
-    let seen = c .before .before .before .before .before .seen .ensures (a .bench .words) (a .store .now) in
-    let C = current W (S .0) (S .1) seen in
-    let room = c .before .before .before .before .has-room .ensures (a .bench .words) (C .sized) ∙ ap (λ (q : Queue). fits (a .bench .words) q (a .store .now)) seen in
-    let q = c .before .before .before .before .before .seen .result in
-    let more =
-    c .before .twice-as-long .ensures ∙ ap (λ (n : ℕ). 2 * lengthAt (q .arrays) (n - 1)) (sym (C .claimed)) ∙ ap nextLength seen in
-    c .set-aside .ensures _ _
-    ∙ ap (setAside W) more
-    ∙ sym
-    (S .2 _ ∙ if-true _ (eq-eqb (a .bench .aside) 0 (c .before .before .before .before .before .before .before .before .if1 .left))
-    ∙ if-true _ (passed room (c .before .before .before .if2 .left)))
+    c .ask-in .ensures (a .store .now) (a .log .now)
+    ∙ ap (λ (ρ : Room). askIn ρ W (a .worker)) (c .before .room-alone .ensures)
+    ∙ sym (if-true _ (passed (c .before .before .before .before .valid .ensures) (c .before .before .before .if1 .left)))
 
 pub ask-spec : {M : Type 1} → statement M
 ask-spec =
     tie.close
     (tie.spec
-    owner-stop-requires
-    enum-known-stop
+    valid-requires
     refused-requires
     returns
-    enum-told
-    refused-requires-2
-    returns-2
-    seen-requires
-    has-room-requires
-    refused-requires-3
-    returns-3
-    sub-here
-    cast-at
-    twice-as-long-requires
-    set-aside-requires
-    returns-4)
+    room-alone-requires
+    ask-in-requires
+    returns-2)

@@ -21,12 +21,12 @@ shl-tasks : tie.Need-shl-tasks
 shl-tasks c = search needs
 
 anchor-ok-requires : tie.Need-anchor-ok-requires
-anchor-ok-requires c κs = let start = c .before .before .before .before .before in narrow (start .args .t1 .queue .linked) (start .args .t1 .width) (c .before .tag-bits .ensures) (start .pre .0 .0)
+anchor-ok-requires c κs = let start = c .before .before .before .before in narrow (start .args .bench .queue .linked) (start .args .bench .width) (c .before .tag-bits .ensures) (start .pre .0 .0)
 
 returns : tie.Need-returns
 returns c = λ p e f g.
-    let start = c .before .before .before .before .before .before .before in
-    let b = start .args .t1 in
+    let start = c .before .before .before .before .before .before in
+    let b = start .args .bench in
     let h = start .pre in
     let D = h .1 .1 .1 .0 in
     let bits = c .before .before .before .tag-bits .ensures in
@@ -42,8 +42,8 @@ number-ok-requires c κs = search needs
 
 returns-2 : tie.Need-returns-2
 returns-2 c = λ p e f g.
-    let start = c .before .before .before .before .before .before .before .before .before in
-    let b = start .args .t1 in
+    let start = c .before .before .before .before .before .before .before .before in
+    let b = start .args .bench in
     let h = start .pre in
     let D = h .1 .1 .1 .0 in
     let bits = c .before .before .before .before .before .tag-bits .ensures in
@@ -60,17 +60,43 @@ sub-last c = search needs
 shl-most : tie.Need-shl-most
 shl-most c = search needs
 
-element-copy-out-own : tie.Need-element-copy-out-own
-element-copy-out-own c = search needs
-
 aside-ok-requires : tie.Need-aside-ok-requires
 aside-ok-requires c κs =
-    let h = c .before .before .before .before .before .before .before .before .before .before .pre in (omega (arith, h .1 .0, h .1 .1 .0), h .1 .1 .0 .1)
+    let h = c .before .before .before .before .before .before .before .before .pre in (omega (arith, h .1 .0, h .1 .1 .0), h .1 .1 .0 .1)
 
 returns-3 : tie.Need-returns-3
 returns-3 c = λ p e f g.
-    let start = c .before .before .before .before .before .before .before .before .before .before .before .before in
-    let b = start .args .t1 in
+    let start = c .before .before .before .before .before .before .before .before .before .before in
+    let b = start .args .bench in
+    let h = start .pre in
+    let D = h .1 .1 .1 .0 in
+    let bits = c .before .before .before .before .before .before .before .tag-bits .ensures in
+    let z = in-memory b D (h .1 .0 .0) (omega (arith, h .1 .0 .1, h .1 .1 .0 .0)) in
+    let now =
+    c .before .before .before .before .before .anchor-ok .ensures
+    ∙ ap (λ (w : ℕ). anchorOk (b .kind) w (b .queue .initial * 2 ^ (b .queue .published - 1) % 2 ^ 32) (b .queue .anchor)) bits
+    ∙ ap (λ (z : ℕ). anchorOk (b .kind) (tagBits b) z (b .queue .anchor)) z in
+    let n = start .args .seen in
+    let some : 0 < n = omega (arith, h .1 .0) in
+    let most = in-view b D n p e f some (h .1 .1 .0 .0) in
+    sym
+    (holds (passed now (c .before .before .before .before .if1 .left)) ∙ holds (passed (c .before .before .before .number-ok .ensures) (c .before .before .if2 .left))
+    ∙ fails _ (refused (c .before .aside-ok .ensures p most f g) (c .if3 .taken)))
+
+workers-ok-requires : tie.Need-workers-ok-requires
+workers-ok-requires c κs =
+    let start = c .before .before .before .before .before .before .before .before .before .before in
+    let b = start .args .bench in
+    let h = start .pre in
+    let D = h .1 .1 .1 .0 in
+    let bits = c .before .before .before .before .before .before .before .tag-bits .ensures in
+    let z = in-memory b D (h .1 .0 .0) (omega (arith, h .1 .0 .1, h .1 .1 .0 .0)) in
+    ((narrow (b .queue .linked) (b .width) bits (h .0 .0), h .0 .1), ((omega (arith, h .1 .0 .1, h .1 .1 .0), omega (arith, h .1 .1 .0)), ((refl, doubles b D (omega (arith, h .1 .0 .1, h .1 .1 .0 .0)), z), h .1 .1 .1 .1)))
+
+returns-4 : tie.Need-returns-4
+returns-4 c = λ p e f g.
+    let start = c .before .before .before .before .before .before .before .before .before .before .before in
+    let b = start .args .bench in
     let h = start .pre in
     let D = h .1 .1 .1 .0 in
     let bits = c .before .before .before .before .before .before .before .before .tag-bits .ensures in
@@ -82,40 +108,11 @@ returns-3 c = λ p e f g.
     let n = start .args .seen in
     let some : 0 < n = omega (arith, h .1 .0) in
     let most = in-view b D n p e f some (h .1 .1 .0 .0) in
-    sym
-    (holds (passed now (c .before .before .before .before .before .if1 .left)) ∙ holds (passed (c .before .before .before .before .number-ok .ensures) (c .before .before .before .if2 .left))
-    ∙ fails _ (refused (c .before .aside-ok .ensures (b .words) p most f g) (c .if3 .taken)))
-
-workers-ok-requires : tie.Need-workers-ok-requires
-workers-ok-requires c κs =
-    let start = c .before .before .before .before .before .before .before .before .before .before .before .before in
-    let b = start .args .t1 in
-    let h = start .pre in
-    let D = h .1 .1 .1 .0 in
-    let bits = c .before .before .before .before .before .before .before .before .tag-bits .ensures in
-    let z = in-memory b D (h .1 .0 .0) (omega (arith, h .1 .0 .1, h .1 .1 .0 .0)) in
-    ((narrow (b .queue .linked) (b .width) bits (h .0 .0), h .0 .1), ((omega (arith, h .1 .0 .1, h .1 .1 .0), omega (arith, h .1 .1 .0)), ((refl, doubles b D (omega (arith, h .1 .0 .1, h .1 .1 .0 .0)), z), h .1 .1 .1 .1)))
-
-returns-4 : tie.Need-returns-4
-returns-4 c = λ p e f g.
-    let start = c .before .before .before .before .before .before .before .before .before .before .before .before .before in
-    let b = start .args .t1 in
-    let h = start .pre in
-    let D = h .1 .1 .1 .0 in
-    let bits = c .before .before .before .before .before .before .before .before .before .tag-bits .ensures in
-    let z = in-memory b D (h .1 .0 .0) (omega (arith, h .1 .0 .1, h .1 .1 .0 .0)) in
-    let now =
-    c .before .before .before .before .before .before .before .anchor-ok .ensures
-    ∙ ap (λ (w : ℕ). anchorOk (b .kind) w (b .queue .initial * 2 ^ (b .queue .published - 1) % 2 ^ 32) (b .queue .anchor)) bits
-    ∙ ap (λ (z : ℕ). anchorOk (b .kind) (tagBits b) z (b .queue .anchor)) z in
-    let n = start .args .seen in
-    let some : 0 < n = omega (arith, h .1 .0) in
-    let most = in-view b D n p e f some (h .1 .1 .0 .0) in
     c .workers-ok .ensures p (e, doubles-view b D n p e f some (h .1 .1 .0 .0), most)
     ∙ ap (λ (w : ℕ). linksOk (b .kind) (b .queue) (b .workers) 8 and workersOk (b .kind) w (b .words) (b .queue) p (b .crew) (b .workers) 8) bits
     ∙ sym
-    (holds (passed now (c .before .before .before .before .before .before .if1 .left)) ∙ holds (passed (c .before .before .before .before .before .number-ok .ensures) (c .before .before .before .before .if2 .left))
-    ∙ holds (passed (c .before .before .aside-ok .ensures (b .words) p most f g) (c .before .if3 .left)))
+    (holds (passed now (c .before .before .before .before .before .if1 .left)) ∙ holds (passed (c .before .before .before .before .number-ok .ensures) (c .before .before .before .if2 .left))
+    ∙ holds (passed (c .before .before .aside-ok .ensures p most f g) (c .before .if3 .left)))
 
 pub contents-ok-spec : {M : Type 1} → statement M
 contents-ok-spec =
@@ -130,7 +127,6 @@ contents-ok-spec =
     returns-2
     sub-last
     shl-most
-    element-copy-out-own
     aside-ok-requires
     returns-3
     workers-ok-requires

@@ -8,9 +8,6 @@ use Rattle.limits.proofs.frame_ok.Tie as tie
 element-copy-out-owner : tie.Need-element-copy-out-owner
 element-copy-out-owner c = search needs
 
-cast-written : tie.Need-cast-written
-cast-written c = search needs
-
 returns : tie.Need-returns
 returns c = sym (fails _ (not-true _ (c .if1 .taken)))
 
@@ -61,30 +58,19 @@ directory-ok-requires c κs = leb-true _ _ (and-right _ _ (passed (c .before .be
 
 returns-6 : tie.Need-returns-6
 returns-6 c =
-    sym
-    (holds (not-false _ (c .before .before .before .before .before .before .before .before .before .before .if1 .left))
-    ∙ holds (passed (c .before .before .before .before .before .before .before .before .before .kind-ok .ensures) (c .before .before .before .before .before .before .before .before .if2 .left))
-    ∙ holds (passed (c .before .before .before .before .before .before .before .width-ok .ensures) (c .before .before .before .before .before .before .if3 .left))
-    ∙ holds (passed (c .before .before .before .before .before .words-ok .ensures) (c .before .before .before .before .if4 .left))
-    ∙ holds (passed (c .before .before .before .crew-ok .ensures) (c .before .before .if5 .left))
-    ∙ fails _ (refused (c .before .directory-ok .ensures) (c .if6 .taken)))
-
-returns-7 : tie.Need-returns-7
-returns-7 c =
-    sym
-    (holds (not-false _ (c .before .before .before .before .before .before .before .before .before .before .if1 .left))
-    ∙ holds (passed (c .before .before .before .before .before .before .before .before .before .kind-ok .ensures) (c .before .before .before .before .before .before .before .before .if2 .left))
-    ∙ holds (passed (c .before .before .before .before .before .before .before .width-ok .ensures) (c .before .before .before .before .before .before .if3 .left))
-    ∙ holds (passed (c .before .before .before .before .before .words-ok .ensures) (c .before .before .before .before .if4 .left))
-    ∙ holds (passed (c .before .before .before .crew-ok .ensures) (c .before .before .if5 .left))
-    ∙ holds (passed (c .before .directory-ok .ensures) (c .if6 .left)))
+    c .directory-ok .ensures
+    ∙ sym
+    (holds (not-false _ (c .before .before .before .before .before .before .before .before .before .if1 .left))
+    ∙ holds (passed (c .before .before .before .before .before .before .before .before .kind-ok .ensures) (c .before .before .before .before .before .before .before .if2 .left))
+    ∙ holds (passed (c .before .before .before .before .before .before .width-ok .ensures) (c .before .before .before .before .before .if3 .left))
+    ∙ holds (passed (c .before .before .before .before .words-ok .ensures) (c .before .before .before .if4 .left))
+    ∙ holds (passed (c .before .before .crew-ok .ensures) (c .before .if5 .left)))
 
 pub frame-ok-spec : {M : Type 1} → statement M
 frame-ok-spec =
     tie.close
     (tie.spec
     element-copy-out-owner
-    cast-written
     returns
     kind-ok-requires
     returns-2
@@ -95,5 +81,4 @@ frame-ok-spec =
     crew-ok-requires
     returns-5
     directory-ok-requires
-    returns-6
-    returns-7)
+    returns-6)

@@ -65,7 +65,7 @@ past-claim-requires c κs =
     let start = arm .before .before .before .before .before in
     let G = start .pre .0 in
     let h = rw (arm .line5 .given .1) at (start .pre .1) in
-    ((G .some, G .listed), (omega (arith, G .doubled, G .small), ((G .brief, G .near), h .0)))
+    ((G .some, G .listed), (omega (arith, G .doubled, G .small), (G .brief, h .0)))
 
 enum-known-line-6 : tie.Need-enum-known-line-6
 enum-known-line-6 c = search needs

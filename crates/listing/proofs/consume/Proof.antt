@@ -9,6 +9,7 @@ use Rattle.model.specs.declared.Answer.the-variants.{GoesOn, Refused}
 use Rattle.model.specs.Calls.{lent}
 use Rattle.model.specs.Listing.{isRefused, stepsOf}
 use Rattle.state.specs.declared.Returned.{Returned}
+use Rattle.limits.proofs.Alone.{room-alone}
 use Rattle.machine.proofs.Stepping.{steppable, made-not-refused, settles, refuses, restarts, replaces}
 use Rattle.listing.specs.Listing as spec
 use Rattle.listing.specs.Consuming.{Live}
@@ -19,7 +20,7 @@ use Rattle.replies.proofs.Fronts.{back-length}
 use Rattle.replies.proofs.Shows.{shows-none}
 use Rattle.listing.proofs.Stepping.{Stepping, stepping-start, stepping-room, stepping-over, stepping-stops, stepping-on}
 use Rattle.listing.proofs.Consuming.{nothing-open}
-use Rattle.listing.proofs.Standing.{sessionOf, Standing, standing-start, standing-on, standing-over, at-once-by, asked-live, steps-by, reached-of, crew-of, once-of, none-of, valid-front, stepped-front, not-full, consumed-so-far, reached-step, reach-over, valid-of, refusal-room}
+use Rattle.listing.proofs.Standing.{sessionOf, Standing, standing-start, standing-on, standing-over, at-once-by, asked-live, steps-by, reached-of, crew-of, once-of, none-of, valid-front, within-front, stepped-front, not-full, consumed-so-far, reached-step, reach-over, valid-of, refusal-room}
 use Rattle.listing.proofs.consume.Statement.{statement}
 use Rattle.listing.proofs.consume.Tie as tie
 
@@ -200,16 +201,33 @@ mul-own c = search needs
 element-copy-out-own : tie.Need-element-copy-out-own Inv-loop μ-loop Inv-lines μ-lines
 element-copy-out-own c = omega (arith, c .before .before .before .before .place-of .ensures .0)
 
+slice-reshare-prefix-room-alone : tie.Need-slice-reshare-prefix-room-alone Inv-loop μ-loop Inv-lines μ-lines
+slice-reshare-prefix-room-alone c = omega (arith, c .before .before .before .before .span .ensures, c .before .before .before .loop .inv .2)
+
+slice-aggregate-room-alone : tie.Need-slice-aggregate-room-alone Inv-loop μ-loop Inv-lines μ-lines
+slice-aggregate-room-alone c =
+    sym (length-take-le _ _ (omega (arith, c .before .before .before .before .before .span .ensures, c .before .before .before .before .loop .inv .2)))
+
+room-alone-requires : tie.Need-room-alone-requires Inv-loop μ-loop Inv-lines μ-lines
+room-alone-requires c κs =
+    let at-loop = c .before .before .before .before in
+    let at-span = at-loop .before in
+    let at-lines = at-loop .before .before .before .before .before .before .before .before .before .before .before .before .before .before in
+    let l = at-lines .lines in
+    let k = at-loop .loop in
+    let e = at-span .span .ensures ∙ ap (min (l .long)) (sym (k .inv .2)) in
+    room-alone (lent (k .bench) (take (at-span .span .result) (k .store)) (k .log)) (valid-front (k .bench) (l .long) _ (k .store) (k .log) e (k .inv .1))
+
 slice-relend-prefix-step-in : tie.Need-slice-relend-prefix-step-in Inv-loop μ-loop Inv-lines μ-lines
-slice-relend-prefix-step-in c = omega (arith, c .before .before .before .before .span .ensures, c .before .before .before .loop .inv .2)
+slice-relend-prefix-step-in c = omega (arith, c .before .before .before .before .before .before .span .ensures, c .before .before .before .before .before .loop .inv .2)
 
 slice-aggregate-step-in : tie.Need-slice-aggregate-step-in Inv-loop μ-loop Inv-lines μ-lines
 slice-aggregate-step-in c =
-    sym (length-take-le _ _ (omega (arith, c .before .before .before .before .before .span .ensures, c .before .before .before .before .loop .inv .2)))
+    sym (length-take-le _ _ (omega (arith, c .before .before .before .before .before .before .before .span .ensures, c .before .before .before .before .before .before .loop .inv .2)))
 
 step-in-requires : tie.Need-step-in-requires Inv-loop μ-loop Inv-lines μ-lines
 step-in-requires c κs =
-    let at-loop = c .before .before .before .before .before in
+    let at-loop = c .before .before .before .before .before .before .before in
     let at-span = at-loop .before in
     let at-place-of = at-loop .before .before .before in
     let at-asked = at-loop .before .before .before .before .before in
@@ -218,11 +236,11 @@ step-in-requires c κs =
     let k = at-loop .loop in
     let e = at-span .span .ensures ∙ ap (min (l .long)) (sym (k .inv .2)) in
     steppable (lent (k .bench) (take (at-span .span .result) (k .store)) (k .log)) (at-asked .asked .given .0 .0) (at-place-of .place-of .result)
-    (valid-front (k .bench) (l .long) _ (k .store) (k .log) e (k .inv .1))
+    (within-front (k .bench) (l .long) _ (k .store) (k .log) e (k .inv .1) (c .before .before .room-alone .ensures))
     (once-of (k .bench) (l .long) (k .store) (k .log) (at-asked .asked .given .0 .0) (k .inv .1)) (at-place-of .place-of .ensures .1)
 
 sub-left : tie.Need-sub-left Inv-loop μ-loop Inv-lines μ-lines
-sub-left c = omega (arith, c .before .before .before .before .before .before .before .before .before .loop-test .taken)
+sub-left c = omega (arith, c .before .before .before .before .before .before .before .before .before .before .before .loop-test .taken)
 
 enum-told-3 : tie.Need-enum-told-3 Inv-loop μ-loop Inv-lines μ-lines
 enum-told-3 c = search needs
@@ -232,7 +250,7 @@ enum-known-made c = search needs
 
 show-requires-2 : tie.Need-show-requires-2 Inv-loop μ-loop Inv-lines μ-lines
 show-requires-2 c κs =
-    let at-loop = c .before .before .before .before .before .before .before .before .before .before .before .before .before .before .before in
+    let at-loop = c .before .before .before .before .before .before .before .before .before .before .before .before .before .before .before .before .before in
     let at-span = at-loop .before in
     let at-place-of = at-loop .before .before .before in
     let at-asked = at-loop .before .before .before .before .before in
@@ -248,21 +266,21 @@ show-requires-2 c κs =
     let to = at-step .step-in .result .line in
     let made = at-step .step-in .result .made in
     let step =
-    stepped-front b (l .long) _ (k .store) (k .log) _ _ i place to made e (at-step .step-in .kept .1 .1 .1 .1 .1 .1 .1 .1 .1 .0) (k .inv .1)
+    stepped-front b (l .long) _ (k .store) (k .log) _ _ i place to made e (at-step .step-in .kept .1 .1 .1 .1 .1 .1 .1 .1 .1 .1 .0) (k .inv .1) (at-step .before .before .before .room-alone .ensures)
     (at-step .step-in .ensures .1 .0 refl (b .delayed) (b .waiting) (b .aside) (b .used) place (b .restarts) (b .workers) (once-of b (l .long) (k .store) (k .log) i (k .inv .1)) (at-place-of .place-of .ensures .1) refl) in
     let by = refuses b place to made step _ (c .before .before .made .given .1) in
-    stepping-room _ _ _ _ _ _ (k .left) _ _ _ _ (k .inv .0) _ (let z : l .wrote + 256 ≤ length (l .out) = omega (arith, l .inv .0 .fits, l .inv .3, at-if1 .if1 .left) in z) (c .before .before .before .before .before .before .before .before .before .before .before .before .before .before .loop-test .taken)
+    stepping-room _ _ _ _ _ _ (k .left) _ _ _ _ (k .inv .0) _ (let z : l .wrote + 256 ≤ length (l .out) = omega (arith, l .inv .0 .fits, l .inv .3, at-if1 .if1 .left) in z) (c .before .before .before .before .before .before .before .before .before .before .before .before .before .before .before .before .loop-test .taken)
     by
 
 lines-less-4 : tie.Need-lines-less-4 Inv-loop μ-loop Inv-lines μ-lines
 lines-less-4 c =
-    let at-line-end = c .before .before .before .before .before .before .before .before .before .before .before .before .before .before .before .before .before .before .before .before .before .before .before .before .before .before .before .before .before in
-    let at-lines-test = c .before .before .before .before .before .before .before .before .before .before .before .before .before .before .before .before .before .before .before .before .before .before .before .before .before .before .before .before .before .before .before in
+    let at-line-end = c .before .before .before .before .before .before .before .before .before .before .before .before .before .before .before .before .before .before .before .before .before .before .before .before .before .before .before .before .before .before .before in
+    let at-lines-test = c .before .before .before .before .before .before .before .before .before .before .before .before .before .before .before .before .before .before .before .before .before .before .before .before .before .before .before .before .before .before .before .before .before in
     omega (arith, at-line-end .line-end .ensures, at-lines-test .lines-test .taken)
 
 lines-again-4 : tie.Need-lines-again-4 Inv-loop μ-loop Inv-lines μ-lines
 lines-again-4 c =
-    let at-loop = c .before .before .before .before .before .before .before .before .before .before .before .before .before .before .before .before .before .before in
+    let at-loop = c .before .before .before .before .before .before .before .before .before .before .before .before .before .before .before .before .before .before .before .before in
     let at-span = at-loop .before in
     let at-place-of = at-loop .before .before .before in
     let at-asked = at-loop .before .before .before .before .before in
@@ -282,16 +300,16 @@ lines-again-4 c =
     let to = at-step .step-in .result .line in
     let made = at-step .step-in .result .made in
     let step =
-    stepped-front b (l .long) _ (k .store) (k .log) _ _ i place to made e (at-step .step-in .kept .1 .1 .1 .1 .1 .1 .1 .1 .1 .0) (k .inv .1)
+    stepped-front b (l .long) _ (k .store) (k .log) _ _ i place to made e (at-step .step-in .kept .1 .1 .1 .1 .1 .1 .1 .1 .1 .1 .0) (k .inv .1) (at-step .before .before .before .room-alone .ensures)
     (at-step .step-in .ensures .1 .0 refl (b .delayed) (b .waiting) (b .aside) (b .used) place (b .restarts) (b .workers) (once-of b (l .long) (k .store) (k .log) i (k .inv .1)) (at-place-of .place-of .ensures .1) refl) in
     let s = sessionOf (l .live) (l .long) (l .bench) in
     let t = sessionOf (l .live) (l .long) b in
     let why = c .before .before .before .before .before .made .given .0 .0 in
     let by = refuses b place to made step why (c .before .before .before .before .before .made .given .1) in (
       standing-on _ _ s (l .store) (l .log) (l .out) (l .used) (l .wrote) _ _ _ _ _ _ (l .inv .0) (at-line-end .line-end .ensures) (at-if2 .if2 .left) (let z : l .wrote + 256 ≤ length (l .out) = omega (arith, l .inv .0 .fits, l .inv .3, at-if1 .if1 .left) in z) (at-parse .parse .ensures)
-          (steps-by s _ _ _ _ _ _ _ _ _ _ _ (sym (at-ask .ask .ensures) ∙ at-asked .asked .given .1) (stepping-stops _ _ _ _ _ _ (k .left) _ _ _ _ (k .inv .0) (c .before .before .before .before .before .before .before .before .before .before .before .before .before .before .before .before .before .loop-test .taken) t (Refused why) _ _ by (k .inv .0 .live) _ _ (c .before .before .show2 .ensures) refl)) refl,
-      back-length (at-span .span .result) (k .store) (at-step .step-in .last .1 .1 .1 .1 .1 .1 .1 .1 .1 .0) (at-step .step-in .kept .1 .1 .1 .1 .1 .1 .1 .1 .1 .0) ∙ k .inv .2 ∙ l .inv .1,
-      at-step .step-in .kept .1 .1 .1 .1 .1 .1 .1 .1 .1 .1 .0 ∙ k .inv .3 ∙ l .inv .2,
+          (steps-by s _ _ _ _ _ _ _ _ _ _ _ (sym (at-ask .ask .ensures) ∙ at-asked .asked .given .1) (stepping-stops _ _ _ _ _ _ (k .left) _ _ _ _ (k .inv .0) (c .before .before .before .before .before .before .before .before .before .before .before .before .before .before .before .before .before .before .before .loop-test .taken) t (Refused why) _ _ by (k .inv .0 .live) _ _ (c .before .before .show2 .ensures) refl)) refl,
+      back-length (at-span .span .result) (k .store) (at-step .step-in .last .1 .1 .1 .1 .1 .1 .1 .1 .1 .1 .0) (at-step .step-in .kept .1 .1 .1 .1 .1 .1 .1 .1 .1 .1 .0) ∙ k .inv .2 ∙ l .inv .1,
+      at-step .step-in .kept .1 .1 .1 .1 .1 .1 .1 .1 .1 .1 .1 .0 ∙ k .inv .3 ∙ l .inv .2,
       c .before .before .show2 .kept .1 .1 .0 ∙ k .inv .4 ∙ l .inv .3,
       l .inv .4,
     )
@@ -303,7 +321,7 @@ mul-one-more : tie.Need-mul-one-more Inv-loop μ-loop Inv-lines μ-lines
 mul-one-more c = search needs
 
 element-copy-out-one-more : tie.Need-element-copy-out-one-more Inv-loop μ-loop Inv-lines μ-lines
-element-copy-out-one-more c = omega (arith, c .before .before .before .before .before .before .before .before .before .before .before .before .before .before .before .before .before .place-of .ensures .0)
+element-copy-out-one-more c = omega (arith, c .before .before .before .before .before .before .before .before .before .before .before .before .before .before .before .before .before .before .before .place-of .ensures .0)
 
 one-more-requires : tie.Need-one-more-requires Inv-loop μ-loop Inv-lines μ-lines
 one-more-requires c κs = search needs
@@ -312,20 +330,20 @@ mul-bench : tie.Need-mul-bench Inv-loop μ-loop Inv-lines μ-lines
 mul-bench c = search needs
 
 element-write-bench : tie.Need-element-write-bench Inv-loop μ-loop Inv-lines μ-lines
-element-write-bench c = omega (arith, c .before .before .before .before .before .before .before .before .before .before .before .before .before .before .before .before .before .before .before .place-of .ensures .0)
+element-write-bench c = omega (arith, c .before .before .before .before .before .before .before .before .before .before .before .before .before .before .before .before .before .before .before .before .before .place-of .ensures .0)
 
-mul-t72 : tie.Need-mul-t72 Inv-loop μ-loop Inv-lines μ-lines
-mul-t72 c = search needs
+mul-t75 : tie.Need-mul-t75 Inv-loop μ-loop Inv-lines μ-lines
+mul-t75 c = search needs
 
 element-set-from-bench : tie.Need-element-set-from-bench Inv-loop μ-loop Inv-lines μ-lines
-element-set-from-bench c = omega (arith, c .before .before .before .before .before .before .before .before .before .before .before .before .before .before .before .before .before .before .before .place-of .ensures .0)
+element-set-from-bench c = omega (arith, c .before .before .before .before .before .before .before .before .before .before .before .before .before .before .before .before .before .before .before .before .before .place-of .ensures .0)
 
 loop-less : tie.Need-loop-less Inv-loop μ-loop Inv-lines μ-lines
-loop-less c = omega (arith, c .before .before .before .before .before .before .before .before .before .before .before .before .before .before .before .loop-test .taken)
+loop-less c = omega (arith, c .before .before .before .before .before .before .before .before .before .before .before .before .before .before .before .before .before .loop-test .taken)
 
 loop-again : tie.Need-loop-again Inv-loop μ-loop Inv-lines μ-lines
 loop-again c =
-    let at-loop = c .before .before .before .before .before .before .before .before .before .before .before .before .before .before .before .before in
+    let at-loop = c .before .before .before .before .before .before .before .before .before .before .before .before .before .before .before .before .before .before in
     let at-span = at-loop .before in
     let at-place-of = at-loop .before .before .before in
     let at-asked = at-loop .before .before .before .before .before in
@@ -340,25 +358,25 @@ loop-again c =
     let to = at-step .step-in .result .line in
     let made = at-step .step-in .result .made in
     let step =
-    stepped-front b (l .long) _ (k .store) (k .log) _ _ i place to made e (at-step .step-in .kept .1 .1 .1 .1 .1 .1 .1 .1 .1 .0) (k .inv .1)
+    stepped-front b (l .long) _ (k .store) (k .log) _ _ i place to made e (at-step .step-in .kept .1 .1 .1 .1 .1 .1 .1 .1 .1 .1 .0) (k .inv .1) (at-step .before .before .before .room-alone .ensures)
     (at-step .step-in .ensures .1 .0 refl (b .delayed) (b .waiting) (b .aside) (b .used) place (b .restarts) (b .workers) (once-of b (l .long) (k .store) (k .log) i (k .inv .1)) (at-place-of .place-of .ensures .1) refl) in
     let t = sessionOf (l .live) (l .long) b in
     let by = restarts b place to made step (c .before .before .enum-told4 .given .1) (ap (set (b .restarts) place) (c .one-more .ensures)) in (
-      stepping-on _ _ _ _ _ _ (k .left) _ _ _ _ (k .inv .0) (c .before .before .before .before .before .before .before .before .before .before .before .before .before .before .before .loop-test .taken) _ GoesOn _ _ by (k .inv .0 .live) _ _ (shows-none (k .out) (k .wrote)) refl,
+      stepping-on _ _ _ _ _ _ (k .left) _ _ _ _ (k .inv .0) (c .before .before .before .before .before .before .before .before .before .before .before .before .before .before .before .before .before .loop-test .taken) _ GoesOn _ _ by (k .inv .0 .live) _ _ (shows-none (k .out) (k .wrote)) refl,
       reached-step (worldOf t (k .store) (k .log)) _ _ _ by (k .inv .1),
-      back-length (at-span .span .result) (k .store) (at-step .step-in .last .1 .1 .1 .1 .1 .1 .1 .1 .1 .0) (at-step .step-in .kept .1 .1 .1 .1 .1 .1 .1 .1 .1 .0) ∙ k .inv .2,
-      at-step .step-in .kept .1 .1 .1 .1 .1 .1 .1 .1 .1 .1 .0 ∙ k .inv .3,
+      back-length (at-span .span .result) (k .store) (at-step .step-in .last .1 .1 .1 .1 .1 .1 .1 .1 .1 .1 .0) (at-step .step-in .kept .1 .1 .1 .1 .1 .1 .1 .1 .1 .1 .0) ∙ k .inv .2,
+      at-step .step-in .kept .1 .1 .1 .1 .1 .1 .1 .1 .1 .1 .1 .0 ∙ k .inv .3,
       k .inv .4,
     )
 
 settled-requires : tie.Need-settled-requires Inv-loop μ-loop Inv-lines μ-lines
 settled-requires c κs =
-    let at-place-of = c .before .before .before .before .before .before .before .before .before .before .before .before .before .before .before .before in
+    let at-place-of = c .before .before .before .before .before .before .before .before .before .before .before .before .before .before .before .before .before .before in
     (omega (arith, at-place-of .place-of .ensures .0), c .before .before .before .before .before .before .before .step-in .ensures .0)
 
 show-requires-3 : tie.Need-show-requires-3 Inv-loop μ-loop Inv-lines μ-lines
 show-requires-3 c κs =
-    let at-loop = c .before .before .before .before .before .before .before .before .before .before .before .before .before .before .before .before in
+    let at-loop = c .before .before .before .before .before .before .before .before .before .before .before .before .before .before .before .before .before .before in
     let at-span = at-loop .before in
     let at-place-of = at-loop .before .before .before in
     let at-asked = at-loop .before .before .before .before .before in
@@ -374,18 +392,18 @@ show-requires-3 c κs =
     let to = at-step .step-in .result .line in
     let made = at-step .step-in .result .made in
     let step =
-    stepped-front b (l .long) _ (k .store) (k .log) _ _ i place to made e (at-step .step-in .kept .1 .1 .1 .1 .1 .1 .1 .1 .1 .0) (k .inv .1)
+    stepped-front b (l .long) _ (k .store) (k .log) _ _ i place to made e (at-step .step-in .kept .1 .1 .1 .1 .1 .1 .1 .1 .1 .1 .0) (k .inv .1) (at-step .before .before .before .room-alone .ensures)
     (at-step .step-in .ensures .1 .0 refl (b .delayed) (b .waiting) (b .aside) (b .used) place (b .restarts) (b .workers) (once-of b (l .long) (k .store) (k .log) i (k .inv .1)) (at-place-of .place-of .ensures .1) refl) in
     let by = settles b place to made step (c .before .before .settled .ensures) in
-    stepping-room _ _ _ _ _ _ (k .left) _ _ _ _ (k .inv .0) _ (let z : l .wrote + 256 ≤ length (l .out) = omega (arith, l .inv .0 .fits, l .inv .3, at-if1 .if1 .left) in z) (c .before .before .before .before .before .before .before .before .before .before .before .before .before .before .before .loop-test .taken)
+    stepping-room _ _ _ _ _ _ (k .left) _ _ _ _ (k .inv .0) _ (let z : l .wrote + 256 ≤ length (l .out) = omega (arith, l .inv .0 .fits, l .inv .3, at-if1 .if1 .left) in z) (c .before .before .before .before .before .before .before .before .before .before .before .before .before .before .before .before .before .loop-test .taken)
     by
 
 loop-less-2 : tie.Need-loop-less-2 Inv-loop μ-loop Inv-lines μ-lines
-loop-less-2 c = omega (arith, c .before .before .before .before .before .before .before .before .before .before .before .before .before .before .before .before .before .before .loop-test .taken)
+loop-less-2 c = omega (arith, c .before .before .before .before .before .before .before .before .before .before .before .before .before .before .before .before .before .before .before .before .loop-test .taken)
 
 loop-again-2 : tie.Need-loop-again-2 Inv-loop μ-loop Inv-lines μ-lines
 loop-again-2 c =
-    let at-loop = c .before .before .before .before .before .before .before .before .before .before .before .before .before .before .before .before .before .before .before in
+    let at-loop = c .before .before .before .before .before .before .before .before .before .before .before .before .before .before .before .before .before .before .before .before .before in
     let at-span = at-loop .before in
     let at-place-of = at-loop .before .before .before in
     let at-asked = at-loop .before .before .before .before .before in
@@ -400,32 +418,32 @@ loop-again-2 c =
     let to = at-step .step-in .result .line in
     let made = at-step .step-in .result .made in
     let step =
-    stepped-front b (l .long) _ (k .store) (k .log) _ _ i place to made e (at-step .step-in .kept .1 .1 .1 .1 .1 .1 .1 .1 .1 .0) (k .inv .1)
+    stepped-front b (l .long) _ (k .store) (k .log) _ _ i place to made e (at-step .step-in .kept .1 .1 .1 .1 .1 .1 .1 .1 .1 .1 .0) (k .inv .1) (at-step .before .before .before .room-alone .ensures)
     (at-step .step-in .ensures .1 .0 refl (b .delayed) (b .waiting) (b .aside) (b .used) place (b .restarts) (b .workers) (once-of b (l .long) (k .store) (k .log) i (k .inv .1)) (at-place-of .place-of .ensures .1) refl) in
     let t = sessionOf (l .live) (l .long) b in
     let done = c .before .before .before .before .before .settled .result in
     let by = settles b place to made step (c .before .before .before .before .before .settled .ensures) in
     let answer = ap (λ (r : Returned). isRefused (r .answer)) (c .before .before .before .before .before .settled .ensures) in
     let stands = answer ∙ made-not-refused (b .words) (b .queue) (b .written) made (not-full b (l .long) (k .store) (k .log) i (k .inv .1) _ step) (at-step .step-in .ensures .0) (c .before .before .before .before .before .before .before .match4 .keys2) in (
-      stepping-on _ _ _ _ _ _ (k .left) _ _ _ _ (k .inv .0) (c .before .before .before .before .before .before .before .before .before .before .before .before .before .before .before .before .before .before .loop-test .taken) (sessionOf (l .live) (l .long) (done .bench)) (done .answer) _ _ by (k .inv .0 .live) _ _ (c .before .before .show3 .ensures) stands,
+      stepping-on _ _ _ _ _ _ (k .left) _ _ _ _ (k .inv .0) (c .before .before .before .before .before .before .before .before .before .before .before .before .before .before .before .before .before .before .before .before .loop-test .taken) (sessionOf (l .live) (l .long) (done .bench)) (done .answer) _ _ by (k .inv .0 .live) _ _ (c .before .before .show3 .ensures) stands,
       reached-step (worldOf t (k .store) (k .log)) _ _ _ by (k .inv .1),
-      back-length (at-span .span .result) (k .store) (at-step .step-in .last .1 .1 .1 .1 .1 .1 .1 .1 .1 .0) (at-step .step-in .kept .1 .1 .1 .1 .1 .1 .1 .1 .1 .0) ∙ k .inv .2,
-      at-step .step-in .kept .1 .1 .1 .1 .1 .1 .1 .1 .1 .1 .0 ∙ k .inv .3,
+      back-length (at-span .span .result) (k .store) (at-step .step-in .last .1 .1 .1 .1 .1 .1 .1 .1 .1 .1 .0) (at-step .step-in .kept .1 .1 .1 .1 .1 .1 .1 .1 .1 .1 .0) ∙ k .inv .2,
+      at-step .step-in .kept .1 .1 .1 .1 .1 .1 .1 .1 .1 .1 .1 .0 ∙ k .inv .3,
       c .before .before .show3 .kept .1 .1 .0 ∙ k .inv .4,
     )
 
-mul-t57 : tie.Need-mul-t57 Inv-loop μ-loop Inv-lines μ-lines
-mul-t57 c = search needs
+mul-t58 : tie.Need-mul-t58 Inv-loop μ-loop Inv-lines μ-lines
+mul-t58 c = search needs
 
 element-set-from-bench-2 : tie.Need-element-set-from-bench-2 Inv-loop μ-loop Inv-lines μ-lines
-element-set-from-bench-2 c = omega (arith, c .before .before .before .before .before .before .before .before .before .before .before .before .before .before .before .place-of .ensures .0)
+element-set-from-bench-2 c = omega (arith, c .before .before .before .before .before .before .before .before .before .before .before .before .before .before .before .before .before .place-of .ensures .0)
 
 loop-less-3 : tie.Need-loop-less-3 Inv-loop μ-loop Inv-lines μ-lines
-loop-less-3 c = omega (arith, c .before .before .before .before .before .before .before .before .before .before .before .loop-test .taken)
+loop-less-3 c = omega (arith, c .before .before .before .before .before .before .before .before .before .before .before .before .before .loop-test .taken)
 
 loop-again-3 : tie.Need-loop-again-3 Inv-loop μ-loop Inv-lines μ-lines
 loop-again-3 c =
-    let at-loop = c .before .before .before .before .before .before .before .before .before .before .before .before in
+    let at-loop = c .before .before .before .before .before .before .before .before .before .before .before .before .before .before in
     let at-span = at-loop .before in
     let at-place-of = at-loop .before .before .before in
     let at-asked = at-loop .before .before .before .before .before in
@@ -440,14 +458,14 @@ loop-again-3 c =
     let to = at-step .step-in .result .line in
     let made = at-step .step-in .result .made in
     let step =
-    stepped-front b (l .long) _ (k .store) (k .log) _ _ i place to made e (at-step .step-in .kept .1 .1 .1 .1 .1 .1 .1 .1 .1 .0) (k .inv .1)
+    stepped-front b (l .long) _ (k .store) (k .log) _ _ i place to made e (at-step .step-in .kept .1 .1 .1 .1 .1 .1 .1 .1 .1 .1 .0) (k .inv .1) (at-step .before .before .before .room-alone .ensures)
     (at-step .step-in .ensures .1 .0 refl (b .delayed) (b .waiting) (b .aside) (b .used) place (b .restarts) (b .workers) (once-of b (l .long) (k .store) (k .log) i (k .inv .1)) (at-place-of .place-of .ensures .1) refl) in
     let t = sessionOf (l .live) (l .long) b in
     let by = replaces b place to made step (c .enum-told3 .given .1) in (
-      stepping-on _ _ _ _ _ _ (k .left) _ _ _ _ (k .inv .0) (c .before .before .before .before .before .before .before .before .before .before .before .loop-test .taken) _ GoesOn _ _ by (k .inv .0 .live) _ _ (shows-none (k .out) (k .wrote)) refl,
+      stepping-on _ _ _ _ _ _ (k .left) _ _ _ _ (k .inv .0) (c .before .before .before .before .before .before .before .before .before .before .before .before .before .loop-test .taken) _ GoesOn _ _ by (k .inv .0 .live) _ _ (shows-none (k .out) (k .wrote)) refl,
       reached-step (worldOf t (k .store) (k .log)) _ _ _ by (k .inv .1),
-      back-length (at-span .span .result) (k .store) (at-step .step-in .last .1 .1 .1 .1 .1 .1 .1 .1 .1 .0) (at-step .step-in .kept .1 .1 .1 .1 .1 .1 .1 .1 .1 .0) ∙ k .inv .2,
-      at-step .step-in .kept .1 .1 .1 .1 .1 .1 .1 .1 .1 .1 .0 ∙ k .inv .3,
+      back-length (at-span .span .result) (k .store) (at-step .step-in .last .1 .1 .1 .1 .1 .1 .1 .1 .1 .1 .0) (at-step .step-in .kept .1 .1 .1 .1 .1 .1 .1 .1 .1 .1 .0) ∙ k .inv .2,
+      at-step .step-in .kept .1 .1 .1 .1 .1 .1 .1 .1 .1 .1 .1 .0 ∙ k .inv .3,
       k .inv .4,
     )
 
@@ -563,6 +581,9 @@ consume-spec =
     lines-again-3
     mul-own
     element-copy-out-own
+    slice-reshare-prefix-room-alone
+    slice-aggregate-room-alone
+    room-alone-requires
     slice-relend-prefix-step-in
     slice-aggregate-step-in
     step-in-requires
@@ -578,7 +599,7 @@ consume-spec =
     one-more-requires
     mul-bench
     element-write-bench
-    mul-t72
+    mul-t75
     element-set-from-bench
     loop-less
     loop-again
@@ -586,7 +607,7 @@ consume-spec =
     show-requires-3
     loop-less-2
     loop-again-2
-    mul-t57
+    mul-t58
     element-set-from-bench-2
     loop-less-3
     loop-again-3

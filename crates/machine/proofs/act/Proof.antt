@@ -3,7 +3,7 @@ use mathlib.Core.Path.{sym, ap, _∙_}
 use native.Mathlib.Omega.{arith}
 use lib.ListN.{length}
 use Rattle.model.specs.Stores.{Shared, landedAll}
-use Rattle.lines.specs.Actions.{claimsBy, storesBy, Doable}
+use Rattle.lines.specs.Actions.{claimsBy, PlacedIn, storesBy, Doable}
 use Rattle.machine.specs.Steps.{actedBy, logAfter}
 use Rattle.machine.proofs.Landing.{copies-land, claims-land, ends-leave}
 use Rattle.machine.proofs.Logged.{stops, stops-full, ends, ends-full}
@@ -75,11 +75,11 @@ log-answer-requires-2 c κs = search needs
 
 returns : tie.Need-returns
 unfolding actedBy logAfter claimsBy storesBy landedAll
-returns c = let e = c .enum-told .given .1 in (simp e, (simp e, simp e))
+returns c = let e = c .enum-told .given .1 in (simp e, (λ ρ p. simp e, simp e))
 
 returns-2 : tie.Need-returns-2
 unfolding actedBy logAfter claimsBy storesBy landedAll
-returns-2 c = let e = c .enum-told2 .given .1 in (simp e, (simp e, simp e))
+returns-2 c = let e = c .enum-told2 .given .1 in (simp e, (λ ρ p. simp e, simp e))
 
 same-length : tie.Need-same-length
 same-length c = search needs
@@ -89,7 +89,7 @@ unfolding actedBy logAfter claimsBy storesBy landedAll
 returns-3 c =
     let e = c .before .before .before .before .before .action .given .1 in
     let landed = c .before .before .land .ensures in
-    (landed .0 ∙ sym (simp e), (landed .1 ∙ sym (simp e), simp e))
+    (landed .0 ∙ sym (simp e), (λ ρ p. landed .1 ∙ sym (simp e), simp e))
 
 same-length-2 : tie.Need-same-length-2
 same-length-2 c = search needs
@@ -101,20 +101,26 @@ returns-4 c =
     let a = start .args in
     let e = c .before .before .before .before .before .before .action2 .given .1 in
     let copied = copies-land (a .words) (a .queue) (a .store .now) _ _ _ (start .pre .0 .1) (c .before .before .before .before .address .ensures) in
-    (simp e, (c .before .before .write-task .ensures ∙ copied ∙ sym (simp e), simp e))
+    (simp e, (λ ρ p. c .before .before .write-task .ensures ∙ copied ∙ sym (simp e), simp e))
 
 same-length-3 : tie.Need-same-length-3
 same-length-3 c = search needs
 
 returns-5 : tie.Need-returns-5
-unfolding actedBy logAfter claimsBy storesBy landedAll Doable
+unfolding actedBy logAfter claimsBy PlacedIn storesBy landedAll Doable
 returns-5 c =
     let start = c .before .before .before .before .before .before .before .before .before in
     let a = start .args in
     let e = c .before .before .before .before .before .action3 .given .1 in
-    let h = rw e at (start .pre .1) in
-    let claimed = claims-land (a .queue) (a .store .now) (length (a .store .now)) _ _ h in
-    (simp e, (c .before .before .zero .ensures ∙ sym (ap (λ (S : Shared). S .store) claimed) ∙ sym (simp e), simp e))
+    let h = rw e at (start .pre .1) in (
+      simp e,
+      (
+        λ ρ p.
+            let claimed = claims-land ρ (a .queue) (a .store .now) (length (a .store .now)) _ _ (rw e at p) h in
+            c .before .before .zero .ensures ∙ sym (ap (λ (S : Shared). S .store) claimed) ∙ sym (simp e),
+        simp e,
+      ),
+    )
 
 same-length-4 : tie.Need-same-length-4
 same-length-4 c = search needs
@@ -125,7 +131,7 @@ returns-6 c =
     let a = c .before .before .before .before .before .before .before .before .before .before .args in
     let e = c .before .before .before .before .before .before .action4 .given .1 in
     let logged = c .before .before .before .log-answer .ensures in
-    (stops (a .words) (a .written) (a .log .now) (a .queue) (logged .0) e (c .if1 .taken), (simp e, logged .1 ∙ sym (simp e)))
+    (stops (a .words) (a .written) (a .log .now) (a .queue) (logged .0) e (c .if1 .taken), (λ ρ p. simp e, logged .1 ∙ sym (simp e)))
 
 same-length-5 : tie.Need-same-length-5
 same-length-5 c = search needs
@@ -136,7 +142,7 @@ returns-7 c =
     let a = c .before .before .before .before .before .before .before .before .before .before .args in
     let e = c .before .before .before .before .before .before .action4 .given .1 in
     let logged = c .before .before .before .log-answer .ensures in
-    (stops-full (a .words) (a .written) (a .log .now) (a .queue) (logged .0) e (c .if1 .left), (simp e, logged .1 ∙ sym (simp e)))
+    (stops-full (a .words) (a .written) (a .log .now) (a .queue) (logged .0) e (c .if1 .left), (λ ρ p. simp e, logged .1 ∙ sym (simp e)))
 
 same-length-6 : tie.Need-same-length-6
 same-length-6 c = search needs
@@ -148,8 +154,7 @@ returns-8 c =
     let a = start .args in
     let e = c .before .before .before .before .before .before .before .action5 .given .1 in
     let logged = c .before .before .before .log-answer2 .ensures in
-    let kept = ends-leave (a .words) (a .queue) (a .store .now) (length (a .store .now)) e (start .pre .1) in
-    (ends (a .words) (a .written) (a .log .now) (a .queue) (logged .0) e (c .before .before .before .before .before .concluded .ensures) (c .if2 .taken), (kept, logged .1 ∙ sym (simp e)))
+    (ends (a .words) (a .written) (a .log .now) (a .queue) (logged .0) e (c .before .before .before .before .before .concluded .ensures) (c .if2 .taken), (λ ρ p. ends-leave ρ (a .words) (a .queue) (a .store .now) (length (a .store .now)) e (start .pre .1), logged .1 ∙ sym (simp e)))
 
 same-length-7 : tie.Need-same-length-7
 same-length-7 c = search needs
@@ -161,8 +166,7 @@ returns-9 c =
     let a = start .args in
     let e = c .before .before .before .before .before .before .before .action5 .given .1 in
     let logged = c .before .before .before .log-answer2 .ensures in
-    let kept = ends-leave (a .words) (a .queue) (a .store .now) (length (a .store .now)) e (start .pre .1) in
-    (ends-full (a .words) (a .written) (a .log .now) (a .queue) (logged .0) e (c .if2 .left), (kept, logged .1 ∙ sym (simp e)))
+    (ends-full (a .words) (a .written) (a .log .now) (a .queue) (logged .0) e (c .if2 .left), (λ ρ p. ends-leave ρ (a .words) (a .queue) (a .store .now) (length (a .store .now)) e (start .pre .1), logged .1 ∙ sym (simp e)))
 
 pub act-spec : {M : Type 1} → statement M
 act-spec =

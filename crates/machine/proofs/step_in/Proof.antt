@@ -42,7 +42,7 @@ returns-2 c =
       tt,
       (
         λ now d s o u k n ws once at e.
-            idle-worker (benchOf (a .kind) (a .width) (a .words) (a .crew) (a .queue) (a .written) d s o u n ws) (a .worker) (a .line) _ _
+            idle-worker (a .room) (benchOf (a .kind) (a .width) (a .words) (a .crew) (a .queue) (a .written) d s o u n ws) (a .worker) (a .line) _ _
             (ap (lineAt ws) (sym (at (omega (arith, h, start .pre .crew)))) ∙ e) h (sym (c .before .is-idle .ensures) ∙ c .if2 .taken),
         (
           λ joins. plans-rest h (sym (c .before .is-idle .ensures) ∙ c .if2 .taken) refl,
@@ -76,7 +76,7 @@ returns-3 c =
             let b = benchOf (a .kind) (a .width) (a .words) (a .crew) (a .queue) (a .written) d s o u n ws in
             let is = at (omega (arith, h, start .pre .crew)) in
             ap (λ (j : ℕ). movedBy b j x made.Links m l) is
-            ∙ line-links b (a .worker) (a .line) m l (ap (lineAt ws) (sym is) ∙ e) h once (start .pre .held h) x (c .before .before .next-line .ensures)
+            ∙ line-links (a .room) b (a .worker) (a .line) m l (ap (lineAt ws) (sym is) ∙ e) h once (start .pre .held h) x (c .before .before .next-line .ensures)
             (sym (c .before .links .ensures) ∙ c .if3 .taken),
         (
           λ joins. plans-no-link h (sym (c .before .before .before .before .before .is-idle .ensures) ∙ c .before .before .before .before .if2 .left) (sym (c .before .links .ensures) ∙ c .if3 .taken),
@@ -91,7 +91,7 @@ tag-bits-requires c κs = search needs
 decide-requires : tie.Need-decide-requires
 decide-requires c κs =
     let start = c .before .before .before .before .before .before .before .before .before .before .before in
-    (few-bits (start .args .queue .linked) (start .args .width) (c .before .tag-bits .ensures) (start .pre .narrow), (start .pre .ground, start .pre .ready (c .before .before .before .before .before .before .before .before .if1 .left)))
+    (few-bits (start .args .queue .linked) (start .args .width) (c .before .tag-bits .ensures) (start .pre .narrow), (start .pre .room, (start .pre .ground, start .pre .ready (c .before .before .before .before .before .before .before .before .if1 .left))))
 
 same-length-2 : tie.Need-same-length-2
 same-length-2 c = search needs
@@ -109,7 +109,7 @@ returns-4 c =
         (
           λ joins.
               plans-action (c .before .before .before .before .before .before .before .before .before .before .if1 .left) (sym (c .before .before .before .before .before .before .before .before .before .is-idle .ensures) ∙ c .before .before .before .before .before .before .before .before .if2 .left) _ refl (c .before .before .before .before .before .before .next-line .ensures _)
-              (subst (λ (w : ℕ). Does (a .words) (lineStep (a .kind) w (a .words) (a .queue) m (a .worker) (a .line)) (c .before .decide .result)) (c .before .before .before .tag-bits .ensures) (decided .0))
+              (subst (λ (w : ℕ). Does (a .room) (a .words) (lineStep (a .room) (a .kind) w (a .words) (a .queue) m (a .worker) (a .line)) (c .before .decide .result)) (c .before .before .before .tag-bits .ensures) (decided .0))
               (decided .1 .0),
           λ joins. (refl, refl),
         ),
@@ -144,11 +144,11 @@ returns-5 c =
         λ now d s o u k n ws once at e.
             let b = benchOf (a .kind) (a .width) (a .words) (a .crew) (a .queue) (a .written) d s o u n ws in
             let is = at (omega (arith, h, start .pre .crew)) in
-            same-moved b k x made (at-act .act .ensures .1 .0) (at-act .act .ensures .1 .1)
-            ∙ ap (λ (j : ℕ). movedBy b j x (actedBy (a .words) (a .written) l (a .queue) act) (leftBy (a .words) (shared (a .queue) m) act .store) (logAfter (a .words) (a .written) l act)) is
-            ∙ line-done b (a .worker) (a .line) m l (ap (lineAt ws) (sym is) ∙ e) h once (start .pre .held h) x (at-next .next-line .ensures) act
+            same-moved b k x made (at-act .act .ensures .1 .0 (a .room) (at-decide .decide .ensures .0 .place)) (at-act .act .ensures .1 .1)
+            ∙ ap (λ (j : ℕ). movedBy b j x (actedBy (a .words) (a .written) l (a .queue) act) (leftBy (a .room) (a .words) (shared (a .queue) m) act .store) (logAfter (a .words) (a .written) l act)) is
+            ∙ line-done (a .room) b (a .worker) (a .line) m l (ap (lineAt ws) (sym is) ∙ e) h once (start .pre .held h) x (at-next .next-line .ensures) act
             (sym (c .before .before .before .before .before .before .before .before .before .before .before .before .before .before .before .before .is-idle .ensures) ∙ c .before .before .before .before .before .before .before .before .before .before .before .before .before .before .before .if2 .left) (sym (c .before .before .before .before .before .before .before .before .before .before .before .before .links .ensures) ∙ c .before .before .before .before .before .before .before .before .before .before .before .if3 .left) safe
-            (subst (λ (w : ℕ). Does (a .words) (lineStep (a .kind) w (a .words) (a .queue) m (a .worker) (a .line)) act) (c .before .before .before .before .before .before .before .before .before .before .tag-bits .ensures) (at-decide .decide .ensures .0))
+            (subst (λ (w : ℕ). Does (a .room) (a .words) (lineStep (a .room) (a .kind) w (a .words) (a .queue) m (a .worker) (a .line)) act) (c .before .before .before .before .before .before .before .before .before .before .tag-bits .ensures) (at-decide .decide .ensures .0))
             (at-decide .decide .ensures .1 .1),
         (
           λ joins. absurd (true≢false (sym joins ∙ c .before .before .before .before .before .before .before .if4 .left)),

@@ -1,22 +1,19 @@
 use borrow.Author.Needs.{needs}
 use mathlib.Core.Path.{_∙_}
 use borrow.Author.Tests.{lt-ltb, le-ltb}
-use Rattle.model.specs.Calls.{beginOf}
 use Rattle.model.proofs.Tests.{if-true, if-false, passed, refused}
 use Rattle.opening.proofs.begin_stop.Statement.{statement}
 use Rattle.opening.proofs.begin_stop.Tie as tie
 
 returns : tie.Need-returns
-unfolding beginOf
-returns c = λ m l v. if-true _ v ∙ if-false _ (le-ltb _ _ (c .if1 .taken))
+returns c = λ m l. if-false _ (le-ltb _ _ (c .if1 .taken))
 
 right-hand-requires : tie.Need-right-hand-requires
 right-hand-requires c κs = search needs
 
 returns-2 : tie.Need-returns-2
-unfolding beginOf
-returns-2 c = λ m l v.
-    if-true _ v ∙ if-true _ (lt-ltb _ _ (c .before .before .if1 .left))
+returns-2 c = λ m l.
+    if-true _ (lt-ltb _ _ (c .before .before .if1 .left))
     ∙ if-false _ (refused (c .before .right-hand .ensures) (c .if2 .taken))
 
 mul-own : tie.Need-mul-own
@@ -29,9 +26,8 @@ is-idle-requires : tie.Need-is-idle-requires
 is-idle-requires c κs = search needs
 
 returns-3 : tie.Need-returns-3
-unfolding beginOf
-returns-3 c = λ m l v.
-    if-true _ v ∙ if-true _ (lt-ltb _ _ (c .before .before .before .before .before .if1 .left))
+returns-3 c = λ m l.
+    if-true _ (lt-ltb _ _ (c .before .before .before .before .before .if1 .left))
     ∙ if-true _ (passed (c .before .before .before .before .right-hand .ensures) (c .before .before .before .if2 .left))
     ∙ if-false _ (refused (c .before .is-idle .ensures) (c .if3 .taken))
 
@@ -39,9 +35,8 @@ numbers-left-requires : tie.Need-numbers-left-requires
 numbers-left-requires c κs = search needs
 
 returns-4 : tie.Need-returns-4
-unfolding beginOf
-returns-4 c = λ m l v.
-    if-true _ v ∙ if-true _ (lt-ltb _ _ (c .before .before .before .before .before .before .before .if1 .left))
+returns-4 c = λ m l.
+    if-true _ (lt-ltb _ _ (c .before .before .before .before .before .before .before .if1 .left))
     ∙ if-true _ (passed (c .before .before .before .before .before .before .right-hand .ensures) (c .before .before .before .before .before .if2 .left))
     ∙ if-true _ (passed (c .before .before .before .is-idle .ensures) (c .before .before .if3 .left))
     ∙ if-false _ (refused (c .before .numbers-left .ensures) (c .if4 .taken))
@@ -50,21 +45,19 @@ asked-requires : tie.Need-asked-requires
 asked-requires c κs = search needs
 
 returns-5 : tie.Need-returns-5
-unfolding beginOf
-returns-5 c = λ m l v.
-    if-true _ v ∙ if-true _ (lt-ltb _ _ (c .before .before .before .before .before .before .before .before .before .if1 .left))
+returns-5 c = λ m l.
+    if-true _ (lt-ltb _ _ (c .before .before .before .before .before .before .before .before .before .if1 .left))
     ∙ if-true _ (passed (c .before .before .before .before .before .before .before .before .right-hand .ensures) (c .before .before .before .before .before .before .before .if2 .left))
     ∙ if-true _ (passed (c .before .before .before .before .before .is-idle .ensures) (c .before .before .before .before .if3 .left))
     ∙ if-true _ (passed (c .before .before .before .numbers-left .ensures) (c .before .before .if4 .left))
     ∙ if-false _ (refused (c .before .asked .ensures) (c .if5 .taken))
 
 returns-6 : tie.Need-returns-6
-unfolding beginOf
 returns-6 c =
     let at-if1 = c .before .before .before .before .before .before .before .before .before in
-    λ m l v. (
+    λ m l. (
       at-if1 .if1 .left,
-      if-true _ v ∙ if-true _ (lt-ltb _ _ (at-if1 .if1 .left))
+      if-true _ (lt-ltb _ _ (at-if1 .if1 .left))
           ∙ if-true _ (passed (c .before .before .before .before .before .before .before .before .right-hand .ensures) (c .before .before .before .before .before .before .before .if2 .left))
           ∙ if-true _ (passed (c .before .before .before .before .before .is-idle .ensures) (c .before .before .before .before .if3 .left))
           ∙ if-true _ (passed (c .before .before .before .numbers-left .ensures) (c .before .before .if4 .left))

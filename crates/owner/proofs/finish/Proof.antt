@@ -41,7 +41,7 @@ returns : tie.Need-returns
 returns c =
     let start = c .before .before .before .before .before .before .before .before .before .before in
     let a = start .args in
-    λ m valid view kept plan.
+    λ ρ m valid view kept plan.
     let back = c .before .before .before .before .lift .ensures m view kept in
     refuses (a .bench) m (a .log .now) valid (c .refused .ensures) back refl (idles (a .bench) m (a .log .now) valid view plan (c .before .match .keys2))
 
@@ -61,7 +61,7 @@ returns-2 : tie.Need-returns-2
 returns-2 c =
     let start = c .before .before .before .before .before .before .before .before .before .before .before .before .before .before .before in
     let a = start .args in
-    λ m valid view kept plan.
+    λ ρ m valid view kept plan.
     let back = c .before .before .before .before .before .before .before .before .before .lift .ensures m view kept in
     let P = planned (a .bench) m (a .log .now) valid view plan _ (c .before .before .before .before .before .made .given .1) in
     refuses (a .bench) m (a .log .now) valid (c .refused2 .ensures) back refl (crowded (a .bench) m (a .log .now) valid (start .pre .0) P (c .before .before .before .stores-in .ensures) (c .before .if1 .taken))
@@ -136,7 +136,7 @@ returns-3 : tie.Need-returns-3
 returns-3 c =
     let start = c .before .before .before .before .before .before .before .before .before .before .before .before .before .before .before .before .before .before .before .before .before .before .before .before .before in
     let a = start .args in
-    λ m valid view kept plan.
+    λ ρ m valid view kept plan.
     let back = c .before .before .before .before .before .before .before .before .before .before .before .before .before .before .before .before .before .before .before .lift .ensures m view kept in
     let P = planned (a .bench) m (a .log .now) valid view plan _ (c .before .before .before .before .before .before .before .before .before .before .before .before .before .before .before .made .given .1) in
     let logged = c .before .before .before .before .log-answer .ensures in
@@ -161,7 +161,7 @@ returns-4 : tie.Need-returns-4
 returns-4 c =
     let start = c .before .before .before .before .before .before .before .before .before .before .before .before .before .before .before .before .before .before .before .before .before .before .before .before .before in
     let a = start .args in
-    λ m valid view kept plan.
+    λ ρ m valid view kept plan.
     let back = c .before .before .before .before .before .before .before .before .before .before .before .before .before .before .before .before .before .before .before .lift .ensures m view kept in
     let P = planned (a .bench) m (a .log .now) valid view plan _ (c .before .before .before .before .before .before .before .before .before .before .before .before .before .before .before .made .given .1) in
     let e = sym (c .before .before .before .before .before .before .before .before .before .at-once .ensures) ∙ c .before .before .before .before .before .before .before .offset .given .1 in
@@ -177,7 +177,7 @@ returns-5 : tie.Need-returns-5
 returns-5 c =
     let start = c .before .before .before .before .before .before .before .before .before .before .before .before .before .before .before .before .before .before .before .before .before .before .before .before .before in
     let a = start .args in
-    λ m valid view kept plan.
+    λ ρ m valid view kept plan.
     let back = c .before .before .before .before .before .before .before .before .before .before .before .before .before .before .before .before .before .before .before .lift .ensures m view kept in
     let P = planned (a .bench) m (a .log .now) valid view plan _ (c .before .before .before .before .before .before .before .before .before .before .before .before .before .before .before .made .given .1) in
     let logged = c .before .before .before .before .log-answer .ensures in
@@ -192,7 +192,7 @@ returns-6 : tie.Need-returns-6
 returns-6 c =
     let start = c .before .before .before .before .before .before .before .before .before .before .before .before .before .before .before .before .before in
     let a = start .args in
-    λ m valid view kept plan.
+    λ ρ m valid view kept plan.
     let back = c .before .before .before .before .before .before .before .before .before .before .before .lift .ensures m view kept in
     let P = planned (a .bench) m (a .log .now) valid view plan _ (c .before .before .before .before .before .before .before .made .given .1) in
     goes-on (a .bench) m (a .log .now) valid (start .pre .0) P (c .before .before .before .before .before .stores-in .ensures) (c .before .before .before .if1 .left) (c .before .before .join-all .ensures)

@@ -11,7 +11,7 @@ use Rattle.model.specs.Tasks.{wordIn}
 use Rattle.model.specs.Stores.{joined}
 use Rattle.model.proofs.Arrays.{mapped-length}
 use Rattle.lines.specs.Actions.{wordStores}
-use Rattle.machine.proofs.Moves.{joined-none}
+use Rattle.model.proofs.Landing.{joined-none}
 use Rattle.owner.proofs.Joining.{words-long, joined-more}
 use Rattle.owner.proofs.join_task.Statement.{statement}
 use Rattle.owner.proofs.join_task.Tie as tie

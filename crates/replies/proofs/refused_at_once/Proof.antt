@@ -61,17 +61,17 @@ returns-5 : tie.Need-returns-5
 unfolding respond
 returns-5 c =
     let a = c .before .before .before .before .before .before .before .args in
-    λ m l v. let h = not-false _ (c .before .before .before .before .before .before .if1 .left) in begin-at-once _ _ _ _ (a .command) (c .begin-stop .result) h (c .begin-stop .ensures m l (v h)) (ap (respond (playing (lent (a .bench) m l))) (c .before .before .before .before .command .given .1) ∙ put-right (lent (a .bench) m l) _ _ (c .before .if2 .left))
+    λ m l v. let h = not-false _ (c .before .before .before .before .before .before .if1 .left) in begin-at-once _ _ _ _ (a .command) (c .begin-stop .result) h (v h) (c .begin-stop .ensures m l) (ap (respond (playing (lent (a .bench) m l))) (c .before .before .before .before .command .given .1) ∙ put-right (lent (a .bench) m l) _ _ (c .before .if2 .left))
 
 returns-6 : tie.Need-returns-6
 unfolding respond
-returns-6 c = λ m l v. let h = not-false _ (c .before .before .before .if1 .left) in begin-at-once _ _ _ _ (c .before .before .before .before .args .command) (c .begin-stop2 .result) h (c .begin-stop2 .ensures m l (v h)) (ap (respond (playing (lent (c .before .before .before .before .args .bench) m l))) (c .before .enum-told2 .given .1))
+returns-6 c = λ m l v. let h = not-false _ (c .before .before .before .if1 .left) in begin-at-once _ _ _ _ (c .before .before .before .before .args .command) (c .begin-stop2 .result) h (v h) (c .begin-stop2 .ensures m l) (ap (respond (playing (lent (c .before .before .before .before .args .bench) m l))) (c .before .enum-told2 .given .1))
 
 returns-7 : tie.Need-returns-7
 unfolding respond
 returns-7 c =
     let start = c .before .before .before .before .before in
-    λ m l v. let h = not-false _ (c .before .before .before .before .if1 .left) in begin-at-once _ _ _ _ (start .args .command) (c .begin-stop3 .result) h (c .begin-stop3 .ensures m l (v h)) (ap (respond (playing (lent (start .args .bench) m l))) (c .before .before .command2 .given .1))
+    λ m l v. let h = not-false _ (c .before .before .before .before .if1 .left) in begin-at-once _ _ _ _ (start .args .command) (c .begin-stop3 .result) h (v h) (c .begin-stop3 .ensures m l) (ap (respond (playing (lent (start .args .bench) m l))) (c .before .before .command2 .given .1))
 
 returns-8 : tie.Need-returns-8
 returns-8 c = search needs

@@ -4,8 +4,12 @@ use mathlib.Core.Path.{refl, sym, ap, subst, _∙_}
 use native.Mathlib.Omega.{arith}
 use lib.ListN.{set}
 use borrow.Author.Needs.{needs}
-use Rattle.model.specs.Calls.{lent, stepOf}
+use Rattle.model.specs.declared.Room.{Room}
+use Rattle.model.specs.Limits.{Within}
+use Rattle.model.specs.Calls.{lent, stepIn, stepOf}
 use Rattle.model.proofs.Tests.{if-true, if-false, passed, refused}
+use Rattle.model.proofs.Alone.{within-alone}
+use Rattle.limits.proofs.Alone.{room-alone}
 use Rattle.limits.proofs.Waits.{waits-few, waits-noted, waits-placed}
 use Rattle.machine.proofs.Stepping.{settles, restarts, replaces}
 use Rattle.waiting.specs.Places.{KeptBy}
@@ -13,7 +17,7 @@ use Rattle.owner.proofs.Places.{lifts}
 use Rattle.queues.specs.declared.Reply.{Reply}
 use Rattle.queues.specs.Left.{left}
 use Rattle.queues.proofs.Faces.{reply-left}
-use Rattle.queues.proofs.Looks.{Looks, same-long, steps, lands, fits-past, past-nothing, past-fails, can-finish, finishes}
+use Rattle.steps.proofs.Looks.{Looks, same-long, steps, lands, fits-past, past-nothing, past-fails, can-finish, finishes}
 use Rattle.queues.proofs.Bench.step.Statement.{statement}
 use Rattle.queues.proofs.Bench.step.Tie as tie
 use Rattle.queues.proofs.Bench.step.Reads as reads
@@ -23,7 +27,8 @@ use Rattle.machine.proofs.place_of.Reads as place-of-reads
 use Rattle.machine.proofs.settled.Reads as settled-reads
 use Rattle.machine.proofs.step_in.Reads as step-in-reads
 use Rattle.owner.proofs.finish.Reads as finish-reads
-use Rattle.queues.proofs.delays.Reads as delays-reads
+use Rattle.steps.proofs.delays.Reads as delays-reads
+use Rattle.slots.proofs.room_alone.Reads as room-alone-reads
 use Rattle.queues.proofs.refused.Reads as refused-reads
 use Rattle.queues.proofs.reply_of.Reads as reply-of-reads
 use Rattle.stages.proofs.one_more.Reads as one-more-reads
@@ -31,10 +36,10 @@ use Rattle.waiting.proofs.put_down.Reads as put-down-reads
 use Rattle.waiting.proofs.seen.Reads as seen-reads
 
 -- what the step reads
-looks : (c : lts.Joined2 (valid-reads.Asked, valid-reads.Learnt, refused-reads.Asked, refused-reads.Learnt, place-of-reads.Asked, place-of-reads.Learnt, delays-reads.Asked, delays-reads.Learnt, seen-reads.Asked, seen-reads.Learnt, put-down-reads.Asked, put-down-reads.Learnt, step-in-reads.Asked, step-in-reads.Learnt, one-more-reads.Asked, one-more-reads.Learnt, finish-reads.Asked, finish-reads.Learnt, reply-of-reads.Asked, reply-of-reads.Learnt, settled-reads.Asked, settled-reads.Learnt) reads.Pre reads.Post)
-    → Looks (lent (c .before .before .before .before .before .before .before .before .before .before .before .before .args .self .state) (c .before .before .before .before .before .before .before .before .before .before .before .before .args .store .now) (c .before .before .before .before .before .before .before .before .before .before .before .before .args .log .now)) (c .before .before .delays .result) (c .if2 .queue) (c .if2 .store) (c .if2 .kept)
+looks : (c : lts.Joined2 (valid-reads.Asked, valid-reads.Learnt, refused-reads.Asked, refused-reads.Learnt, room-alone-reads.Asked, room-alone-reads.Learnt, place-of-reads.Asked, place-of-reads.Learnt, delays-reads.Asked, delays-reads.Learnt, seen-reads.Asked, seen-reads.Learnt, put-down-reads.Asked, put-down-reads.Learnt, step-in-reads.Asked, step-in-reads.Learnt, one-more-reads.Asked, one-more-reads.Learnt, finish-reads.Asked, finish-reads.Learnt, reply-of-reads.Asked, reply-of-reads.Learnt, settled-reads.Asked, settled-reads.Learnt) reads.Pre reads.Post)
+    → Looks (lent (c .before .before .before .before .before .before .before .before .before .before .before .before .before .before .before .args .self .state) (c .before .before .before .before .before .before .before .before .before .before .before .before .before .before .before .args .store .now) (c .before .before .before .before .before .before .before .before .before .before .before .before .before .before .before .args .log .now)) (c .before .before .delays .result) (c .if2 .queue) (c .if2 .store) (c .if2 .kept)
 looks c =
-    let start = c .before .before .before .before .before .before .before .before .before .before .before .before in
+    let start = c .before .before .before .before .before .before .before .before .before .before .before .before .before .before .before in
     let a = start .args in
     let b = a .self .state in
     record {
@@ -70,6 +75,11 @@ returns c =
     ap (λ (r : Reply). left r (a .store .now) (a .log .now)) (c .refused .ensures)
     ∙ sym (if-false _ (refused (c .before .before .valid .ensures) (c .before .if1 .taken)))
 
+room-alone-requires : tie.Need-room-alone-requires
+room-alone-requires c κs =
+    let a = c .before .before .before .before .before .before .before .before .before .args in
+    room-alone (lent (a .self .state) (a .store .now) (a .log .now)) (passed (c .before .before .before .valid .ensures) (c .before .before .if1 .left))
+
 place-of-requires : tie.Need-place-of-requires
 place-of-requires c κs = search needs
 
@@ -85,33 +95,36 @@ delays-requires c κs = search needs
 seen-requires : tie.Need-seen-requires
 seen-requires c κs =
     let at-place-of = c .before .before .before .before .before .before in
-    let at-valid = at-place-of .before .before in
+    let at-valid = at-place-of .before .before .before .before .before in
     let a = at-valid .before .before .before .before .before .before .args in
     let b = a .self .state in
     let W = lent b (a .store .now) (a .log .now) in
-    let valid = passed (at-valid .valid .ensures) (at-place-of .before .if1 .left) in
+    let tested = passed (at-valid .valid .ensures) (at-place-of .before .before .before .before .if1 .left) in
+    let valid = subst (λ (ρ : Room). Within ρ W) (sym (at-place-of .before .room-alone .ensures)) (within-alone W tested) in
     let is = c .before .before .before .before .delays .ensures in
-    (waits-few W valid, waits-noted W valid)
+    (waits-few W (valid .limits), waits-noted W (valid .limits))
 
 put-down-requires : tie.Need-put-down-requires
 put-down-requires c κs =
     let at-place-of = c .before .before .before .before .before .before .before .before .before .before in
-    let at-valid = at-place-of .before .before in
+    let at-valid = at-place-of .before .before .before .before .before in
     let a = at-valid .before .before .before .before .before .before .args in
     let b = a .self .state in
     let W = lent b (a .store .now) (a .log .now) in
-    let valid = passed (at-valid .valid .ensures) (at-place-of .before .if1 .left) in
+    let tested = passed (at-valid .valid .ensures) (at-place-of .before .before .before .before .if1 .left) in
+    let valid = subst (λ (ρ : Room). Within ρ W) (sym (at-place-of .before .room-alone .ensures)) (within-alone W tested) in
     let is = c .before .before .before .before .before .before .before .before .delays .ensures in
-    (lifts W valid refl .wide, (waits-few W valid, waits-placed W valid))
+    (lifts W valid refl .wide, (waits-few W (valid .limits), waits-placed W (valid .limits) (omega (arith, valid .behind, valid .inside))))
 
 step-in-requires : tie.Need-step-in-requires
 step-in-requires c κs =
     let at-place-of = c .before .before .before .before .before .before in
-    let at-valid = at-place-of .before .before in
+    let at-valid = at-place-of .before .before .before .before .before in
     let a = at-valid .before .before .before .before .before .before .args in
     let b = a .self .state in
     let W = lent b (a .store .now) (a .log .now) in
-    let valid = passed (at-valid .valid .ensures) (at-place-of .before .if1 .left) in
+    let tested = passed (at-valid .valid .ensures) (at-place-of .before .before .before .before .if1 .left) in
+    let valid = subst (λ (ρ : Room). Within ρ W) (sym (at-place-of .before .room-alone .ensures)) (within-alone W tested) in
     let is = c .before .before .before .before .delays .ensures in
     let k = at-place-of .place-of .result in
     let at = at-place-of .place-of .ensures .1 in
@@ -148,16 +161,17 @@ element-set-from-back c = search needs
 same-length-3 : tie.Need-same-length-3
 same-length-3 c =
     let at-place-of = c .before .before .before .before .before .before .before .before .before .before .before .before .before .before .before .before in
-    let at-valid = at-place-of .before .before in
+    let at-valid = at-place-of .before .before .before .before .before in
     let a = at-valid .before .before .before .before .before .before .args in
     let b = a .self .state in
     let W = lent b (a .store .now) (a .log .now) in
-    let valid = passed (at-valid .valid .ensures) (at-place-of .before .if1 .left) in
+    let tested = passed (at-valid .valid .ensures) (at-place-of .before .before .before .before .if1 .left) in
+    let valid = subst (λ (ρ : Room). Within ρ W) (sym (at-place-of .before .room-alone .ensures)) (within-alone W tested) in
     let is = c .before .before .before .before .before .before .before .before .before .before .before .before .before .before .delays .ensures in
     let k = at-place-of .place-of .result in
     let at = at-place-of .place-of .ensures .1 in
     let L = looks (c .before .before .before .before .before .before .before .before .before .before .before .before) in
-    c .before .before .before .before .before .before .before .before .before .step-in .kept .1 .1 .1 .1 .1 .1 .1 .1 .1 .0 ∙ same-long W (a .worker) k valid at is L
+    c .before .before .before .before .before .before .before .before .before .step-in .kept .1 .1 .1 .1 .1 .1 .1 .1 .1 .1 .0 ∙ same-long W (a .worker) k valid at is L
 
 same-length-4 : tie.Need-same-length-4
 same-length-4 c = search needs
@@ -166,11 +180,12 @@ returns-2 : tie.Need-returns-2
 unfolding stepOf
 returns-2 c =
     let at-place-of = c .before .before .before .before .before .before .before .before .before .before .before .before .before .before .before .before in
-    let at-valid = at-place-of .before .before in
+    let at-valid = at-place-of .before .before .before .before .before in
     let a = at-valid .before .before .before .before .before .before .args in
     let b = a .self .state in
     let W = lent b (a .store .now) (a .log .now) in
-    let valid = passed (at-valid .valid .ensures) (at-place-of .before .if1 .left) in
+    let tested = passed (at-valid .valid .ensures) (at-place-of .before .before .before .before .if1 .left) in
+    let valid = subst (λ (ρ : Room). Within ρ W) (sym (at-place-of .before .room-alone .ensures)) (within-alone W tested) in
     let is = c .before .before .before .before .before .before .before .before .before .before .before .before .before .before .delays .ensures in
     let k = at-place-of .place-of .result in
     let at = at-place-of .place-of .ensures .1 in
@@ -180,16 +195,17 @@ returns-2 c =
     let made = c .before .before .enum-told2 .given .1 in
     let step = lands W (a .worker) k valid at is L (at-step .step-in .result .line) (at-step .step-in .result .made) (got .1 .0) (past-fails W (a .worker) k valid at is L (got .1 .1 .0) made) in
     restarts b k (at-step .step-in .result .line) (at-step .step-in .result .made) step made (ap (set (b .restarts) k) (c .one-more .ensures))
-    ∙ sym (if-true _ valid)
+    ∙ ap (λ (ρ : Room). stepIn ρ W (a .worker)) (at-place-of .before .room-alone .ensures) ∙ sym (if-true _ tested)
 
 finish-requires : tie.Need-finish-requires
 finish-requires c κs =
     let at-place-of = c .before .before .before .before .before .before .before .before .before .before .before .before .before .before .before .before in
-    let at-valid = at-place-of .before .before in
+    let at-valid = at-place-of .before .before .before .before .before in
     let a = at-valid .before .before .before .before .before .before .args in
     let b = a .self .state in
     let W = lent b (a .store .now) (a .log .now) in
-    let valid = passed (at-valid .valid .ensures) (at-place-of .before .if1 .left) in
+    let tested = passed (at-valid .valid .ensures) (at-place-of .before .before .before .before .if1 .left) in
+    let valid = subst (λ (ρ : Room). Within ρ W) (sym (at-place-of .before .room-alone .ensures)) (within-alone W tested) in
     let is = c .before .before .before .before .before .before .before .before .before .before .before .before .before .before .delays .ensures in
     let k = at-place-of .place-of .result in
     let at = at-place-of .place-of .ensures .1 in
@@ -205,16 +221,17 @@ reply-of-requires c κs = search needs
 same-length-5 : tie.Need-same-length-5
 same-length-5 c =
     let at-place-of = c .before .before .before .before .before .before .before .before .before .before .before .before .before .before .before .before .before .before .before .before .before .before in
-    let at-valid = at-place-of .before .before in
+    let at-valid = at-place-of .before .before .before .before .before in
     let a = at-valid .before .before .before .before .before .before .args in
     let b = a .self .state in
     let W = lent b (a .store .now) (a .log .now) in
-    let valid = passed (at-valid .valid .ensures) (at-place-of .before .if1 .left) in
+    let tested = passed (at-valid .valid .ensures) (at-place-of .before .before .before .before .if1 .left) in
+    let valid = subst (λ (ρ : Room). Within ρ W) (sym (at-place-of .before .room-alone .ensures)) (within-alone W tested) in
     let is = c .before .before .before .before .before .before .before .before .before .before .before .before .before .before .before .before .before .before .before .before .delays .ensures in
     let k = at-place-of .place-of .result in
     let at = at-place-of .place-of .ensures .1 in
     let L = looks (c .before .before .before .before .before .before .before .before .before .before .before .before .before .before .before .before .before .before) in
-    c .before .before .before .before .before .finish .kept .1 .1 .1 .1 .0 ∙ c .before .before .before .before .before .before .before .before .before .before .before .before .before .before .before .step-in .kept .1 .1 .1 .1 .1 .1 .1 .1 .1 .0 ∙ same-long W (a .worker) k valid at is L
+    c .before .before .before .before .before .finish .kept .1 .1 .1 .1 .0 ∙ c .before .before .before .before .before .before .before .before .before .before .before .before .before .before .before .step-in .kept .1 .1 .1 .1 .1 .1 .1 .1 .1 .1 .0 ∙ same-long W (a .worker) k valid at is L
 
 same-length-6 : tie.Need-same-length-6
 same-length-6 c = search needs
@@ -223,11 +240,12 @@ returns-3 : tie.Need-returns-3
 unfolding stepOf
 returns-3 c =
     let at-place-of = c .before .before .before .before .before .before .before .before .before .before .before .before .before .before .before .before .before .before .before .before .before .before in
-    let at-valid = at-place-of .before .before in
+    let at-valid = at-place-of .before .before .before .before .before in
     let a = at-valid .before .before .before .before .before .before .args in
     let b = a .self .state in
     let W = lent b (a .store .now) (a .log .now) in
-    let valid = passed (at-valid .valid .ensures) (at-place-of .before .if1 .left) in
+    let tested = passed (at-valid .valid .ensures) (at-place-of .before .before .before .before .if1 .left) in
+    let valid = subst (λ (ρ : Room). Within ρ W) (sym (at-place-of .before .room-alone .ensures)) (within-alone W tested) in
     let is = c .before .before .before .before .before .before .before .before .before .before .before .before .before .before .before .before .before .before .before .before .delays .ensures in
     let k = at-place-of .place-of .result in
     let at = at-place-of .place-of .ensures .1 in
@@ -235,16 +253,17 @@ returns-3 c =
     let at-step = c .before .before .before .before .before .before .before .before .before .before .before .before .before .before .before in
     let got = at-step .step-in .ensures in
     reply-left (c .reply-of .ensures) (finishes W (a .worker) k valid at is L (got .1 .1 .0) (got .1 .1 .1) (c .before .before .before .before .before .before .before .before .if3 .taken) (c .before .before .before .before .before .finish .ensures))
-    ∙ sym (if-true _ valid)
+    ∙ ap (λ (ρ : Room). stepIn ρ W (a .worker)) (at-place-of .before .room-alone .ensures) ∙ sym (if-true _ tested)
 
 settled-requires : tie.Need-settled-requires
 settled-requires c κs =
     let at-place-of = c .before .before .before .before .before .before .before .before .before .before .before .before .before .before in
-    let at-valid = at-place-of .before .before in
+    let at-valid = at-place-of .before .before .before .before .before in
     let a = at-valid .before .before .before .before .before .before .args in
     let b = a .self .state in
     let W = lent b (a .store .now) (a .log .now) in
-    let valid = passed (at-valid .valid .ensures) (at-place-of .before .if1 .left) in
+    let tested = passed (at-valid .valid .ensures) (at-place-of .before .before .before .before .if1 .left) in
+    let valid = subst (λ (ρ : Room). Within ρ W) (sym (at-place-of .before .room-alone .ensures)) (within-alone W tested) in
     let is = c .before .before .before .before .before .before .before .before .before .before .before .before .delays .ensures in
     let k = at-place-of .place-of .result in
     let at = at-place-of .place-of .ensures .1 in
@@ -259,16 +278,17 @@ reply-of-requires-2 c κs = search needs
 same-length-7 : tie.Need-same-length-7
 same-length-7 c =
     let at-place-of = c .before .before .before .before .before .before .before .before .before .before .before .before .before .before .before .before in
-    let at-valid = at-place-of .before .before in
+    let at-valid = at-place-of .before .before .before .before .before in
     let a = at-valid .before .before .before .before .before .before .args in
     let b = a .self .state in
     let W = lent b (a .store .now) (a .log .now) in
-    let valid = passed (at-valid .valid .ensures) (at-place-of .before .if1 .left) in
+    let tested = passed (at-valid .valid .ensures) (at-place-of .before .before .before .before .if1 .left) in
+    let valid = subst (λ (ρ : Room). Within ρ W) (sym (at-place-of .before .room-alone .ensures)) (within-alone W tested) in
     let is = c .before .before .before .before .before .before .before .before .before .before .before .before .before .before .delays .ensures in
     let k = at-place-of .place-of .result in
     let at = at-place-of .place-of .ensures .1 in
     let L = looks (c .before .before .before .before .before .before .before .before .before .before .before .before) in
-    c .before .before .before .before .before .before .before .before .before .step-in .kept .1 .1 .1 .1 .1 .1 .1 .1 .1 .0 ∙ same-long W (a .worker) k valid at is L
+    c .before .before .before .before .before .before .before .before .before .step-in .kept .1 .1 .1 .1 .1 .1 .1 .1 .1 .1 .0 ∙ same-long W (a .worker) k valid at is L
 
 same-length-8 : tie.Need-same-length-8
 same-length-8 c = search needs
@@ -277,11 +297,12 @@ returns-4 : tie.Need-returns-4
 unfolding stepOf
 returns-4 c =
     let at-place-of = c .before .before .before .before .before .before .before .before .before .before .before .before .before .before .before .before in
-    let at-valid = at-place-of .before .before in
+    let at-valid = at-place-of .before .before .before .before .before in
     let a = at-valid .before .before .before .before .before .before .args in
     let b = a .self .state in
     let W = lent b (a .store .now) (a .log .now) in
-    let valid = passed (at-valid .valid .ensures) (at-place-of .before .if1 .left) in
+    let tested = passed (at-valid .valid .ensures) (at-place-of .before .before .before .before .if1 .left) in
+    let valid = subst (λ (ρ : Room). Within ρ W) (sym (at-place-of .before .room-alone .ensures)) (within-alone W tested) in
     let is = c .before .before .before .before .before .before .before .before .before .before .before .before .before .before .delays .ensures in
     let k = at-place-of .place-of .result in
     let at = at-place-of .place-of .ensures .1 in
@@ -290,10 +311,10 @@ returns-4 c =
     let got = at-step .step-in .ensures in
     let step = lands W (a .worker) k valid at is L (at-step .step-in .result .line) (at-step .step-in .result .made) (got .1 .0) (c .before .before .if3 .left) in
     reply-left (c .reply-of2 .ensures) (settles b k (at-step .step-in .result .line) (at-step .step-in .result .made) step (c .before .settled .ensures))
-    ∙ sym (if-true _ valid)
+    ∙ ap (λ (ρ : Room). stepIn ρ W (a .worker)) (at-place-of .before .room-alone .ensures) ∙ sym (if-true _ tested)
 
-mul-t26 : tie.Need-mul-t26
-mul-t26 c = search needs
+mul-t30 : tie.Need-mul-t30
+mul-t30 c = search needs
 
 element-set-from-next : tie.Need-element-set-from-next
 element-set-from-next c = search needs
@@ -301,16 +322,17 @@ element-set-from-next c = search needs
 same-length-9 : tie.Need-same-length-9
 same-length-9 c =
     let at-place-of = c .before .before .before .before .before .before .before .before .before .before .before .before .before in
-    let at-valid = at-place-of .before .before in
+    let at-valid = at-place-of .before .before .before .before .before in
     let a = at-valid .before .before .before .before .before .before .args in
     let b = a .self .state in
     let W = lent b (a .store .now) (a .log .now) in
-    let valid = passed (at-valid .valid .ensures) (at-place-of .before .if1 .left) in
+    let tested = passed (at-valid .valid .ensures) (at-place-of .before .before .before .before .if1 .left) in
+    let valid = subst (λ (ρ : Room). Within ρ W) (sym (at-place-of .before .room-alone .ensures)) (within-alone W tested) in
     let is = c .before .before .before .before .before .before .before .before .before .before .before .delays .ensures in
     let k = at-place-of .place-of .result in
     let at = at-place-of .place-of .ensures .1 in
     let L = looks (c .before .before .before .before .before .before .before .before .before) in
-    c .before .before .before .before .before .before .step-in .kept .1 .1 .1 .1 .1 .1 .1 .1 .1 .0 ∙ same-long W (a .worker) k valid at is L
+    c .before .before .before .before .before .before .step-in .kept .1 .1 .1 .1 .1 .1 .1 .1 .1 .1 .0 ∙ same-long W (a .worker) k valid at is L
 
 same-length-10 : tie.Need-same-length-10
 same-length-10 c = search needs
@@ -319,11 +341,12 @@ returns-5 : tie.Need-returns-5
 unfolding stepOf
 returns-5 c =
     let at-place-of = c .before .before .before .before .before .before .before .before .before .before .before .before .before in
-    let at-valid = at-place-of .before .before in
+    let at-valid = at-place-of .before .before .before .before .before in
     let a = at-valid .before .before .before .before .before .before .args in
     let b = a .self .state in
     let W = lent b (a .store .now) (a .log .now) in
-    let valid = passed (at-valid .valid .ensures) (at-place-of .before .if1 .left) in
+    let tested = passed (at-valid .valid .ensures) (at-place-of .before .before .before .before .if1 .left) in
+    let valid = subst (λ (ρ : Room). Within ρ W) (sym (at-place-of .before .room-alone .ensures)) (within-alone W tested) in
     let is = c .before .before .before .before .before .before .before .before .before .before .before .delays .ensures in
     let k = at-place-of .place-of .result in
     let at = at-place-of .place-of .ensures .1 in
@@ -333,7 +356,7 @@ returns-5 c =
     let made = c .enum-told .given .1 in
     let step = lands W (a .worker) k valid at is L (at-step .step-in .result .line) (at-step .step-in .result .made) (got .1 .0) (past-nothing W (a .worker) k valid at is L (got .1 .1 .0) made) in
     replaces b k (at-step .step-in .result .line) (at-step .step-in .result .made) step made
-    ∙ sym (if-true _ valid)
+    ∙ ap (λ (ρ : Room). stepIn ρ W (a .worker)) (at-place-of .before .room-alone .ensures) ∙ sym (if-true _ tested)
 
 pub step-spec : {M : Type 1} → statement M
 step-spec =
@@ -344,6 +367,7 @@ step-spec =
     same-length
     same-length-2
     returns
+    room-alone-requires
     place-of-requires
     mul-own
     element-copy-out-own
@@ -373,7 +397,7 @@ step-spec =
     same-length-7
     same-length-8
     returns-4
-    mul-t26
+    mul-t30
     element-set-from-next
     same-length-9
     same-length-10

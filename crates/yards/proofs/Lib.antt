@@ -1,0 +1,11 @@
+pub mod Writes
+pub mod Grounds
+pub mod Parts
+pub mod Claims
+pub mod Cover
+pub mod Mirror
+pub mod Likes
+pub mod Reflected
+pub mod Isolated
+pub mod Examples
+pub mod Swapped
