@@ -1,21 +1,21 @@
 // Foreign states, each beside the nearest one that is allowed: numbers, directories, anchors, and what a worker has read.
 ghost use Prim.Native.Nat.{_<_};
-use crate::said::report;
-use crate::states::anchor;
-use crate::states::base;
-use crate::states::base_of;
-use crate::states::begun_on;
-use crate::states::for_put;
-use crate::states::numbered;
-use crate::states::payload_of;
-use crate::states::task;
-use crate::states::try_anchor;
-use crate::states::try_state;
-use crate::states::with_line;
-use crate::states::with_pair;
 use model::Line;
 use model::Operation;
 use model::Task;
+use tries::anchor;
+use tries::base;
+use tries::base_of;
+use tries::begun_on;
+use tries::for_put;
+use tries::numbered;
+use tries::payload_of;
+use tries::report;
+use tries::task;
+use tries::try_anchor;
+use tries::try_state;
+use tries::with_line;
+use tries::with_pair;
 
 fn try_numbers(tried: &[u8], width: u32, crew: u32, used: u32, written: u32) {
     let mut state = base(1);

@@ -1,14 +1,14 @@
 // Links that fail for no reason, and links that no call leaves.
 ghost use Prim.Native.Nat.{_<_};
-use crate::said::report;
-use crate::states::anchor;
-use crate::states::base;
-use crate::states::played;
-use crate::states::try_anchor;
-use crate::states::try_state;
-use crate::states::with_line;
 use model::Line;
 use queues::Bench;
+use tries::anchor;
+use tries::base;
+use tries::played;
+use tries::report;
+use tries::try_anchor;
+use tries::try_state;
+use tries::with_line;
 
 // A linked LIFO queue with `count` tasks and a worker at `line`, its link held or not.
 fn linked(count: u32, worker: usize, line: Line, held: bool) -> model::Bench

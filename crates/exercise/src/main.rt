@@ -7,24 +7,19 @@ use model::Line;
 use model::Operation;
 use model::Setup;
 use queues::Bench;
-use queues::Reply;
-use said::report;
-use said::text;
-use states::base;
-use states::begun;
-use states::payload;
-use states::payload_of;
-use states::played;
-use states::stepped;
-use states::with_line;
+use tries::base;
+use tries::begun;
+use tries::payload;
+use tries::played;
+use tries::put;
+use tries::report;
+use tries::stepped;
+use tries::text;
+use tries::with_line;
 
-mod delayed;
 mod foreign;
-mod growth;
 mod links;
 mod restarts;
-mod said;
-mod states;
 
 // Each try has memory of its own: a store of 30 words and a log of 8.
 fn try_setup(tried: &[u8], kind: u32, width: u32, size: u32, crew: u32, words: u32) {
@@ -165,24 +160,6 @@ fn front_text(bench: Bench, log: &[u32]) {
     text(b" words\n");
 }
 
-// So many steps of the owner, on what a call left.
-fn steps(reply: Reply, lines: u32, store: &mut [u32], log: &mut [u32]) -> Reply {
-    let mut last = reply;
-    let mut line: u32 = 0;
-    while line < lines {
-        line += 1;
-        last = last.bench.step(0, store, log);
-    }
-    last
-}
-
-// A put from its begin to its last line: it does so many lines.
-fn put(bench: Bench, lines: u32, store: &mut [u32], log: &mut [u32]) -> Reply {
-    let payload = payload_of(65, 66, 67, 68);
-    let begun = bench.begin(0, Operation::Put { payload }, store, log);
-    steps(begun, lines, store, log)
-}
-
 // Two puts of so many payload words and lines, of which the end of the second is told: the first has left fewer words in the log.
 fn try_log(tried: &[u8], words: u32, lines: u32, log: &mut [u32]) {
     let mut store = [0u32; 10];
@@ -283,29 +260,4 @@ fn main() {
     links::marks();
     restarts::counts();
     restarts::ceilings();
-    delayed::lengths();
-    delayed::words();
-    delayed::notes();
-    delayed::anchors();
-    delayed::fifo();
-    delayed::owners_array();
-    delayed::full();
-    delayed::full_growth();
-    delayed::full_order();
-    growth::asks();
-    growth::space();
-    growth::sizes();
-    growth::asides();
-    growth::asides_fit();
-    growth::asides_size();
-    growth::asides_at_x1();
-    growth::asides_of_a_put();
-    growth::asides_of_a_commit();
-    growth::two_notes();
-    growth::two_notes_sizes();
-    growth::two_notes_asides();
-    growth::full();
-    growth::log_room();
-    growth::puts();
-    growth::empty();
 }

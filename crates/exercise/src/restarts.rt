@@ -1,14 +1,14 @@
 // The restarts of each worker: who is refused, and what a compare that fails counts.
-use crate::said::say_tally;
-use crate::said::text;
-use crate::states::anchor;
-use crate::states::base;
-use crate::states::played;
-use crate::states::task;
-use crate::states::with_line;
 use model::Line;
 use model::Tally;
 use queues::Bench;
+use tries::anchor;
+use tries::base;
+use tries::played;
+use tries::say_tally;
+use tries::task;
+use tries::text;
+use tries::with_line;
 
 // A bench on which thief 1 of 3 is at its compare, and the anchor is not the one that it read. Its restarts so far are `count`, the
 // owner's 9 and thief 2's 5.

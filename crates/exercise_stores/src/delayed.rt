@@ -1,26 +1,26 @@
 // Delayed stores: waiting lines that no call leaves, each beside the nearest one that is allowed, and steps whose stores have no
 // place in the line.
 ghost use Prim.Native.Nat.{_<_};
-use crate::said::number;
-use crate::said::report;
-use crate::said::say_of;
-use crate::said::text;
-use crate::states::anchor;
-use crate::states::base;
-use crate::states::for_put;
-use crate::states::made;
-use crate::states::played;
-use crate::states::stepped;
-use crate::states::task;
-use crate::states::with_anchor;
-use crate::states::with_line;
-use crate::states::with_pair;
 use model::Anchor;
 use model::Line;
 use model::Operation;
 use model::Pending;
 use model::Store;
 use queues::Bench;
+use tries::anchor;
+use tries::base;
+use tries::for_put;
+use tries::made;
+use tries::number;
+use tries::played;
+use tries::report;
+use tries::say_of;
+use tries::stepped;
+use tries::task;
+use tries::text;
+use tries::with_anchor;
+use tries::with_line;
+use tries::with_pair;
 
 pub fn delayed(kind: u32) -> model::Bench {
     made(kind, 1, true)
@@ -66,16 +66,18 @@ fn try_calls(tried: &[u8], state: model::Bench) {
     text(b"\n");
 }
 
+// So many stores wait, with the mode or without it.
+fn try_count(tried: &[u8], mode: bool, count: u32) {
+    try_calls(tried, with_count(made(1, 1, mode), count));
+}
+
 pub fn lengths() {
-    try_calls(b"no store waits", delayed(1));
-    try_calls(b"8 stores wait", with_count(delayed(1), 8));
-    try_calls(b"9 stores wait", with_count(delayed(1), 9));
-    try_calls(
-        b"4294967295 stores wait",
-        with_count(delayed(1), 4294967295),
-    );
-    try_calls(b"no store waits, without the mode", base(1));
-    try_calls(b"a store waits, without the mode", with_count(base(1), 1));
+    try_count(b"no store waits", true, 0);
+    try_count(b"8 stores wait", true, 8);
+    try_count(b"9 stores wait", true, 9);
+    try_count(b"4294967295 stores wait", true, 4294967295);
+    try_count(b"no store waits, without the mode", false, 0);
+    try_count(b"a store waits, without the mode", false, 1);
     try_calls(
         b"65536 put numbers used, no store waits",
         played(65536, false),
@@ -122,36 +124,49 @@ pub fn note(place: u32) -> Store {
     Store::StoreNote { place }
 }
 
-pub fn notes() {
-    try_calls(
-        b"the second array's note waits",
-        with_store(with_second(delayed(1), 1), note(1)),
-    );
+// A note waits. The second array is published, or claimed alone (1), or there is none (0).
+fn try_note(tried: &[u8], published: u32, place: u32) {
+    let mut state = delayed(1);
+    if 0 < published {
+        state = with_second(state, published);
+    }
+    try_calls(tried, with_store(state, note(place)));
+}
+
+fn no_note() {
     try_calls(
         b"the second array is claimed, and no note waits",
         with_second(delayed(1), 1),
     );
+}
+
+fn note_of_unpublished() {
     try_calls(
         b"the note of the unpublished array waits",
         with_store(growing(Line::Note { why: for_put() }), note(1)),
     );
-    try_calls(
-        b"a note of the first array waits, the second one published",
-        with_store(with_second(delayed(1), 2), note(0)),
-    );
-    try_calls(
-        b"the note of an array that is not claimed waits",
-        with_store(delayed(1), note(1)),
-    );
-    try_calls(
-        b"a note of 4294967295 waits",
-        with_store(delayed(1), note(4294967295)),
-    );
+}
+
+fn note_before_another() {
     let between = with_store(with_second(delayed(1), 1), note(4294967295));
     try_calls(
         b"a note of 4294967295 waits before another",
         with_store(between, note(1)),
     );
+}
+
+pub fn notes() {
+    try_note(b"the second array's note waits", 1, 1);
+    no_note();
+    note_of_unpublished();
+    try_note(
+        b"a note of the first array waits, the second one published",
+        2,
+        0,
+    );
+    try_note(b"the note of an array that is not claimed waits", 0, 1);
+    try_note(b"a note of 4294967295 waits", 0, 4294967295);
+    note_before_another();
 }
 
 fn put_store(head: u32, count: u32, tag: u32) -> Store {
@@ -170,38 +185,42 @@ fn try_store(tried: &[u8], kind: u32, store: Store) {
     try_calls(tried, with_store(delayed(kind), store));
 }
 
+fn try_put(tried: &[u8], kind: u32, head: u32, count: u32, tag: u32) {
+    try_store(tried, kind, put_store(head, count, tag));
+}
+
+fn try_out(tried: &[u8], kind: u32, head: u32, count: u32, tag: u32) {
+    try_store(tried, kind, out_store(head, count, tag));
+}
+
+fn try_tail(tried: &[u8], kind: u32) {
+    try_store(tried, kind, Store::StoreTail { value: 0 });
+}
+
+fn try_head(tried: &[u8], kind: u32) {
+    try_store(tried, kind, Store::StoreHead { value: 0 });
+}
+
 // Behind it an anchor waits that is within its range, so that the owner reads that one.
-fn try_hidden(tried: &[u8], kind: u32, store: Store) {
-    let state = with_store(delayed(kind), store);
+fn try_hidden(tried: &[u8], store: Store) {
+    let state = with_store(delayed(1), store);
     try_calls(tried, with_store(state, put_store(0, 0, 0)));
 }
 
 pub fn anchors() {
-    try_store(b"LIFO, (2, 15) waits", 1, put_store(0, 2, 15));
-    try_store(b"LIFO, (3, 0) waits", 1, put_store(0, 3, 0));
-    try_hidden(b"LIFO, (3, 0) waits before (0, 0)", 1, put_store(0, 3, 0));
-    try_store(b"LIFO, (0, 16) waits", 1, out_store(0, 0, 16));
-    try_hidden(b"LIFO, (0, 16) waits before (0, 0)", 1, out_store(0, 0, 16));
-    try_store(b"LIFO, a head waits with t", 1, out_store(1, 0, 0));
-    try_store(b"LIFO, a FIFO head waits", 1, Store::StoreHead { value: 0 });
-    try_store(b"LIFO, a FIFO tail waits", 1, Store::StoreTail { value: 0 });
-    try_store(
-        b"double-ended, (2047, 2, 15) waits",
-        3,
-        out_store(2047, 2, 15),
-    );
-    try_store(
-        b"double-ended, (2048, 0, 0) waits",
-        3,
-        out_store(2048, 0, 0),
-    );
-    try_store(
-        b"double-ended, a FIFO tail waits",
-        3,
-        Store::StoreTail { value: 0 },
-    );
-    try_store(b"linked, (1, 0) waits", 4, put_store(0, 1, 0));
-    try_store(b"linked, (1, 1) waits", 4, put_store(0, 1, 1));
+    try_put(b"LIFO, (2, 15) waits", 1, 0, 2, 15);
+    try_put(b"LIFO, (3, 0) waits", 1, 0, 3, 0);
+    try_hidden(b"LIFO, (3, 0) waits before (0, 0)", put_store(0, 3, 0));
+    try_out(b"LIFO, (0, 16) waits", 1, 0, 0, 16);
+    try_hidden(b"LIFO, (0, 16) waits before (0, 0)", out_store(0, 0, 16));
+    try_out(b"LIFO, a head waits with t", 1, 1, 0, 0);
+    try_head(b"LIFO, a FIFO head waits", 1);
+    try_tail(b"LIFO, a FIFO tail waits", 1);
+    try_out(b"double-ended, (2047, 2, 15) waits", 3, 2047, 2, 15);
+    try_out(b"double-ended, (2048, 0, 0) waits", 3, 2048, 0, 0);
+    try_tail(b"double-ended, a FIFO tail waits", 3);
+    try_put(b"linked, (1, 0) waits", 4, 0, 1, 0);
+    try_put(b"linked, (1, 1) waits", 4, 0, 1, 1);
 }
 
 // FIFO: a head of 2 and a tail of 2 in memory, and a store that waits, with a tail of 2 behind it or not.
@@ -214,38 +233,22 @@ fn try_fifo(tried: &[u8], store: Store, tail: bool) {
     try_calls(tried, state);
 }
 
+fn fifo_tail(tried: &[u8], value: u32, tail: bool) {
+    try_fifo(tried, Store::StoreTail { value }, tail);
+}
+
+fn fifo_head(tried: &[u8], value: u32) {
+    try_fifo(tried, Store::StoreHead { value }, false);
+}
+
 pub fn fifo() {
     try_fifo(b"FIFO, an anchor waits", put_store(0, 0, 0), false);
-    try_fifo(
-        b"FIFO, a tail of 4 waits",
-        Store::StoreTail { value: 4 },
-        false,
-    );
-    try_fifo(
-        b"FIFO, a tail of 5 waits",
-        Store::StoreTail { value: 5 },
-        false,
-    );
-    try_fifo(
-        b"FIFO, a tail of 65535 waits before one of 2",
-        Store::StoreTail { value: 65535 },
-        true,
-    );
-    try_fifo(
-        b"FIFO, a tail of 65536 waits before one of 2",
-        Store::StoreTail { value: 65536 },
-        true,
-    );
-    try_fifo(
-        b"FIFO, a head of 0 waits",
-        Store::StoreHead { value: 0 },
-        false,
-    );
-    try_fifo(
-        b"FIFO, a head of 3 waits",
-        Store::StoreHead { value: 3 },
-        false,
-    );
+    fifo_tail(b"FIFO, a tail of 4 waits", 4, false);
+    fifo_tail(b"FIFO, a tail of 5 waits", 5, false);
+    fifo_tail(b"FIFO, a tail of 65535 waits before one of 2", 65535, true);
+    fifo_tail(b"FIFO, a tail of 65536 waits before one of 2", 65536, true);
+    fifo_head(b"FIFO, a head of 0 waits", 0);
+    fifo_head(b"FIFO, a head of 3 waits", 3);
 }
 
 // A state in which the second array's note waits: thieves use the array of 2 slots, the owner that of 4.
@@ -254,26 +257,40 @@ fn noted(anchor: Anchor) -> model::Bench {
     with_store(state, note(1))
 }
 
+// (t, 0) waits behind the note.
+fn try_behind(tried: &[u8], count: u32) {
+    try_calls(
+        tried,
+        with_store(noted(anchor(0, 0, 0)), put_store(0, count, 0)),
+    );
+}
+
+fn try_memory(tried: &[u8], count: u32) {
+    try_calls(tried, noted(anchor(0, count, 0)));
+}
+
+fn try_read(tried: &[u8], worker: usize, line: Line)
+    requires { ⌜ worker < 8 ⌝ }
+{
+    try_calls(tried, with_line(noted(anchor(0, 0, 0)), worker, line));
+}
+
 pub fn owners_array() {
-    try_calls(
-        b"a note waits, then (4, 0)",
-        with_store(noted(anchor(0, 0, 0)), put_store(0, 4, 0)),
-    );
-    try_calls(
-        b"a note waits, then (5, 0)",
-        with_store(noted(anchor(0, 0, 0)), put_store(0, 5, 0)),
-    );
-    try_calls(b"a note waits, (2, 0) in memory", noted(anchor(0, 2, 0)));
-    try_calls(b"a note waits, (3, 0) in memory", noted(anchor(0, 3, 0)));
+    try_behind(b"a note waits, then (4, 0)", 4);
+    try_behind(b"a note waits, then (5, 0)", 5);
+    try_memory(b"a note waits, (2, 0) in memory", 2);
+    try_memory(b"a note waits, (3, 0) in memory", 3);
     let read = anchor(0, 4, 0);
     let task = task(1);
-    try_calls(
+    try_read(
         b"a note waits, the owner has read (4, 0)",
-        with_line(noted(anchor(0, 0, 0)), 0, Line::PutTest { task, read }),
+        0,
+        Line::PutTest { task, read },
     );
-    try_calls(
+    try_read(
         b"a note waits, a thief has read (4, 0)",
-        with_line(noted(anchor(0, 0, 0)), 1, Line::StealTest { read }),
+        1,
+        Line::StealTest { read },
     );
 }
 

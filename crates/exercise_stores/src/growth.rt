@@ -7,24 +7,24 @@ use crate::delayed::try_growth;
 use crate::delayed::try_order;
 use crate::delayed::with_second;
 use crate::delayed::with_store;
-use crate::put;
-use crate::said::number;
-use crate::said::say_of;
-use crate::said::say_tally;
-use crate::said::text;
-use crate::states::base;
-use crate::states::base_of;
-use crate::states::for_put;
-use crate::states::played;
-use crate::states::with_line;
-use crate::states::with_pair;
-use crate::steps;
 use model::Growth;
 use model::Line;
 use model::Operation;
 use model::Setup;
 use queues::Bench;
 use queues::Reply;
+use tries::base;
+use tries::base_of;
+use tries::for_put;
+use tries::number;
+use tries::played;
+use tries::put;
+use tries::say_of;
+use tries::say_tally;
+use tries::steps;
+use tries::text;
+use tries::with_line;
+use tries::with_pair;
 
 // So many words are set aside.
 fn with_aside(state: model::Bench, aside: u32) -> model::Bench {
@@ -53,19 +53,23 @@ fn try_asks(tried: &[u8], state: model::Bench, worker: u32) {
     text(b"\n");
 }
 
+fn try_owner(tried: &[u8], busy: bool, aside: u32) {
+    try_asks(tried, with_aside(played(0, busy), aside), 0);
+}
+
+fn try_busy_thief(tried: &[u8], aside: u32) {
+    let thief = with_line(base(1), 1, Line::StealRead);
+    try_asks(tried, with_aside(thief, aside), 1);
+}
+
 // An array of 2 slots has 4 words, so 8 are set aside.
 pub fn asks() {
-    try_asks(b"the owner, and no ask stands", base(1), 0);
-    try_asks(b"the owner, and an ask stands", with_aside(base(1), 8), 0);
-    try_asks(b"the busy owner, and no ask stands", played(0, true), 0);
-    try_asks(
-        b"the busy owner, and an ask stands",
-        with_aside(played(0, true), 8),
-        0,
-    );
+    try_owner(b"the owner, and no ask stands", false, 0);
+    try_owner(b"the owner, and an ask stands", false, 8);
+    try_owner(b"the busy owner, and no ask stands", true, 0);
+    try_owner(b"the busy owner, and an ask stands", true, 8);
     try_asks(b"a thief, and no ask stands", base(1), 1);
-    let thief = with_line(base(1), 1, Line::StealRead);
-    try_asks(b"a busy thief, and an ask stands", with_aside(thief, 8), 1);
+    try_busy_thief(b"a busy thief, and an ask stands", 8);
     try_asks(b"worker 3 of 3", with_aside(base(1), 8), 3);
     try_asks(b"worker 9 in a foreign state", played(65536, false), 9);
 }
@@ -165,13 +169,17 @@ fn try_aside(tried: &[u8], state: model::Bench, aside: u32) {
     try_on(tried, with_aside(state, aside), &mut store);
 }
 
+fn try_idle(tried: &[u8], aside: u32) {
+    try_aside(tried, base(1), aside);
+}
+
 pub fn asides() {
-    try_aside(b"no words set aside", base(1), 0);
-    try_aside(b"8 words set aside", base(1), 8);
-    try_aside(b"7 words set aside", base(1), 7);
-    try_aside(b"9 words set aside", base(1), 9);
-    try_aside(b"the words of an array of the present size", base(1), 4);
-    try_aside(b"4294967295 words set aside", base(1), 4294967295);
+    try_idle(b"no words set aside", 0);
+    try_idle(b"8 words set aside", 8);
+    try_idle(b"7 words set aside", 7);
+    try_idle(b"9 words set aside", 9);
+    try_idle(b"the words of an array of the present size", 4);
+    try_idle(b"4294967295 words set aside", 4294967295);
 }
 
 // Words that do not fit the store, or would make too large an array.
@@ -198,31 +206,29 @@ pub fn asides_size() {
     );
 }
 
-// A worker at X1.
-fn claiming(worker: usize, why: Growth) -> model::Bench
+// A worker at X1, of a commit or of a put.
+fn try_x1(tried: &[u8], worker: usize, commit: bool, aside: u32)
     requires { ⌜ worker < 8 ⌝ }
 {
-    with_line(base(1), worker, Line::Claim { why })
+    let line = Line::Claim {
+        why: growth(commit),
+    };
+    try_aside(tried, with_line(base(1), worker, line), aside);
+}
+
+fn growth(commit: bool) -> Growth {
+    if commit {
+        return Growth::ForCommit;
+    }
+    for_put()
 }
 
 pub fn asides_at_x1() {
-    try_aside(b"a put's X1, no words set aside", claiming(0, for_put()), 0);
-    try_aside(b"a put's X1, 8 words set aside", claiming(0, for_put()), 8);
-    try_aside(
-        b"a commit's X1, no words set aside",
-        claiming(0, Growth::ForCommit),
-        0,
-    );
-    try_aside(
-        b"a commit's X1, 8 words set aside",
-        claiming(0, Growth::ForCommit),
-        8,
-    );
-    try_aside(
-        b"a thief at a commit's X1",
-        claiming(1, Growth::ForCommit),
-        8,
-    );
+    try_x1(b"a put's X1, no words set aside", 0, false, 0);
+    try_x1(b"a put's X1, 8 words set aside", 0, false, 8);
+    try_x1(b"a commit's X1, no words set aside", 0, true, 0);
+    try_x1(b"a commit's X1, 8 words set aside", 0, true, 8);
+    try_x1(b"a thief at a commit's X1", 1, true, 8);
 }
 
 // The owner at X2 to X4: an array of 8 words is claimed behind the first, and the next one would have 16.
@@ -239,32 +245,37 @@ fn copy(why: Growth) -> Line {
     }
 }
 
+fn try_x2(tried: &[u8], commit: bool, aside: u32) {
+    let line = Line::Note {
+        why: growth(commit),
+    };
+    try_aside(tried, growing(line), aside);
+}
+
+fn try_x3(tried: &[u8], commit: bool, aside: u32) {
+    try_aside(tried, growing(copy(growth(commit))), aside);
+}
+
+fn try_x4(tried: &[u8], commit: bool, aside: u32) {
+    let line = Line::Publish {
+        why: growth(commit),
+    };
+    try_aside(tried, growing(line), aside);
+}
+
 pub fn asides_of_a_put() {
-    let why = for_put();
-    try_aside(
-        b"a put's X2, 16 words set aside",
-        growing(Line::Note { why }),
-        16,
-    );
-    try_aside(b"a put's X3, 16 words set aside", growing(copy(why)), 16);
-    try_aside(
-        b"a put's X4, 16 words set aside",
-        growing(Line::Publish { why }),
-        16,
-    );
+    try_x2(b"a put's X2, 16 words set aside", false, 16);
+    try_x3(b"a put's X3, 16 words set aside", false, 16);
+    try_x4(b"a put's X4, 16 words set aside", false, 16);
 }
 
 pub fn asides_of_a_commit() {
-    let why = Growth::ForCommit;
-    let x2 = growing(Line::Note { why });
-    let x3 = growing(copy(why));
-    let x4 = growing(Line::Publish { why });
-    try_aside(b"a commit's X2, no words set aside", x2, 0);
-    try_aside(b"a commit's X2, 16 words set aside", x2, 16);
-    try_aside(b"a commit's X3, no words set aside", x3, 0);
-    try_aside(b"a commit's X3, 16 words set aside", x3, 16);
-    try_aside(b"a commit's X4, no words set aside", x4, 0);
-    try_aside(b"a commit's X4, 16 words set aside", x4, 16);
+    try_x2(b"a commit's X2, no words set aside", true, 0);
+    try_x2(b"a commit's X2, 16 words set aside", true, 16);
+    try_x3(b"a commit's X3, no words set aside", true, 0);
+    try_x3(b"a commit's X3, 16 words set aside", true, 16);
+    try_x4(b"a commit's X4, no words set aside", true, 0);
+    try_x4(b"a commit's X4, 16 words set aside", true, 16);
 }
 
 // Three arrays of so many words, the third at word `at`: memory has the first as published, and the notes of the others wait.

@@ -1,7 +1,8 @@
-// States to try: one that an accepted fresh makes, and such a one with something replaced. Each try has memory of its own: a store
-// of 30 words and a log of 8.
+// What the exercises share: states to try, the calls that try them, and what is printed. A state is one that an accepted fresh
+// makes, or such a one with something replaced. Each try has memory of its own: a store of 30 words and a log of 8.
+// Uses `queues` and `model`, of the kit `io` and `libc`. It is used by `exercise` and `exercise_stores`.
 ghost use Prim.Native.Nat.{_<_};
-use crate::said::report;
+use libc::STDOUT_FILENO;
 use model::Anchor;
 use model::Answer;
 use model::Growth;
@@ -10,9 +11,90 @@ use model::Operation;
 use model::Payload;
 use model::Region;
 use model::Setup;
+use model::Tally;
 use model::Task;
 use model::Worker;
 use queues::Bench;
+use queues::Reply;
+
+pub fn text(bytes: &[u8]) {
+    io::write_all(STDOUT_FILENO, bytes);
+}
+
+pub fn number(n: u32) {
+    io::print_decimal(STDOUT_FILENO, n as u64);
+}
+
+// What an answer says, in numbers: 0 accepted, 1 to 5 the kind of its log entry, 6 goes on, 7 refused, 8 accepted with a put
+// number; and beside it the put's number or the refusal's.
+struct Said {
+    kind: u32,
+    number: u32,
+}
+
+fn said_as(kind: u32, number: u32) -> Said {
+    Said { kind, number }
+}
+
+fn said_by(answer: Answer) -> Said {
+    match answer {
+        Answer::Accepted => said_as(0, 0),
+        Answer::Numbered { number } => said_as(8, number),
+        Answer::GoesOn => said_as(6, 0),
+        Answer::Finished { worker: _, task } => said_as(1, task.number),
+        Answer::HandedOut { worker: _, task } => said_as(2, task.number),
+        Answer::Empty { worker: _ } => said_as(3, 0),
+        Answer::Full { worker: _, task } => said_as(4, task.number),
+        Answer::Grown { worker: _ } => said_as(5, 0),
+        Answer::Refused { why } => said_as(7, queues::number_of(why)),
+    }
+}
+
+fn said_text(said: Said) {
+    let kind = said.kind;
+    match kind {
+        1 => text(b"finished put "),
+        2 => text(b"handed out put "),
+        3 => text(b"EMPTY"),
+        4 => text(b"FULL for put "),
+        5 => text(b"grown"),
+        6 => text(b"goes on"),
+        7 => text(b"refused "),
+        8 => text(b"accepted as put "),
+        _ => text(b"accepted"),
+    }
+    if 0 < said.number {
+        number(said.number);
+    }
+}
+
+pub fn say(answer: Answer) {
+    said_text(said_by(answer));
+}
+
+pub fn say_of(call: &[u8], reply: Reply) {
+    let answer = reply.answer;
+    text(call);
+    say(answer);
+}
+
+pub fn say_tally(tally: Tally) {
+    match tally {
+        Tally::Counted { restarts } => number(restarts),
+        Tally::Refused { why } => {
+            text(b"refused ");
+            number(queues::number_of(why));
+        }
+    }
+}
+
+// A line of output.
+pub fn report(tried: &[u8], answer: Answer) {
+    text(tried);
+    text(b": ");
+    say(answer);
+    text(b"\n");
+}
 
 pub fn begun_on(state: model::Bench, worker: u32, operation: Operation, store: &[u32]) -> Answer {
     let log = [0u32; 8];
@@ -165,4 +247,22 @@ pub fn numbered(number: u32) -> Task {
         number: number,
         payload: payload(0),
     }
+}
+
+// So many steps of the owner, on what a call left.
+pub fn steps(reply: Reply, lines: u32, store: &mut [u32], log: &mut [u32]) -> Reply {
+    let mut last = reply;
+    let mut line: u32 = 0;
+    while line < lines {
+        line += 1;
+        last = last.bench.step(0, store, log);
+    }
+    last
+}
+
+// A put from its begin to its last line: it does so many lines.
+pub fn put(bench: Bench, lines: u32, store: &mut [u32], log: &mut [u32]) -> Reply {
+    let payload = payload_of(65, 66, 67, 68);
+    let begun = bench.begin(0, Operation::Put { payload }, store, log);
+    steps(begun, lines, store, log)
 }

@@ -2,8 +2,8 @@ use mathlib.Core.Path.{_≡_}
 use Prim.Native.Nat.{_-_}
 use lib.ListN.{length}
 use borrow.Author.Needs.{needs}
-use Rattle.exercise.proofs.steps.Statement.{statement}
-use Rattle.exercise.proofs.steps.Tie as tie
+use Rattle.tries.proofs.steps.Statement.{statement}
+use Rattle.tries.proofs.steps.Tie as tie
 
 abbrev Inv-loop : tie.InvT-loop
 Inv-loop lines store₀ log₀ last₀ line₀ store log last line =
