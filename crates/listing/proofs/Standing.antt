@@ -1,5 +1,5 @@
 -- Where consuming stands between two lines, and what each way to play a line makes of it.
-use Prim.Native.Nat.{ℕ, zero, suc, _+_, _-_, _≤_, min}
+use Prim.Native.Nat.{ℕ, zero, suc, _+_, _-_, _≤_, _<_, min}
 use native.Mathlib.Omega.{arith}
 use mathlib.Core.Path.{_≡_, refl, ap, sym, subst, _∙_}
 use mathlib.Core.Bool.{Bool, true, false}
@@ -29,6 +29,8 @@ use Rattle.machine.specs.declared.Made.{Made}
 use Rattle.machine.specs.Steps.{benchOf, AtOnce, movedBy}
 use Rattle.machine.proofs.Stepping.{at-once, sees-memory, never-full}
 use Rattle.limits.proofs.Bounds.{bounds-of}
+use Rattle.limits.proofs.Alone.{room-alone}
+use Rattle.rooms.proofs.Handed.{handed, within, same-step}
 use Rattle.text.specs.Numbers.{Placed}
 use Rattle.text.specs.Commands.{commandOf}
 use Rattle.replies.specs.declared.Session.{Session}
@@ -142,18 +144,24 @@ crew-of s m l r v = bounds-of (worldOf s m l) (within-alone (worldOf s m l) (val
 pub valid-front : (b : Bench) (w n : ℕ) (m l : List ℕ) → n ≡ min w (length m) → Live (lent b (take w m) l) → validOf (lent b (take n m) l) ≡ true
 valid-front b w n m l e r = subst (λ (x : List ℕ). validOf (lent b x l) ≡ true) (sym (lent-front w n m e)) (live-valid r)
 
-pub within-front : {ρ : Room} (b : Bench) (w n : ℕ) (m l : List ℕ) → n ≡ min w (length m) → Live (lent b (take w m) l) → ρ ≡ roomAlone (lent b (take n m) l)
-    → Within ρ (lent b (take n m) l)
-within-front b w n m l e r q = subst (λ (ρ : Room). Within ρ (lent b (take n m) l)) (sym q) (within-alone (lent b (take n m) l) (valid-front b w n m l e r))
+-- the room that the worker at place k is handed
+pub within-front : {ρ : Room} (b : Bench) (w n k : ℕ) (m l : List ℕ) → n ≡ min w (length m) → Live (lent b (take w m) l)
+    → ρ ≡ handed (lent b (take n m) l) (lineAt (b .workers) k) → Within ρ (lent b (take n m) l)
+within-front b w n k m l e r q =
+    let v = valid-front b w n m l e r in
+    subst (λ (ρ : Room). Within ρ (lent b (take n m) l)) (sym q) (within (lent b (take n m) l) v (room-alone (lent b (take n m) l) v .1 .1) (lineAt (b .workers) k))
 
 -- a step on the words that were lent, p as it leaves them
 pub stepped-front : {ρ : Room} (b : Bench) (w n : ℕ) (m l p l′ : List ℕ) (i k : ℕ) (x : Line) (d : Made) → n ≡ min w (length m) → length p ≡ length (take n m)
-    → Live (lent b (take w m) l) → ρ ≡ roomAlone (lent b (take n m) l) → movedBy b k x d p l′ ≡ stepIn ρ (lent b (take n m) l) i
+    → Live (lent b (take w m) l) → (i < 8 → k ≡ i) → ρ ≡ handed (lent b (take n m) l) (lineAt (b .workers) k) → movedBy b k x d p l′ ≡ stepIn ρ (lent b (take n m) l) i
     → movedBy b k x d (take w (p ++ drop n m)) l′ ≡ stepOf (lent b (take w m) l) i
 unfolding stepOf
-stepped-front b w n m l p l′ i k x d e f r q o =
+stepped-front b w n m l p l′ i k x d e f r at q o =
+    let v = valid-front b w n m l e r in
     ap (λ (y : List ℕ). movedBy b k x d y l′) (given-back w n m e p f) ∙ o
-    ∙ ap (λ (ρ : Room). stepIn ρ (lent b (take n m) l) i) q ∙ ap (λ (y : List ℕ). stepIn (roomAlone (lent b y l)) (lent b y l) i) (lent-front w n m e)
+    ∙ ap (λ (ρ : Room). stepIn ρ (lent b (take n m) l) i) q
+    ∙ same-step (lent b (take n m) l) v (room-alone (lent b (take n m) l) v .1 .1) i k at
+    ∙ ap (λ (y : List ℕ). stepIn (roomAlone (lent b y l)) (lent b y l) i) (lent-front w n m e)
     ∙ sym (if-true _ (live-valid r))
 
 -- no line of a worker whose stores land at once answers a refusal: a state in which nothing waits has the same line

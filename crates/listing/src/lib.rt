@@ -1,5 +1,5 @@
 // Lines of input played one after the other, and what they print, however the input is cut into buffers.
-// Uses `model`, `theorems`, `stages`, `slots`, `limits`, `state`, `machine`, `text` and `replies`. It is used by `bench`.
+// Uses `model`, `theorems`, `stages`, `rooms`, `limits`, `state`, `machine`, `text` and `replies`. It is used by `bench`.
 ghost use mathlib.Core.Path.{_≡_};
 ghost use Prim.Native.Nat.{_+_, _-_, _≤_, min};
 ghost use lib.ListN.{length, drop};
@@ -107,7 +107,7 @@ pub fn consume(
             let line = own.line;
             let kind = bench.kind;
             let queue = bench.queue;
-            let room = slots::room_alone(queue, &store[..n]);
+            let room = rooms::room_at(line, queue, &store[..n]);
             let moved = machine::step_in(
                 room,
                 kind,

@@ -199,6 +199,7 @@ pub fn begin_in(bench: Bench, worker: u32, operation: Operation) -> Returned
     accept(bench, worker, operation)
 }
 
+// `begin_in` is written out here: a function between would copy the state once more.
 pub fn begin(
     bench: Bench,
     worker: u32,
@@ -211,5 +212,9 @@ pub fn begin(
     if !limits::valid(bench, store, log) {
         return state::refused(bench, Refusal::ForeignState);
     }
-    begin_in(bench, worker, operation)
+    let stop = begin_stop(bench, worker, operation);
+    if let Stop::Why { why } = stop {
+        return state::refused(bench, why);
+    }
+    accept(bench, worker, operation)
 }

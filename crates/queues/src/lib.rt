@@ -3,8 +3,8 @@
 // next one back, beside the store and the log that the caller lends. A call may be handed any state,
 // any numbers and any memory: it is refused where document 01 says so, and then changes nothing.
 // A yard has up to four such queues over one store: a call names the queue, and is lent this queue's log.
-// Uses `model`, `answers`, `stages`, `slots`, `limits`, `memory`, `state`, `waiting`, `opening`, `events`, `machine`, `owner`,
-// `plots` (in contracts), `steps` and `yard_calls`. It is used by `plays`, `calls`, `exercise` and `pace`.
+// Uses `model`, `answers`, `stages`, `slots`, `rooms`, `limits`, `memory`, `state`, `waiting`, `opening`, `events`, `machine`, `owner`,
+// `plots` (in contracts), `steps` and `yard_calls`. It is used by `plays`, `calls`, `tries`, the exercises and `pace`.
 ghost use mathlib.Core.Path.{_≡_};
 ghost use mathlib.Core.List.{List, []};
 ghost use Prim.Native.Nat.{ℕ};
@@ -97,10 +97,10 @@ impl Bench {
         if !limits::valid(next, store, log) {
             return refused(self, Refusal::ForeignState);
         }
-        let room = slots::room_alone(next.queue, store);
         let i = machine::place_of(worker);
         let own = next.workers[i];
         let line = own.line;
+        let room = rooms::room_at(line, next.queue, store);
         let kind = next.kind;
         let joins = steps::delays(next.delayed, worker);
         // The owner with delayed stores reads memory with its waiting stores put down.

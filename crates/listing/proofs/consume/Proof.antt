@@ -201,15 +201,15 @@ mul-own c = search needs
 element-copy-out-own : tie.Need-element-copy-out-own Inv-loop μ-loop Inv-lines μ-lines
 element-copy-out-own c = omega (arith, c .before .before .before .before .place-of .ensures .0)
 
-slice-reshare-prefix-room-alone : tie.Need-slice-reshare-prefix-room-alone Inv-loop μ-loop Inv-lines μ-lines
-slice-reshare-prefix-room-alone c = omega (arith, c .before .before .before .before .span .ensures, c .before .before .before .loop .inv .2)
+slice-reshare-prefix-room-at : tie.Need-slice-reshare-prefix-room-at Inv-loop μ-loop Inv-lines μ-lines
+slice-reshare-prefix-room-at c = omega (arith, c .before .before .before .before .span .ensures, c .before .before .before .loop .inv .2)
 
-slice-aggregate-room-alone : tie.Need-slice-aggregate-room-alone Inv-loop μ-loop Inv-lines μ-lines
-slice-aggregate-room-alone c =
+slice-aggregate-room-at : tie.Need-slice-aggregate-room-at Inv-loop μ-loop Inv-lines μ-lines
+slice-aggregate-room-at c =
     sym (length-take-le _ _ (omega (arith, c .before .before .before .before .before .span .ensures, c .before .before .before .before .loop .inv .2)))
 
-room-alone-requires : tie.Need-room-alone-requires Inv-loop μ-loop Inv-lines μ-lines
-room-alone-requires c κs =
+room-at-requires : tie.Need-room-at-requires Inv-loop μ-loop Inv-lines μ-lines
+room-at-requires c κs =
     let at-loop = c .before .before .before .before in
     let at-span = at-loop .before in
     let at-lines = at-loop .before .before .before .before .before .before .before .before .before .before .before .before .before .before in
@@ -236,7 +236,7 @@ step-in-requires c κs =
     let k = at-loop .loop in
     let e = at-span .span .ensures ∙ ap (min (l .long)) (sym (k .inv .2)) in
     steppable (lent (k .bench) (take (at-span .span .result) (k .store)) (k .log)) (at-asked .asked .given .0 .0) (at-place-of .place-of .result)
-    (within-front (k .bench) (l .long) _ (k .store) (k .log) e (k .inv .1) (c .before .before .room-alone .ensures))
+    (within-front (k .bench) (l .long) _ (at-place-of .place-of .result) (k .store) (k .log) e (k .inv .1) (c .before .before .room-at .ensures))
     (once-of (k .bench) (l .long) (k .store) (k .log) (at-asked .asked .given .0 .0) (k .inv .1)) (at-place-of .place-of .ensures .1)
 
 sub-left : tie.Need-sub-left Inv-loop μ-loop Inv-lines μ-lines
@@ -266,7 +266,7 @@ show-requires-2 c κs =
     let to = at-step .step-in .result .line in
     let made = at-step .step-in .result .made in
     let step =
-    stepped-front b (l .long) _ (k .store) (k .log) _ _ i place to made e (at-step .step-in .kept .1 .1 .1 .1 .1 .1 .1 .1 .1 .1 .0) (k .inv .1) (at-step .before .before .before .room-alone .ensures)
+    stepped-front b (l .long) _ (k .store) (k .log) _ _ i place to made e (at-step .step-in .kept .1 .1 .1 .1 .1 .1 .1 .1 .1 .1 .0) (k .inv .1) (at-place-of .place-of .ensures .1) (at-step .before .before .before .room-at .ensures)
     (at-step .step-in .ensures .1 .0 refl (b .delayed) (b .waiting) (b .aside) (b .used) place (b .restarts) (b .workers) (once-of b (l .long) (k .store) (k .log) i (k .inv .1)) (at-place-of .place-of .ensures .1) refl) in
     let by = refuses b place to made step _ (c .before .before .made .given .1) in
     stepping-room _ _ _ _ _ _ (k .left) _ _ _ _ (k .inv .0) _ (let z : l .wrote + 256 ≤ length (l .out) = omega (arith, l .inv .0 .fits, l .inv .3, at-if1 .if1 .left) in z) (c .before .before .before .before .before .before .before .before .before .before .before .before .before .before .before .before .loop-test .taken)
@@ -300,7 +300,7 @@ lines-again-4 c =
     let to = at-step .step-in .result .line in
     let made = at-step .step-in .result .made in
     let step =
-    stepped-front b (l .long) _ (k .store) (k .log) _ _ i place to made e (at-step .step-in .kept .1 .1 .1 .1 .1 .1 .1 .1 .1 .1 .0) (k .inv .1) (at-step .before .before .before .room-alone .ensures)
+    stepped-front b (l .long) _ (k .store) (k .log) _ _ i place to made e (at-step .step-in .kept .1 .1 .1 .1 .1 .1 .1 .1 .1 .1 .0) (k .inv .1) (at-place-of .place-of .ensures .1) (at-step .before .before .before .room-at .ensures)
     (at-step .step-in .ensures .1 .0 refl (b .delayed) (b .waiting) (b .aside) (b .used) place (b .restarts) (b .workers) (once-of b (l .long) (k .store) (k .log) i (k .inv .1)) (at-place-of .place-of .ensures .1) refl) in
     let s = sessionOf (l .live) (l .long) (l .bench) in
     let t = sessionOf (l .live) (l .long) b in
@@ -358,7 +358,7 @@ loop-again c =
     let to = at-step .step-in .result .line in
     let made = at-step .step-in .result .made in
     let step =
-    stepped-front b (l .long) _ (k .store) (k .log) _ _ i place to made e (at-step .step-in .kept .1 .1 .1 .1 .1 .1 .1 .1 .1 .1 .0) (k .inv .1) (at-step .before .before .before .room-alone .ensures)
+    stepped-front b (l .long) _ (k .store) (k .log) _ _ i place to made e (at-step .step-in .kept .1 .1 .1 .1 .1 .1 .1 .1 .1 .1 .0) (k .inv .1) (at-place-of .place-of .ensures .1) (at-step .before .before .before .room-at .ensures)
     (at-step .step-in .ensures .1 .0 refl (b .delayed) (b .waiting) (b .aside) (b .used) place (b .restarts) (b .workers) (once-of b (l .long) (k .store) (k .log) i (k .inv .1)) (at-place-of .place-of .ensures .1) refl) in
     let t = sessionOf (l .live) (l .long) b in
     let by = restarts b place to made step (c .before .before .enum-told4 .given .1) (ap (set (b .restarts) place) (c .one-more .ensures)) in (
@@ -392,7 +392,7 @@ show-requires-3 c κs =
     let to = at-step .step-in .result .line in
     let made = at-step .step-in .result .made in
     let step =
-    stepped-front b (l .long) _ (k .store) (k .log) _ _ i place to made e (at-step .step-in .kept .1 .1 .1 .1 .1 .1 .1 .1 .1 .1 .0) (k .inv .1) (at-step .before .before .before .room-alone .ensures)
+    stepped-front b (l .long) _ (k .store) (k .log) _ _ i place to made e (at-step .step-in .kept .1 .1 .1 .1 .1 .1 .1 .1 .1 .1 .0) (k .inv .1) (at-place-of .place-of .ensures .1) (at-step .before .before .before .room-at .ensures)
     (at-step .step-in .ensures .1 .0 refl (b .delayed) (b .waiting) (b .aside) (b .used) place (b .restarts) (b .workers) (once-of b (l .long) (k .store) (k .log) i (k .inv .1)) (at-place-of .place-of .ensures .1) refl) in
     let by = settles b place to made step (c .before .before .settled .ensures) in
     stepping-room _ _ _ _ _ _ (k .left) _ _ _ _ (k .inv .0) _ (let z : l .wrote + 256 ≤ length (l .out) = omega (arith, l .inv .0 .fits, l .inv .3, at-if1 .if1 .left) in z) (c .before .before .before .before .before .before .before .before .before .before .before .before .before .before .before .before .before .loop-test .taken)
@@ -418,7 +418,7 @@ loop-again-2 c =
     let to = at-step .step-in .result .line in
     let made = at-step .step-in .result .made in
     let step =
-    stepped-front b (l .long) _ (k .store) (k .log) _ _ i place to made e (at-step .step-in .kept .1 .1 .1 .1 .1 .1 .1 .1 .1 .1 .0) (k .inv .1) (at-step .before .before .before .room-alone .ensures)
+    stepped-front b (l .long) _ (k .store) (k .log) _ _ i place to made e (at-step .step-in .kept .1 .1 .1 .1 .1 .1 .1 .1 .1 .1 .0) (k .inv .1) (at-place-of .place-of .ensures .1) (at-step .before .before .before .room-at .ensures)
     (at-step .step-in .ensures .1 .0 refl (b .delayed) (b .waiting) (b .aside) (b .used) place (b .restarts) (b .workers) (once-of b (l .long) (k .store) (k .log) i (k .inv .1)) (at-place-of .place-of .ensures .1) refl) in
     let t = sessionOf (l .live) (l .long) b in
     let done = c .before .before .before .before .before .settled .result in
@@ -458,7 +458,7 @@ loop-again-3 c =
     let to = at-step .step-in .result .line in
     let made = at-step .step-in .result .made in
     let step =
-    stepped-front b (l .long) _ (k .store) (k .log) _ _ i place to made e (at-step .step-in .kept .1 .1 .1 .1 .1 .1 .1 .1 .1 .1 .0) (k .inv .1) (at-step .before .before .before .room-alone .ensures)
+    stepped-front b (l .long) _ (k .store) (k .log) _ _ i place to made e (at-step .step-in .kept .1 .1 .1 .1 .1 .1 .1 .1 .1 .1 .0) (k .inv .1) (at-place-of .place-of .ensures .1) (at-step .before .before .before .room-at .ensures)
     (at-step .step-in .ensures .1 .0 refl (b .delayed) (b .waiting) (b .aside) (b .used) place (b .restarts) (b .workers) (once-of b (l .long) (k .store) (k .log) i (k .inv .1)) (at-place-of .place-of .ensures .1) refl) in
     let t = sessionOf (l .live) (l .long) b in
     let by = replaces b place to made step (c .enum-told3 .given .1) in (
@@ -581,9 +581,9 @@ consume-spec =
     lines-again-3
     mul-own
     element-copy-out-own
-    slice-reshare-prefix-room-alone
-    slice-aggregate-room-alone
-    room-alone-requires
+    slice-reshare-prefix-room-at
+    slice-aggregate-room-at
+    room-at-requires
     slice-relend-prefix-step-in
     slice-aggregate-step-in
     step-in-requires

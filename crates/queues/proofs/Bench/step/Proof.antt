@@ -8,7 +8,7 @@ use Rattle.model.specs.declared.Room.{Room}
 use Rattle.model.specs.Limits.{Within}
 use Rattle.model.specs.Calls.{lent, stepIn, stepOf}
 use Rattle.model.proofs.Tests.{if-true, if-false, passed, refused}
-use Rattle.model.proofs.Alone.{within-alone}
+use Rattle.rooms.proofs.Handed.{within, same-step}
 use Rattle.limits.proofs.Alone.{room-alone}
 use Rattle.limits.proofs.Waits.{waits-few, waits-noted, waits-placed}
 use Rattle.machine.proofs.Stepping.{settles, restarts, replaces}
@@ -28,7 +28,7 @@ use Rattle.machine.proofs.settled.Reads as settled-reads
 use Rattle.machine.proofs.step_in.Reads as step-in-reads
 use Rattle.owner.proofs.finish.Reads as finish-reads
 use Rattle.steps.proofs.delays.Reads as delays-reads
-use Rattle.slots.proofs.room_alone.Reads as room-alone-reads
+use Rattle.rooms.proofs.room_at.Reads as room-at-reads
 use Rattle.queues.proofs.refused.Reads as refused-reads
 use Rattle.queues.proofs.reply_of.Reads as reply-of-reads
 use Rattle.stages.proofs.one_more.Reads as one-more-reads
@@ -36,7 +36,7 @@ use Rattle.waiting.proofs.put_down.Reads as put-down-reads
 use Rattle.waiting.proofs.seen.Reads as seen-reads
 
 -- what the step reads
-looks : (c : lts.Joined2 (valid-reads.Asked, valid-reads.Learnt, refused-reads.Asked, refused-reads.Learnt, room-alone-reads.Asked, room-alone-reads.Learnt, place-of-reads.Asked, place-of-reads.Learnt, delays-reads.Asked, delays-reads.Learnt, seen-reads.Asked, seen-reads.Learnt, put-down-reads.Asked, put-down-reads.Learnt, step-in-reads.Asked, step-in-reads.Learnt, one-more-reads.Asked, one-more-reads.Learnt, finish-reads.Asked, finish-reads.Learnt, reply-of-reads.Asked, reply-of-reads.Learnt, settled-reads.Asked, settled-reads.Learnt) reads.Pre reads.Post)
+looks : (c : lts.Joined2 (valid-reads.Asked, valid-reads.Learnt, refused-reads.Asked, refused-reads.Learnt, place-of-reads.Asked, place-of-reads.Learnt, room-at-reads.Asked, room-at-reads.Learnt, delays-reads.Asked, delays-reads.Learnt, seen-reads.Asked, seen-reads.Learnt, put-down-reads.Asked, put-down-reads.Learnt, step-in-reads.Asked, step-in-reads.Learnt, one-more-reads.Asked, one-more-reads.Learnt, finish-reads.Asked, finish-reads.Learnt, reply-of-reads.Asked, reply-of-reads.Learnt, settled-reads.Asked, settled-reads.Learnt) reads.Pre reads.Post)
     → Looks (lent (c .before .before .before .before .before .before .before .before .before .before .before .before .before .before .before .args .self .state) (c .before .before .before .before .before .before .before .before .before .before .before .before .before .before .before .args .store .now) (c .before .before .before .before .before .before .before .before .before .before .before .before .before .before .before .args .log .now)) (c .before .before .delays .result) (c .if2 .queue) (c .if2 .store) (c .if2 .kept)
 looks c =
     let start = c .before .before .before .before .before .before .before .before .before .before .before .before .before .before .before in
@@ -75,11 +75,6 @@ returns c =
     ap (λ (r : Reply). left r (a .store .now) (a .log .now)) (c .refused .ensures)
     ∙ sym (if-false _ (refused (c .before .before .valid .ensures) (c .before .if1 .taken)))
 
-room-alone-requires : tie.Need-room-alone-requires
-room-alone-requires c κs =
-    let a = c .before .before .before .before .before .before .before .before .before .args in
-    room-alone (lent (a .self .state) (a .store .now) (a .log .now)) (passed (c .before .before .before .valid .ensures) (c .before .before .if1 .left))
-
 place-of-requires : tie.Need-place-of-requires
 place-of-requires c κs = search needs
 
@@ -89,42 +84,55 @@ mul-own c = search needs
 element-copy-out-own : tie.Need-element-copy-out-own
 element-copy-out-own c = search needs
 
+room-at-requires : tie.Need-room-at-requires
+room-at-requires c κs =
+    let at-place-of = c .before .before .before in
+    let at-valid = at-place-of .before .before in
+    let a = at-valid .before .before .before .before .before .before .args in
+    room-alone (lent (a .self .state) (a .store .now) (a .log .now)) (passed (at-valid .valid .ensures) (at-place-of .before .if1 .left))
+
 delays-requires : tie.Need-delays-requires
 delays-requires c κs = search needs
 
 seen-requires : tie.Need-seen-requires
 seen-requires c κs =
-    let at-place-of = c .before .before .before .before .before .before in
-    let at-valid = at-place-of .before .before .before .before .before in
+    let at-room = c .before .before .before .before .before in
+    let at-place-of = at-room .before .before .before .before in
+    let at-valid = at-place-of .before .before in
     let a = at-valid .before .before .before .before .before .before .args in
     let b = a .self .state in
     let W = lent b (a .store .now) (a .log .now) in
-    let tested = passed (at-valid .valid .ensures) (at-place-of .before .before .before .before .if1 .left) in
-    let valid = subst (λ (ρ : Room). Within ρ W) (sym (at-place-of .before .room-alone .ensures)) (within-alone W tested) in
+    let tested = passed (at-valid .valid .ensures) (at-place-of .before .if1 .left) in
+    let fits = room-alone W tested .1 .1 in
+    let valid = subst (λ (ρ : Room). Within ρ W) (sym (at-room .room-at .ensures)) (within W tested fits _) in
     let is = c .before .before .before .before .delays .ensures in
     (waits-few W (valid .limits), waits-noted W (valid .limits))
 
 put-down-requires : tie.Need-put-down-requires
 put-down-requires c κs =
-    let at-place-of = c .before .before .before .before .before .before .before .before .before .before in
-    let at-valid = at-place-of .before .before .before .before .before in
+    let at-room = c .before .before .before .before .before .before .before .before .before in
+    let at-place-of = at-room .before .before .before .before in
+    let at-valid = at-place-of .before .before in
     let a = at-valid .before .before .before .before .before .before .args in
     let b = a .self .state in
     let W = lent b (a .store .now) (a .log .now) in
-    let tested = passed (at-valid .valid .ensures) (at-place-of .before .before .before .before .if1 .left) in
-    let valid = subst (λ (ρ : Room). Within ρ W) (sym (at-place-of .before .room-alone .ensures)) (within-alone W tested) in
+    let tested = passed (at-valid .valid .ensures) (at-place-of .before .if1 .left) in
+    let fits = room-alone W tested .1 .1 in
+    let valid = subst (λ (ρ : Room). Within ρ W) (sym (at-room .room-at .ensures)) (within W tested fits _) in
     let is = c .before .before .before .before .before .before .before .before .delays .ensures in
     (lifts W valid refl .wide, (waits-few W (valid .limits), waits-placed W (valid .limits) (omega (arith, valid .behind, valid .inside))))
 
 step-in-requires : tie.Need-step-in-requires
 step-in-requires c κs =
-    let at-place-of = c .before .before .before .before .before .before in
-    let at-valid = at-place-of .before .before .before .before .before in
+    let at-room = c .before .before .before .before .before in
+    let at-place-of = at-room .before .before .before .before in
+    let at-valid = at-place-of .before .before in
     let a = at-valid .before .before .before .before .before .before .args in
     let b = a .self .state in
     let W = lent b (a .store .now) (a .log .now) in
-    let tested = passed (at-valid .valid .ensures) (at-place-of .before .before .before .before .if1 .left) in
-    let valid = subst (λ (ρ : Room). Within ρ W) (sym (at-place-of .before .room-alone .ensures)) (within-alone W tested) in
+    let tested = passed (at-valid .valid .ensures) (at-place-of .before .if1 .left) in
+    let fits = room-alone W tested .1 .1 in
+    let valid = subst (λ (ρ : Room). Within ρ W) (sym (at-room .room-at .ensures)) (within W tested fits _) in
     let is = c .before .before .before .before .delays .ensures in
     let k = at-place-of .place-of .result in
     let at = at-place-of .place-of .ensures .1 in
@@ -160,13 +168,15 @@ element-set-from-back c = search needs
 
 same-length-3 : tie.Need-same-length-3
 same-length-3 c =
-    let at-place-of = c .before .before .before .before .before .before .before .before .before .before .before .before .before .before .before .before in
-    let at-valid = at-place-of .before .before .before .before .before in
+    let at-room = c .before .before .before .before .before .before .before .before .before .before .before .before .before .before .before in
+    let at-place-of = at-room .before .before .before .before in
+    let at-valid = at-place-of .before .before in
     let a = at-valid .before .before .before .before .before .before .args in
     let b = a .self .state in
     let W = lent b (a .store .now) (a .log .now) in
-    let tested = passed (at-valid .valid .ensures) (at-place-of .before .before .before .before .if1 .left) in
-    let valid = subst (λ (ρ : Room). Within ρ W) (sym (at-place-of .before .room-alone .ensures)) (within-alone W tested) in
+    let tested = passed (at-valid .valid .ensures) (at-place-of .before .if1 .left) in
+    let fits = room-alone W tested .1 .1 in
+    let valid = subst (λ (ρ : Room). Within ρ W) (sym (at-room .room-at .ensures)) (within W tested fits _) in
     let is = c .before .before .before .before .before .before .before .before .before .before .before .before .before .before .delays .ensures in
     let k = at-place-of .place-of .result in
     let at = at-place-of .place-of .ensures .1 in
@@ -179,13 +189,15 @@ same-length-4 c = search needs
 returns-2 : tie.Need-returns-2
 unfolding stepOf
 returns-2 c =
-    let at-place-of = c .before .before .before .before .before .before .before .before .before .before .before .before .before .before .before .before in
-    let at-valid = at-place-of .before .before .before .before .before in
+    let at-room = c .before .before .before .before .before .before .before .before .before .before .before .before .before .before .before in
+    let at-place-of = at-room .before .before .before .before in
+    let at-valid = at-place-of .before .before in
     let a = at-valid .before .before .before .before .before .before .args in
     let b = a .self .state in
     let W = lent b (a .store .now) (a .log .now) in
-    let tested = passed (at-valid .valid .ensures) (at-place-of .before .before .before .before .if1 .left) in
-    let valid = subst (λ (ρ : Room). Within ρ W) (sym (at-place-of .before .room-alone .ensures)) (within-alone W tested) in
+    let tested = passed (at-valid .valid .ensures) (at-place-of .before .if1 .left) in
+    let fits = room-alone W tested .1 .1 in
+    let valid = subst (λ (ρ : Room). Within ρ W) (sym (at-room .room-at .ensures)) (within W tested fits _) in
     let is = c .before .before .before .before .before .before .before .before .before .before .before .before .before .before .delays .ensures in
     let k = at-place-of .place-of .result in
     let at = at-place-of .place-of .ensures .1 in
@@ -195,17 +207,19 @@ returns-2 c =
     let made = c .before .before .enum-told2 .given .1 in
     let step = lands W (a .worker) k valid at is L (at-step .step-in .result .line) (at-step .step-in .result .made) (got .1 .0) (past-fails W (a .worker) k valid at is L (got .1 .1 .0) made) in
     restarts b k (at-step .step-in .result .line) (at-step .step-in .result .made) step made (ap (set (b .restarts) k) (c .one-more .ensures))
-    ∙ ap (λ (ρ : Room). stepIn ρ W (a .worker)) (at-place-of .before .room-alone .ensures) ∙ sym (if-true _ tested)
+    ∙ ap (λ (ρ : Room). stepIn ρ W (a .worker)) (at-room .room-at .ensures) ∙ same-step W tested fits (a .worker) k at ∙ sym (if-true _ tested)
 
 finish-requires : tie.Need-finish-requires
 finish-requires c κs =
-    let at-place-of = c .before .before .before .before .before .before .before .before .before .before .before .before .before .before .before .before in
-    let at-valid = at-place-of .before .before .before .before .before in
+    let at-room = c .before .before .before .before .before .before .before .before .before .before .before .before .before .before .before in
+    let at-place-of = at-room .before .before .before .before in
+    let at-valid = at-place-of .before .before in
     let a = at-valid .before .before .before .before .before .before .args in
     let b = a .self .state in
     let W = lent b (a .store .now) (a .log .now) in
-    let tested = passed (at-valid .valid .ensures) (at-place-of .before .before .before .before .if1 .left) in
-    let valid = subst (λ (ρ : Room). Within ρ W) (sym (at-place-of .before .room-alone .ensures)) (within-alone W tested) in
+    let tested = passed (at-valid .valid .ensures) (at-place-of .before .if1 .left) in
+    let fits = room-alone W tested .1 .1 in
+    let valid = subst (λ (ρ : Room). Within ρ W) (sym (at-room .room-at .ensures)) (within W tested fits _) in
     let is = c .before .before .before .before .before .before .before .before .before .before .before .before .before .before .delays .ensures in
     let k = at-place-of .place-of .result in
     let at = at-place-of .place-of .ensures .1 in
@@ -220,13 +234,15 @@ reply-of-requires c κs = search needs
 
 same-length-5 : tie.Need-same-length-5
 same-length-5 c =
-    let at-place-of = c .before .before .before .before .before .before .before .before .before .before .before .before .before .before .before .before .before .before .before .before .before .before in
-    let at-valid = at-place-of .before .before .before .before .before in
+    let at-room = c .before .before .before .before .before .before .before .before .before .before .before .before .before .before .before .before .before .before .before .before .before in
+    let at-place-of = at-room .before .before .before .before in
+    let at-valid = at-place-of .before .before in
     let a = at-valid .before .before .before .before .before .before .args in
     let b = a .self .state in
     let W = lent b (a .store .now) (a .log .now) in
-    let tested = passed (at-valid .valid .ensures) (at-place-of .before .before .before .before .if1 .left) in
-    let valid = subst (λ (ρ : Room). Within ρ W) (sym (at-place-of .before .room-alone .ensures)) (within-alone W tested) in
+    let tested = passed (at-valid .valid .ensures) (at-place-of .before .if1 .left) in
+    let fits = room-alone W tested .1 .1 in
+    let valid = subst (λ (ρ : Room). Within ρ W) (sym (at-room .room-at .ensures)) (within W tested fits _) in
     let is = c .before .before .before .before .before .before .before .before .before .before .before .before .before .before .before .before .before .before .before .before .delays .ensures in
     let k = at-place-of .place-of .result in
     let at = at-place-of .place-of .ensures .1 in
@@ -239,13 +255,15 @@ same-length-6 c = search needs
 returns-3 : tie.Need-returns-3
 unfolding stepOf
 returns-3 c =
-    let at-place-of = c .before .before .before .before .before .before .before .before .before .before .before .before .before .before .before .before .before .before .before .before .before .before in
-    let at-valid = at-place-of .before .before .before .before .before in
+    let at-room = c .before .before .before .before .before .before .before .before .before .before .before .before .before .before .before .before .before .before .before .before .before in
+    let at-place-of = at-room .before .before .before .before in
+    let at-valid = at-place-of .before .before in
     let a = at-valid .before .before .before .before .before .before .args in
     let b = a .self .state in
     let W = lent b (a .store .now) (a .log .now) in
-    let tested = passed (at-valid .valid .ensures) (at-place-of .before .before .before .before .if1 .left) in
-    let valid = subst (λ (ρ : Room). Within ρ W) (sym (at-place-of .before .room-alone .ensures)) (within-alone W tested) in
+    let tested = passed (at-valid .valid .ensures) (at-place-of .before .if1 .left) in
+    let fits = room-alone W tested .1 .1 in
+    let valid = subst (λ (ρ : Room). Within ρ W) (sym (at-room .room-at .ensures)) (within W tested fits _) in
     let is = c .before .before .before .before .before .before .before .before .before .before .before .before .before .before .before .before .before .before .before .before .delays .ensures in
     let k = at-place-of .place-of .result in
     let at = at-place-of .place-of .ensures .1 in
@@ -253,17 +271,19 @@ returns-3 c =
     let at-step = c .before .before .before .before .before .before .before .before .before .before .before .before .before .before .before in
     let got = at-step .step-in .ensures in
     reply-left (c .reply-of .ensures) (finishes W (a .worker) k valid at is L (got .1 .1 .0) (got .1 .1 .1) (c .before .before .before .before .before .before .before .before .if3 .taken) (c .before .before .before .before .before .finish .ensures))
-    ∙ ap (λ (ρ : Room). stepIn ρ W (a .worker)) (at-place-of .before .room-alone .ensures) ∙ sym (if-true _ tested)
+    ∙ ap (λ (ρ : Room). stepIn ρ W (a .worker)) (at-room .room-at .ensures) ∙ same-step W tested fits (a .worker) k at ∙ sym (if-true _ tested)
 
 settled-requires : tie.Need-settled-requires
 settled-requires c κs =
-    let at-place-of = c .before .before .before .before .before .before .before .before .before .before .before .before .before .before in
-    let at-valid = at-place-of .before .before .before .before .before in
+    let at-room = c .before .before .before .before .before .before .before .before .before .before .before .before .before in
+    let at-place-of = at-room .before .before .before .before in
+    let at-valid = at-place-of .before .before in
     let a = at-valid .before .before .before .before .before .before .args in
     let b = a .self .state in
     let W = lent b (a .store .now) (a .log .now) in
-    let tested = passed (at-valid .valid .ensures) (at-place-of .before .before .before .before .if1 .left) in
-    let valid = subst (λ (ρ : Room). Within ρ W) (sym (at-place-of .before .room-alone .ensures)) (within-alone W tested) in
+    let tested = passed (at-valid .valid .ensures) (at-place-of .before .if1 .left) in
+    let fits = room-alone W tested .1 .1 in
+    let valid = subst (λ (ρ : Room). Within ρ W) (sym (at-room .room-at .ensures)) (within W tested fits _) in
     let is = c .before .before .before .before .before .before .before .before .before .before .before .before .delays .ensures in
     let k = at-place-of .place-of .result in
     let at = at-place-of .place-of .ensures .1 in
@@ -277,13 +297,15 @@ reply-of-requires-2 c κs = search needs
 
 same-length-7 : tie.Need-same-length-7
 same-length-7 c =
-    let at-place-of = c .before .before .before .before .before .before .before .before .before .before .before .before .before .before .before .before in
-    let at-valid = at-place-of .before .before .before .before .before in
+    let at-room = c .before .before .before .before .before .before .before .before .before .before .before .before .before .before .before in
+    let at-place-of = at-room .before .before .before .before in
+    let at-valid = at-place-of .before .before in
     let a = at-valid .before .before .before .before .before .before .args in
     let b = a .self .state in
     let W = lent b (a .store .now) (a .log .now) in
-    let tested = passed (at-valid .valid .ensures) (at-place-of .before .before .before .before .if1 .left) in
-    let valid = subst (λ (ρ : Room). Within ρ W) (sym (at-place-of .before .room-alone .ensures)) (within-alone W tested) in
+    let tested = passed (at-valid .valid .ensures) (at-place-of .before .if1 .left) in
+    let fits = room-alone W tested .1 .1 in
+    let valid = subst (λ (ρ : Room). Within ρ W) (sym (at-room .room-at .ensures)) (within W tested fits _) in
     let is = c .before .before .before .before .before .before .before .before .before .before .before .before .before .before .delays .ensures in
     let k = at-place-of .place-of .result in
     let at = at-place-of .place-of .ensures .1 in
@@ -296,13 +318,15 @@ same-length-8 c = search needs
 returns-4 : tie.Need-returns-4
 unfolding stepOf
 returns-4 c =
-    let at-place-of = c .before .before .before .before .before .before .before .before .before .before .before .before .before .before .before .before in
-    let at-valid = at-place-of .before .before .before .before .before in
+    let at-room = c .before .before .before .before .before .before .before .before .before .before .before .before .before .before .before in
+    let at-place-of = at-room .before .before .before .before in
+    let at-valid = at-place-of .before .before in
     let a = at-valid .before .before .before .before .before .before .args in
     let b = a .self .state in
     let W = lent b (a .store .now) (a .log .now) in
-    let tested = passed (at-valid .valid .ensures) (at-place-of .before .before .before .before .if1 .left) in
-    let valid = subst (λ (ρ : Room). Within ρ W) (sym (at-place-of .before .room-alone .ensures)) (within-alone W tested) in
+    let tested = passed (at-valid .valid .ensures) (at-place-of .before .if1 .left) in
+    let fits = room-alone W tested .1 .1 in
+    let valid = subst (λ (ρ : Room). Within ρ W) (sym (at-room .room-at .ensures)) (within W tested fits _) in
     let is = c .before .before .before .before .before .before .before .before .before .before .before .before .before .before .delays .ensures in
     let k = at-place-of .place-of .result in
     let at = at-place-of .place-of .ensures .1 in
@@ -311,23 +335,25 @@ returns-4 c =
     let got = at-step .step-in .ensures in
     let step = lands W (a .worker) k valid at is L (at-step .step-in .result .line) (at-step .step-in .result .made) (got .1 .0) (c .before .before .if3 .left) in
     reply-left (c .reply-of2 .ensures) (settles b k (at-step .step-in .result .line) (at-step .step-in .result .made) step (c .before .settled .ensures))
-    ∙ ap (λ (ρ : Room). stepIn ρ W (a .worker)) (at-place-of .before .room-alone .ensures) ∙ sym (if-true _ tested)
+    ∙ ap (λ (ρ : Room). stepIn ρ W (a .worker)) (at-room .room-at .ensures) ∙ same-step W tested fits (a .worker) k at ∙ sym (if-true _ tested)
 
-mul-t30 : tie.Need-mul-t30
-mul-t30 c = search needs
+mul-t27 : tie.Need-mul-t27
+mul-t27 c = search needs
 
 element-set-from-next : tie.Need-element-set-from-next
 element-set-from-next c = search needs
 
 same-length-9 : tie.Need-same-length-9
 same-length-9 c =
-    let at-place-of = c .before .before .before .before .before .before .before .before .before .before .before .before .before in
-    let at-valid = at-place-of .before .before .before .before .before in
+    let at-room = c .before .before .before .before .before .before .before .before .before .before .before .before in
+    let at-place-of = at-room .before .before .before .before in
+    let at-valid = at-place-of .before .before in
     let a = at-valid .before .before .before .before .before .before .args in
     let b = a .self .state in
     let W = lent b (a .store .now) (a .log .now) in
-    let tested = passed (at-valid .valid .ensures) (at-place-of .before .before .before .before .if1 .left) in
-    let valid = subst (λ (ρ : Room). Within ρ W) (sym (at-place-of .before .room-alone .ensures)) (within-alone W tested) in
+    let tested = passed (at-valid .valid .ensures) (at-place-of .before .if1 .left) in
+    let fits = room-alone W tested .1 .1 in
+    let valid = subst (λ (ρ : Room). Within ρ W) (sym (at-room .room-at .ensures)) (within W tested fits _) in
     let is = c .before .before .before .before .before .before .before .before .before .before .before .delays .ensures in
     let k = at-place-of .place-of .result in
     let at = at-place-of .place-of .ensures .1 in
@@ -340,13 +366,15 @@ same-length-10 c = search needs
 returns-5 : tie.Need-returns-5
 unfolding stepOf
 returns-5 c =
-    let at-place-of = c .before .before .before .before .before .before .before .before .before .before .before .before .before in
-    let at-valid = at-place-of .before .before .before .before .before in
+    let at-room = c .before .before .before .before .before .before .before .before .before .before .before .before in
+    let at-place-of = at-room .before .before .before .before in
+    let at-valid = at-place-of .before .before in
     let a = at-valid .before .before .before .before .before .before .args in
     let b = a .self .state in
     let W = lent b (a .store .now) (a .log .now) in
-    let tested = passed (at-valid .valid .ensures) (at-place-of .before .before .before .before .if1 .left) in
-    let valid = subst (λ (ρ : Room). Within ρ W) (sym (at-place-of .before .room-alone .ensures)) (within-alone W tested) in
+    let tested = passed (at-valid .valid .ensures) (at-place-of .before .if1 .left) in
+    let fits = room-alone W tested .1 .1 in
+    let valid = subst (λ (ρ : Room). Within ρ W) (sym (at-room .room-at .ensures)) (within W tested fits _) in
     let is = c .before .before .before .before .before .before .before .before .before .before .before .delays .ensures in
     let k = at-place-of .place-of .result in
     let at = at-place-of .place-of .ensures .1 in
@@ -356,7 +384,7 @@ returns-5 c =
     let made = c .enum-told .given .1 in
     let step = lands W (a .worker) k valid at is L (at-step .step-in .result .line) (at-step .step-in .result .made) (got .1 .0) (past-nothing W (a .worker) k valid at is L (got .1 .1 .0) made) in
     replaces b k (at-step .step-in .result .line) (at-step .step-in .result .made) step made
-    ∙ ap (λ (ρ : Room). stepIn ρ W (a .worker)) (at-place-of .before .room-alone .ensures) ∙ sym (if-true _ tested)
+    ∙ ap (λ (ρ : Room). stepIn ρ W (a .worker)) (at-room .room-at .ensures) ∙ same-step W tested fits (a .worker) k at ∙ sym (if-true _ tested)
 
 pub step-spec : {M : Type 1} → statement M
 step-spec =
@@ -367,10 +395,10 @@ step-spec =
     same-length
     same-length-2
     returns
-    room-alone-requires
     place-of-requires
     mul-own
     element-copy-out-own
+    room-at-requires
     delays-requires
     seen-requires
     put-down-requires
@@ -397,7 +425,7 @@ step-spec =
     same-length-7
     same-length-8
     returns-4
-    mul-t30
+    mul-t27
     element-set-from-next
     same-length-9
     same-length-10
