@@ -1,7 +1,7 @@
 // Where an index lies in the store: which index a put, a take and a steal name, which slot of an array it has, which words of
 // the store that slot is; and the room for a larger array. `read` is the anchor as a worker read it at line 1.
 // Uses `model` and `tasks`. It is used by `lines`, `waiting`, `limits`, `opening`, `events`, `machine`, `owner`, `plots`,
-// `queues` and `listing`.
+// `rooms`, `yard_calls` and `queues`.
 ghost use mathlib.Core.Path.{_≡_};
 ghost use mathlib.Core.Bool.{true};
 ghost use Prim.Native.Nat.{ℕ, _+_, _-_, _*_, _^_, _≤_, _<_};
