@@ -95,7 +95,7 @@ impl Bench {
     {
         let mut next = self.state;
         if !limits::valid(next, store, log) {
-            return refused(self, Refusal::ForeignState);
+            return refused(Bench { state: next }, Refusal::ForeignState);
         }
         let i = machine::place_of(worker);
         let own = next.workers[i];
@@ -127,6 +127,7 @@ impl Bench {
         let to = moved.line;
         let made = moved.made;
         // Most steps change only their worker's record, and a compare that fails also its count: these are made in place.
+        // What the others leave is put into the same local, so that every reply is one copy of it.
         let Made::Nothing = made else {
             if let Made::Fails = made {
                 let count = stages::one_more(next.restarts[i]);
@@ -138,10 +139,20 @@ impl Bench {
                     answer: Answer::GoesOn,
                 };
             }
+            let mut answer = Answer::GoesOn;
             if joins {
-                return reply_of(owner::finish(next, to, made, kept, store, log));
+                let done = owner::finish(next, to, made, kept, store, log);
+                answer = done.answer;
+                next = done.bench;
+            } else {
+                let done = machine::settled(next, i, to, made);
+                answer = done.answer;
+                next = done.bench;
             }
-            return reply_of(machine::settled(next, i, to, made));
+            return Reply {
+                bench: Bench { state: next },
+                answer,
+            };
         };
         next.workers[i] = Worker { line: to };
         Reply {

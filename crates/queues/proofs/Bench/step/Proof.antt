@@ -30,13 +30,12 @@ use Rattle.owner.proofs.finish.Reads as finish-reads
 use Rattle.steps.proofs.delays.Reads as delays-reads
 use Rattle.rooms.proofs.room_at.Reads as room-at-reads
 use Rattle.queues.proofs.refused.Reads as refused-reads
-use Rattle.queues.proofs.reply_of.Reads as reply-of-reads
 use Rattle.stages.proofs.one_more.Reads as one-more-reads
 use Rattle.waiting.proofs.put_down.Reads as put-down-reads
 use Rattle.waiting.proofs.seen.Reads as seen-reads
 
 -- what the step reads
-looks : (c : lts.Joined2 (valid-reads.Asked, valid-reads.Learnt, refused-reads.Asked, refused-reads.Learnt, place-of-reads.Asked, place-of-reads.Learnt, room-at-reads.Asked, room-at-reads.Learnt, delays-reads.Asked, delays-reads.Learnt, seen-reads.Asked, seen-reads.Learnt, put-down-reads.Asked, put-down-reads.Learnt, step-in-reads.Asked, step-in-reads.Learnt, one-more-reads.Asked, one-more-reads.Learnt, finish-reads.Asked, finish-reads.Learnt, reply-of-reads.Asked, reply-of-reads.Learnt, settled-reads.Asked, settled-reads.Learnt) reads.Pre reads.Post)
+looks : (c : lts.Joined2 (valid-reads.Asked, valid-reads.Learnt, refused-reads.Asked, refused-reads.Learnt, place-of-reads.Asked, place-of-reads.Learnt, room-at-reads.Asked, room-at-reads.Learnt, delays-reads.Asked, delays-reads.Learnt, seen-reads.Asked, seen-reads.Learnt, put-down-reads.Asked, put-down-reads.Learnt, step-in-reads.Asked, step-in-reads.Learnt, one-more-reads.Asked, one-more-reads.Learnt, finish-reads.Asked, finish-reads.Learnt, settled-reads.Asked, settled-reads.Learnt) reads.Pre reads.Post)
     → Looks (lent (c .before .before .before .before .before .before .before .before .before .before .before .before .before .before .before .args .self .state) (c .before .before .before .before .before .before .before .before .before .before .before .before .before .before .before .args .store .now) (c .before .before .before .before .before .before .before .before .before .before .before .before .before .before .before .args .log .now)) (c .before .before .delays .result) (c .if2 .queue) (c .if2 .store) (c .if2 .kept)
 looks c =
     let start = c .before .before .before .before .before .before .before .before .before .before .before .before .before .before .before in
@@ -229,9 +228,6 @@ finish-requires c κs =
     let (d, l, f) = can-finish W (a .worker) k valid at is L (got .1 .1 .0) (got .1 .1 .1) (c .before .before .if3 .taken) in
     (d, (l, f))
 
-reply-of-requires : tie.Need-reply-of-requires
-reply-of-requires c κs = search needs
-
 same-length-5 : tie.Need-same-length-5
 same-length-5 c =
     let at-room = c .before .before .before .before .before .before .before .before .before .before .before .before .before .before .before .before .before .before .before .before .before in
@@ -270,7 +266,7 @@ returns-3 c =
     let L = looks (c .before .before .before .before .before .before .before .before .before .before .before .before .before .before .before .before .before .before) in
     let at-step = c .before .before .before .before .before .before .before .before .before .before .before .before .before .before .before in
     let got = at-step .step-in .ensures in
-    reply-left (c .reply-of .ensures) (finishes W (a .worker) k valid at is L (got .1 .1 .0) (got .1 .1 .1) (c .before .before .before .before .before .before .before .before .if3 .taken) (c .before .before .before .before .before .finish .ensures))
+    reply-left {d = c .before .before .before .before .before .finish .result} refl (finishes W (a .worker) k valid at is L (got .1 .1 .0) (got .1 .1 .1) (c .before .before .before .before .before .before .before .before .if3 .taken) (c .before .before .before .before .before .finish .ensures))
     ∙ ap (λ (ρ : Room). stepIn ρ W (a .worker)) (at-room .room-at .ensures) ∙ same-step W tested fits (a .worker) k at ∙ sym (if-true _ tested)
 
 settled-requires : tie.Need-settled-requires
@@ -291,9 +287,6 @@ settled-requires c κs =
     let at-step = c .before .before .before .before .before .before .before in
     let got = at-step .step-in .ensures in
     (omega (arith, at-place-of .place-of .ensures .0), fits-past W (a .worker) k valid at is L (at-step .step-in .result .made) (got .0) (c .if3 .left))
-
-reply-of-requires-2 : tie.Need-reply-of-requires-2
-reply-of-requires-2 c κs = search needs
 
 same-length-7 : tie.Need-same-length-7
 same-length-7 c =
@@ -334,11 +327,11 @@ returns-4 c =
     let at-step = c .before .before .before .before .before .before .before .before .before in
     let got = at-step .step-in .ensures in
     let step = lands W (a .worker) k valid at is L (at-step .step-in .result .line) (at-step .step-in .result .made) (got .1 .0) (c .before .before .if3 .left) in
-    reply-left (c .reply-of2 .ensures) (settles b k (at-step .step-in .result .line) (at-step .step-in .result .made) step (c .before .settled .ensures))
+    reply-left {d = c .before .settled .result} refl (settles b k (at-step .step-in .result .line) (at-step .step-in .result .made) step (c .before .settled .ensures))
     ∙ ap (λ (ρ : Room). stepIn ρ W (a .worker)) (at-room .room-at .ensures) ∙ same-step W tested fits (a .worker) k at ∙ sym (if-true _ tested)
 
-mul-t27 : tie.Need-mul-t27
-mul-t27 c = search needs
+mul-t32 : tie.Need-mul-t32
+mul-t32 c = search needs
 
 element-set-from-next : tie.Need-element-set-from-next
 element-set-from-next c = search needs
@@ -416,16 +409,14 @@ step-spec =
     same-length-4
     returns-2
     finish-requires
-    reply-of-requires
+    settled-requires
     same-length-5
     same-length-6
     returns-3
-    settled-requires
-    reply-of-requires-2
     same-length-7
     same-length-8
     returns-4
-    mul-t27
+    mul-t32
     element-set-from-next
     same-length-9
     same-length-10
