@@ -1,8 +1,8 @@
 //! A second simulator of the bench for idempotent work-stealing queues.
 //!
-//! It plays the same input as the bench program and prints the same listing,
-//! and it answers the same lists of library calls as the program `calls`, byte
-//! for byte. It is written from documents 01 and 02 alone, so that a mistake in
+//! It plays the same input as the bench program and prints the same listing, it
+//! answers the same lists of library calls as the program `calls`, and it finds the
+//! same orders as the program `hunt`, byte for byte. It is written from documents 01 and 02 alone, so that a mistake in
 //! the one is not a mistake in the other, and it is deliberately built the other
 //! way round: one machine for each figure, each with lines of its own, and
 //! nothing shared between them but the store and what guards an anchor.
@@ -28,6 +28,7 @@
 //!   these;
 //! - [`apart`], [`alone`]: what a call leaves alone, and a queue beside itself alone;
 //!   [`company`]: both; [`verdict`]: what was found of each queue and of all;
+//! - [`hunt`]: the hunt for the most repeats, [`hunt_text`]: its text;
 //! - [`log_judge`]: the judgement of a matcher's own log, [`log_cases`]: logs to
 //!   judge, by seed;
 //! - [`random`], [`script`], [`episodes`], [`damage`]: long random runs by seed.
@@ -49,6 +50,8 @@ pub mod episodes;
 pub mod fifo;
 pub mod found;
 pub mod guard;
+pub mod hunt;
+pub mod hunt_text;
 pub mod input;
 pub mod lent;
 pub mod lifo;

@@ -2,7 +2,7 @@
 
 use crate::task::Task;
 
-/// The refusals that a listing or a list of calls can show, by their numbers.
+/// The refusals that a listing, a list of calls or a hunt can show, by their numbers.
 pub mod refusal {
     pub const UNKNOWN_QUEUE: u32 = 1;
     pub const TAG_WIDTH: u32 = 2;
@@ -26,6 +26,8 @@ pub mod refusal {
     pub const NO_ASK: u32 = 22;
     pub const SHORT_QUOTA: u32 = 23;
     pub const NO_SUCH_QUEUE: u32 = 24;
+    pub const MANY_OPERATIONS: u32 = 25;
+    pub const LARGE_BUDGET: u32 = 26;
 }
 
 /// What one step did. A machine that answers `Refused` has changed nothing.

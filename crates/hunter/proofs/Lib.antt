@@ -1,0 +1,4 @@
+pub mod Sums
+pub mod Starting
+pub mod Hunting
+pub mod Rounding

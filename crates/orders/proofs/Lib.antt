@@ -1,0 +1,10 @@
+pub mod Rows
+pub mod AllOrders
+pub mod Best
+pub mod NextOrder
+pub mod Walking
+pub mod Turning
+pub mod Spends
+pub mod HandOuts
+pub mod Reports
+pub mod NoneRefused

@@ -1,0 +1,4 @@
+pub mod Orders
+pub mod Next
+pub mod Hunt
+pub mod Claims

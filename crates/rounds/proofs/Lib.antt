@@ -1,0 +1,4 @@
+pub mod Begins
+pub mod Course
+pub mod Opening
+pub mod Playing
