@@ -1,6 +1,9 @@
 // What fresh and begin admit: the ranges of fresh's five numbers, who may begin what, whether a put number is left, and
 // whether a commit has been asked for.
 // Uses `model`. It is used by `limits` and `opening`.
+
+#![tactic(auto)]
+
 ghost use Rattle.std.specs.Prelude.{◌≡◌, ltb, leb};
 ghost use Rattle.model.specs.Tests.{◌and◌};
 ghost use Rattle.model.specs.Limits.{is_size, width_ok, crew_ok, words_ok};

@@ -2,6 +2,9 @@
 // what a last line stores, and which anchor that leaves. `anchor` is the anchor now, `read` the anchor as a worker read it at
 // line 1.
 // Uses `model`. It is used by `lines`, `waiting`, `limits` and `machine`.
+
+#![tactic(auto)]
+
 ghost use Rattle.std.specs.Prelude.{◌≡◌, ◌+◌, ◌%◌, ◌≤◌, true};
 ghost use Rattle.model.specs.declared.Store.TheVariants.{StorePut, StoreOut};
 ghost use Rattle.model.specs.Figures.{next_tag, is_empty, put_store, take_store, steal_store, is_same};

@@ -1,5 +1,8 @@
 // What an answer says in document 01's numbers: a refusal's number, and the log entry of an answer that ends an operation.
 // Uses `model` and `tasks`. It is used by `memory`, `machine`, `replies`, `queues` and `plays`.
+
+#![tactic(auto)]
+
 ghost use Rattle.std.specs.Prelude.{◌≡◌};
 ghost use Rattle.model.specs.Answers.{number_of, entry_of};
 ghost use Rattle.answers.specs.Entries.{as_defined};
@@ -7,7 +10,7 @@ ghost use Rattle.answers.specs.Entries.{as_defined};
 use model::{Answer, Refusal, Task};
 
 // An entry of the log.
-#[derive(Drop)]
+#[derive(Clone, Copy)]
 pub struct Entry {
     pub kind: u32,
     pub worker: u32,

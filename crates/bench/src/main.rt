@@ -1,6 +1,9 @@
 // The bench program: reads lines from standard input and writes their listing to standard output. What it shows is proved in the
 // crate `listing`, on slices; here it is read in chunks and written before the next read.
 // Uses `replies`, `listing` and `model`, of the kit `io`, `libc` and `os`. It is a program, and no crate uses it.
+
+#![tactic(auto)]
+
 ghost use Rattle.std.specs.Prelude.{◌≡◌, true, ◌≤◌, ◌<◌, length};
 ghost use Rattle.model.specs.Listing.{program_store, program_log};
 ghost use Rattle.replies.specs.Sessions.{program_of};
@@ -10,13 +13,13 @@ use libc::{STDIN_FILENO, STDOUT_FILENO};
 use replies::{LONGEST, Session};
 
 // What the buffer holds: so many bytes to play, none if there is nothing left to do, and whether nothing comes after them.
-#[derive(Drop)]
+#[derive(Clone, Copy)]
 struct Input {
     bytes: usize,
     last: bool,
 }
 
-#[derive(Drop)]
+#[derive(Clone, Copy)]
 struct Turn {
     session: Session,
     have: usize,

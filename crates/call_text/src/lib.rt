@@ -1,13 +1,16 @@
 // The text of a list of library calls: a line's bytes read as what it asks for, and an answer's words written as a line. The form is
 // in docs/CALLS.md. What is proved is that text is read and written safely; what it means is compared with the second simulator.
 // Uses `model` and `text`. It is used by `calls`.
+
+#![tactic(auto)]
+
 ghost use Rattle.std.specs.Prelude.{◌≡◌, ◌+◌, ◌≤◌, ◌<◌, length};
 
 use model::{Payload, Setup};
 use text::Value;
 
 // A call: operation, worker and payload as `plays` has them.
-#[derive(Drop)]
+#[derive(Clone, Copy)]
 pub struct Call {
     pub operation: u32,
     pub worker: u32,
@@ -15,7 +18,7 @@ pub struct Call {
 }
 
 // What a bench or a queue is asked for: a call made so many times, or to show its log's front, what is shared or a worker's restarts.
-#[derive(Drop)]
+#[derive(Clone, Copy)]
 pub enum Request {
     Front,
     State,
@@ -24,14 +27,14 @@ pub enum Request {
 }
 
 // How many words a queue may have: the whole store where the line does not say.
-#[derive(Drop)]
+#[derive(Clone, Copy)]
 pub enum Quota {
     Whole,
     Words { words: u32 },
 }
 
 // What a line says, if it has a form. A call is of the bench alone, or of the queue that the line names.
-#[derive(Drop)]
+#[derive(Clone, Copy)]
 pub enum ListLine {
     Bad,
     Memory { store: u32, log: u32 },
@@ -41,7 +44,7 @@ pub enum ListLine {
     AsksOf { queue: u32, asked: Request },
 }
 
-#[derive(Drop)]
+#[derive(Clone, Copy)]
 enum Key {
     Other,
     Memory,
@@ -58,7 +61,7 @@ enum Key {
 }
 
 // The numbers of a line. The count is one more than a line may have where there are more, or where a word is no number.
-#[derive(Drop)]
+#[derive(Clone, Copy)]
 struct Values {
     count: usize,
     v: [u32; 7],

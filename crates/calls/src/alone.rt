@@ -7,7 +7,7 @@ use model::Setup;
 use queues::Bench;
 
 // What a line left.
-#[derive(Drop)]
+#[derive(Clone, Copy)]
 pub struct After {
     pub bench: Bench,
     pub text: Text,

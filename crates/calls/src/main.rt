@@ -2,6 +2,9 @@
 // form of both is in docs/CALLS.md. A line that is not of the form is told on standard error, and ends the program; what was played
 // before is printed.
 // Uses `queues`, `plays`, `call_text` and `model`, of the kit `io`, `libc` and `os`. It is a program, and no crate uses it.
+
+#![tactic(auto)]
+
 ghost use Rattle.std.specs.Prelude.{◌≡◌, ◌<◌, ◌≤◌, min, length};
 
 use alone::After;
@@ -16,14 +19,14 @@ mod output;
 mod yard;
 
 // What the buffer holds: so many bytes to play, none if there is nothing left to do, and whether nothing comes after them.
-#[derive(Drop)]
+#[derive(Clone, Copy)]
 struct Input {
     bytes: usize,
     last: bool,
 }
 
 // What a list is about: a bench alone or the queues of a yard. The line behind `memory` says which.
-#[derive(Drop)]
+#[derive(Clone, Copy)]
 enum About {
     Nothing,
     Memory,
@@ -32,7 +35,7 @@ enum About {
 }
 
 // What is played, on the first words of the store and of each log.
-#[derive(Drop)]
+#[derive(Clone, Copy)]
 struct Game {
     about: About,
     store: usize,
@@ -42,7 +45,7 @@ struct Game {
 }
 
 // What a line left, and whether to go on: it had a form, stood where it may, and its text could be written.
-#[derive(Drop)]
+#[derive(Clone, Copy)]
 struct Turn {
     game: Game,
     text: Text,
@@ -50,7 +53,7 @@ struct Turn {
 }
 
 // What the lines of a buffer left, and how many of its bytes they are.
-#[derive(Drop)]
+#[derive(Clone, Copy)]
 struct Lines {
     game: Game,
     text: Text,
@@ -59,7 +62,7 @@ struct Lines {
 }
 
 // What a read left: how many bytes of a line that has begun stand in the buffer, and whether there is more to do.
-#[derive(Drop)]
+#[derive(Clone, Copy)]
 struct Next {
     game: Game,
     have: usize,

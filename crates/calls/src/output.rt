@@ -5,7 +5,7 @@ use libc::{STDERR_FILENO, STDOUT_FILENO};
 use model::{Anchor, Answer, Queue, Store, Tally};
 
 // Where the text ends that waits in the output, and whether every write so far could be made.
-#[derive(Drop)]
+#[derive(Clone, Copy)]
 pub struct Text {
     pub end: usize,
     pub good: bool,

@@ -7,7 +7,7 @@ use model::{Operation, Setup};
 use queues::{Yard, YardReply};
 
 // What a line left.
-#[derive(Drop)]
+#[derive(Clone, Copy)]
 pub struct Left {
     pub yard: Yard,
     pub text: Text,

@@ -1,6 +1,9 @@
 // The six counts of `T`, worked out from log, store and state as the model defines them, for any memory and any state in which no
 // store waits: the program's stores are not delayed.
 // Uses `model` and `handouts`. It is used by `replies`.
+
+#![tactic(auto)]
+
 ghost use Rattle.std.specs.Prelude.{◌≡◌, [], ◌+◌, ◌-◌, ◌/◌, ◌%◌, ◌≤◌, ◌<◌, length, get_or};
 ghost use Rattle.model.specs.Tests.{◌and◌};
 ghost use Rattle.model.specs.Memory.{nowhere};

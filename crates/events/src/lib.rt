@@ -2,6 +2,9 @@
 // memory, an idle owner asks for growth or drops its ask, and a worker's restarts are asked for. What ends in `_in` is a call past
 // refusal 12; a lone queue's call tests the limits and goes on there.
 // Uses `model`, `stages`, `slots`, `limits`, `waiting` and `state`. It is used by `queues` and `replies`.
+
+#![tactic(auto)]
+
 ghost use Rattle.std.specs.Prelude.{true, List, [], ◌≡◌, ℕ, ◌≤◌, length};
 ghost use Rattle.model.specs.Stores.{taken};
 ghost use Rattle.model.specs.World.{owners_view};

@@ -2,6 +2,9 @@
 // a library call gives, their order, the last words of the log, and foreign states, each beside the
 // nearest one that is allowed. One line for each call: what was tried, and what the bench answered.
 // Uses `queues` and `model`, of the kit `io` and `libc`. It is a program, and no crate uses it.
+
+#![tactic(auto)]
+
 use libc::STDOUT_FILENO;
 use model::{Line, Operation, Setup};
 use queues::Bench;

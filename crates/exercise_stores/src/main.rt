@@ -1,6 +1,9 @@
 // Plays through the public calls what delayed stores and growth that is asked for add: waiting lines and words set aside that no
 // call leaves, each beside the nearest one that is allowed, their refusals, and a commit's lines. One line for each try.
 // Uses `queues`, `model` and `tries`. It is a program, and no crate uses it.
+
+#![tactic(auto)]
+
 mod delayed;
 mod growth;
 

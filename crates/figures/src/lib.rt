@@ -1,6 +1,9 @@
 // What differs from figure to figure of the lines: which line follows a read, a test or X2. `anchor` is the anchor now, `read` the
 // anchor as a worker read it at line 1. What becomes of the anchor is told by `anchors`, where an index lies by `slots`.
 // Uses `model`. It is used by `lines`.
+
+#![tactic(auto)]
+
 ghost use Rattle.std.specs.Prelude.{◌≡◌, ◌≤◌};
 ghost use Rattle.model.specs.declared.Line.TheVariants.{Claim, PutWord};
 ghost use Rattle.model.specs.declared.Growth.TheVariants.{ForPut};

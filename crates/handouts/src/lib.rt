@@ -1,6 +1,9 @@
 // What the entries of a log say: of which kind they are, how many put numbers they hand out, and whether a task is handed out,
 // all words of it. For any words, and any count of payload words.
 // Uses `model`. It is used by `counts`.
+
+#![tactic(auto)]
+
 ghost use Rattle.std.specs.Prelude.{◌≡◌, ◌+◌, ◌%◌, ◌≤◌, ◌<◌, length, get_or};
 ghost use Rattle.model.specs.Tests.{if◌then◌else◌, ◌and◌};
 ghost use Rattle.model.specs.Tasks.{gathered, same_task};

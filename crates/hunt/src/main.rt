@@ -1,5 +1,8 @@
 // The program `hunt`: reads one hunt from standard input, and prints the order found as a run for `bench`, then its report.
 // Uses `hunter`, `orders`, `queues`, `text` and `model`, of the kit `io`, `libc` and `os`. It is a program, and no crate uses it.
+
+#![tactic(auto)]
+
 ghost use Rattle.std.specs.Prelude.{◌≤◌, ◌<◌, length};
 
 use hunter::Found;
@@ -10,7 +13,7 @@ use queues::Bench;
 use text::Value;
 
 // What the buffer holds: so many bytes to read, none if there is nothing left to do, and whether nothing comes after them.
-#[derive(Drop)]
+#[derive(Clone, Copy)]
 struct Input {
     bytes: usize,
     last: bool,
@@ -18,7 +21,7 @@ struct Input {
 
 // The hunt as it is told. Of `stage` see below. `numbers` counts those of the queue's line, and of the owner's list the first 65
 // operations are kept: a hunt with that many is refused whatever they are.
-#[derive(Drop)]
+#[derive(Clone, Copy)]
 struct Wish {
     stage: u32,
     setup: Setup,
@@ -43,7 +46,7 @@ const WRONG: u32 = 3;
 const LINE: usize = 72;
 
 // The numbers of a line: how many, 3 if there are more or a word is none, and the first two.
-#[derive(Drop)]
+#[derive(Clone, Copy)]
 struct Pair {
     count: u32,
     first: u32,
@@ -51,7 +54,7 @@ struct Pair {
 }
 
 // What the lines of a buffer left, and how many of its bytes they are.
-#[derive(Drop)]
+#[derive(Clone, Copy)]
 struct Lines {
     wish: Wish,
     used: usize,
@@ -429,7 +432,7 @@ fn tell_report(ok: bool, found: Found) {
 
 // What the replay has told: the bench, how many of the owner's list are begun and how many of these are puts, and the steps that
 // are not told yet.
-#[derive(Drop)]
+#[derive(Clone, Copy)]
 struct Replay {
     bench: Bench,
     begun: u32,

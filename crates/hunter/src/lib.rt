@@ -1,6 +1,9 @@
 // The hunt for an order of steps with the most repeated hand-outs: the orders are played one after the other, each from a fresh
 // bench, until all are played out or the budget of steps is spent.
 // Uses `model`, `theorems`, `orders`, `turns`, `rounds`, `slots`, `state`, `memory`, `opening` and `handouts`. It is used by `hunt`.
+
+#![tactic(auto)]
+
 ghost use Rattle.std.specs.Prelude.{◌≡◌, Bool, true, false, List, [], ◌∷◌, map, ℕ, ◌+◌, ◌-◌, ◌≤◌, ◌<◌, min, eqb, ltb, length, take, drop, get_or, replicate};
 ghost use Rattle.model.specs.World.{World};
 ghost use Rattle.model.specs.Tests.{if◌then◌else◌, ◌or◌, least};
@@ -18,7 +21,7 @@ use orders::Verdict;
 use state::Stop;
 
 // The report: its order stands in the first `length` places.
-#[derive(Drop)]
+#[derive(Clone, Copy)]
 pub struct Found {
     pub verdict: Verdict,
     pub order: [u32; 256],
@@ -29,7 +32,7 @@ pub struct Found {
 }
 
 // An order played: its steps and its repeats; or it was cut off.
-#[derive(Drop)]
+#[derive(Clone, Copy)]
 pub struct Round {
     pub steps: u32,
     pub repeats: u32,

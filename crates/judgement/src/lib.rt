@@ -1,5 +1,8 @@
 // The judgement of a log that a running matcher wrote (specs/), the verdict's type, and the reading of words and of the entries' order.
 // Uses `model`. It is used by `puts`, `marks`, `judge` and `accepted`.
+
+#![tactic(auto)]
+
 ghost use Rattle.std.specs.Prelude.{◌≡◌, ◌+◌, ◌*◌, ◌≤◌, ◌<◌, length, get_or};
 ghost use Rattle.model.specs.Tests.{◌and◌};
 ghost use Rattle.model.specs.Tasks.{same_task};
@@ -8,7 +11,7 @@ ghost use Rattle.judgement.specs.Judgement.{words_of, all_below, known, rises, e
 
 // What the judge answers: no such count of payload words; a list is too long, or its length is none of whole entries (of whole
 // numbers); the log is not accepted; or it is, with its hand-outs and, among them, the repeats.
-#[derive(Drop)]
+#[derive(Clone, Copy)]
 pub enum Verdict {
     PayloadWords,
     TooLong,

@@ -5,6 +5,9 @@
 // The limits on one queue, wherever its arrays lie, are apart from those on a queue that has the store for itself.
 // Uses `model`, `anchors`, `slots`, `stages`, `admission`, `ranges` and `waiting`. It is used by `opening`, `events`, `plots` and `queues`,
 // and by proofs of `owner`, `steps` and `listing`.
+
+#![tactic(auto)]
+
 ghost use Rattle.std.specs.Prelude.{◌≡◌, true, false, List, ℕ, ◌+◌, ◌-◌, ◌*◌, ◌≤◌, ◌<◌, eqb, ltb};
 ghost use Rattle.model.specs.declared.Queue.{Queue};
 ghost use Rattle.model.specs.Tests.{if◌then◌else◌, ◌and◌};
@@ -118,7 +121,7 @@ fn own_line(worker: u32, at: u32) -> bool
 }
 
 // The arrays as a worker reads them: how many are published, and the current one's size.
-#[derive(Drop)]
+#[derive(Clone, Copy)]
 struct Reach {
     published: u32,
     tasks: u32,
@@ -126,7 +129,7 @@ struct Reach {
 
 // What the limits of a worker's line are taken from: the bench without its workers, and of the directory the first array's size
 // and what thieves, that read memory, and the owner read.
-#[derive(Drop)]
+#[derive(Clone, Copy)]
 struct Scope {
     kind: Kind,
     width: u32,
@@ -235,7 +238,7 @@ fn workers_ok(bench: Bench, bits: u32, memory: Reach, owner: Reach) -> bool
 
 // What the owner reads of the queue, as far as its waiting stores change it: how many arrays are published, and the anchor. It
 // is told only of a `fine` line, of at most 8 stores, of none without the mode, and with notes that name places of the directory.
-#[derive(Drop)]
+#[derive(Clone, Copy)]
 struct View {
     fine: bool,
     published: u32,

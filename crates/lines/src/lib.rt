@@ -1,6 +1,9 @@
 // What one line of figures 1, 2 and 3 does, as two pure functions: the line that its worker comes to (next_line), and what it does
 // beside, an action (decide): its claim, its stores and its answer. Landing the stores is another crate's.
 // Uses `model`, `tasks`, `anchors`, `figures` and `slots`. It is used by `machine` and `owner`.
+
+#![tactic(auto)]
+
 ghost use Rattle.std.specs.Prelude.{◌≡◌, true, false, not, List, [], ◌∷◌, ℕ, ◌+◌, ◌-◌, ◌*◌, ◌^◌, ◌≤◌, ◌<◌, length};
 ghost use Rattle.model.specs.declared.Line.{Line};
 ghost use Rattle.model.specs.declared.Line.TheVariants.{TakeWord, StealWord};
@@ -20,7 +23,7 @@ use model::{Anchor, Answer, Growth, Kind, Line, Queue, Room, Store, Task};
 // put's word or X4's note; X3's, one for each word of `task`, in slot `slot` of the array at `place` of the directory; it claims a
 // range; or it ends its operation, with no store or with one: of the anchor, or the note of a commit's X4. No line is in it: the prover writes out a type wherever
 // a value of it is in reach, and `Line` has 22 cases.
-#[derive(Drop)]
+#[derive(Clone, Copy)]
 pub enum Action {
     Nothing,
     Fails,

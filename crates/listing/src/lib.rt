@@ -1,5 +1,8 @@
 // Lines of input played one after the other, and what they print, however the input is cut into buffers.
 // Uses `model`, `theorems`, `stages`, `rooms`, `limits`, `state`, `machine`, `text` and `replies`. It is used by `bench`.
+
+#![tactic(auto)]
+
 ghost use Rattle.std.specs.Prelude.{◌≡◌, ◌+◌, ◌-◌, ◌≤◌, min, length, drop};
 ghost use Rattle.replies.specs.Sessions.{program_of, left_by};
 ghost use Rattle.listing.specs.Listing.{until_newline};
@@ -12,7 +15,7 @@ use state::Stop;
 
 // What consuming a buffer left: the session, how many bytes were played and how many written, and whether an accepted `end` was
 // among them.
-#[derive(Drop)]
+#[derive(Clone, Copy)]
 pub struct Consumed {
     pub session: Session,
     pub used: usize,

@@ -4,6 +4,9 @@
 // local can so replace the one record that most steps change; `settled` has the other steps.
 // Uses `model`, `answers`, `stages`, `anchors`, `slots`, `lines`, `memory` and `state`. It is used by `owner`, `steps`,
 // `queues` and `listing`.
+
+#![tactic(auto)]
+
 ghost use Rattle.std.specs.Prelude.{◌≡◌, Bool, true, false, not, List, ℕ, ◌≤◌, ◌<◌, length};
 ghost use Rattle.model.specs.declared.Room.{Room};
 ghost use Rattle.model.specs.declared.Waiting.{Waiting};
@@ -40,7 +43,7 @@ use state::Returned;
 // What a step did beside moving its worker on: nothing that changes the state; it was refused; its compare failed; it linked the
 // anchor; it claimed an array or published it; or it ended its operation, with the anchor as it is or another one, and logged its
 // entry; or it did so and published the claimed array, at X4 of a commit. Or nothing is done yet: the step's action waits for a caller that lets its stores join the waiting line.
-#[derive(Drop)]
+#[derive(Clone, Copy)]
 pub enum Made {
     Nothing,
     Refused { why: Refusal },
@@ -55,7 +58,7 @@ pub enum Made {
 }
 
 // What a step leaves: the line that its worker is at, and what it did beside.
-#[derive(Drop)]
+#[derive(Clone, Copy)]
 pub struct Moved {
     pub line: Line,
     pub made: Made,

@@ -1,12 +1,15 @@
 // The hand-outs of a log counted, and the finished puts marked that are handed out or listed.
 // Uses `model`, `judgement` and `puts`. It is used by `judge`.
+
+#![tactic(auto)]
+
 ghost use Rattle.std.specs.Prelude.{◌≡◌, ℕ, ◌*◌, ◌≤◌, ◌<◌, length, get_or};
 ghost use Rattle.judgement.specs.Judgement.{words_of, all_below, entry_bytes};
 ghost use Rattle.puts.specs.Puts.{Rising, Gathered};
 ghost use Rattle.marks.specs.Marks.{Marked, OutsBy, is_marked};
 
 // What the hand-outs told: whether each repeats an earlier finished put, how many there are, and of how many puts.
-#[derive(Drop)]
+#[derive(Clone, Copy)]
 pub struct Outs {
     pub fine: bool,
     pub handouts: u32,

@@ -1,6 +1,9 @@
 // The caller's memory: where a log entry goes, the log's written front, a task's words, a zeroed range of the store. Each is a
 // definition's short name, as code.
 // Uses `model` and `answers`. It is used by `opening`, `machine`, `owner` and `queues`.
+
+#![tactic(auto)]
+
 ghost use Rattle.std.specs.Prelude.{◌≡◌, ◌+◌, ◌≤◌, ◌<◌, leb, length, replicate, take};
 ghost use Rattle.model.specs.Tests.{◌and◌};
 ghost use Rattle.model.specs.Tasks.{words_in};

@@ -2,8 +2,10 @@
 // call does to them, and every crate above (theorems, code) speaks of these same types.
 // Uses no other crate. All others are built on it.
 
+#![tactic(auto)]
+
 // Figures 1, 2 and 3. The double-ended queue is the field's deque. Kinds 4 and 5 are LIFO and double-ended, linked (`Queue.linked`).
-#[derive(Drop)]
+#[derive(Clone, Copy)]
 pub enum Kind {
     Lifo,
     Fifo,
@@ -11,7 +13,7 @@ pub enum Kind {
 }
 
 // The caller's payload: 1 to 4 words, as many as `Bench.words` says. The others are 0. (An enum can't hold an array.)
-#[derive(Drop)]
+#[derive(Clone, Copy)]
 pub struct Payload {
     pub first: u32,
     pub second: u32,
@@ -21,7 +23,7 @@ pub struct Payload {
 
 // A task: its put number, word 0, and the caller's payload, words 1 and up. The figures' task is the payload alone; the number is
 // the bench's, and tells two tasks with one payload apart.
-#[derive(Drop)]
+#[derive(Clone, Copy)]
 pub struct Task {
     pub number: u32,
     pub payload: Payload,
@@ -30,7 +32,7 @@ pub struct Task {
 // What line 1 reads whole and a compare (the field's compare-and-swap) compares. Double-ended: (h, s, g). LIFO: (t, g) is `count`
 // and `tag`, `head` is 0. FIFO: head, and the tail in `count`; `tag` is 0, as in a linked queue. The tag is there against ABA: each put raises it, so
 // that a compare sees that puts have finished since line 1, unless the tag has come round.
-#[derive(Drop)]
+#[derive(Clone, Copy)]
 pub struct Anchor {
     pub head: u32,
     pub count: u32,
@@ -39,7 +41,7 @@ pub struct Anchor {
 
 // One store to a shared place: a task's word (in the array at `place` of the directory), the note of the current array (its place in
 // the directory), the anchor by a put, the anchor by a hand-out, and of FIFO the head (by a hand-out) or the tail (by a put).
-#[derive(Drop)]
+#[derive(Clone, Copy)]
 pub enum Store {
     StoreWord {
         place: u32,
@@ -65,7 +67,7 @@ pub enum Store {
 }
 
 // Why the array grows: for a put, or for a commit, an operation of X1 to X4 alone.
-#[derive(Drop)]
+#[derive(Clone, Copy)]
 pub enum Growth {
     ForPut { task: Task },
     ForCommit,
@@ -74,7 +76,7 @@ pub enum Growth {
 // The line a worker is at, with the values read so far, a thread's own variables; `read` is the anchor as it read it. Put, take
 // and steal are the figures' names; X1 to X4 are their `expand`. Beside each case: the line's number in figures 1 and 3, then in
 // figure 2.
-#[derive(Drop)]
+#[derive(Clone, Copy)]
 pub enum Line {
     Idle,
     // put 1; 1
@@ -177,21 +179,21 @@ pub enum Line {
 }
 
 // A worker's record; a worker is the field's thread.
-#[derive(Drop)]
+#[derive(Clone, Copy)]
 pub struct Worker {
     pub line: Line,
 }
 
 // A pair of the directory: an array's offset and length in the store, in words. Where a figure has a pointer to an array, the
 // bench has the pair's place in the directory: a thief notes the place, as the figure's thief reads the pointer.
-#[derive(Drop)]
+#[derive(Clone, Copy)]
 pub struct Region {
     pub offset: u32,
     pub length: u32,
 }
 
 // What X1 finds in the store: the next free word, and how many words are left for an array of its queue.
-#[derive(Drop)]
+#[derive(Clone, Copy)]
 pub struct Room {
     pub next: u32,
     pub left: u32,
@@ -201,7 +203,7 @@ pub struct Room {
 // at most 11). The first `published` pairs are published, the first `claimed` are claimed. `initial` is the first array's size, in
 // tasks: it never changes, and array k's is this, doubled k times, so that no line has to divide a length for a size. On a machine
 // with load-linked and store-conditional the anchor is `linked`, and `links` says which workers hold a link to it.
-#[derive(Drop)]
+#[derive(Clone, Copy)]
 pub struct Queue {
     pub linked: bool,
     pub anchor: Anchor,
@@ -213,13 +215,13 @@ pub struct Queue {
 }
 
 // A place in the owner's waiting line. (Code can't read an array of enums in a struct, but one of structs.)
-#[derive(Drop)]
+#[derive(Clone, Copy)]
 pub struct Pending {
     pub store: Store,
 }
 
 // The owner's waiting line: the first `count` stores wait, the oldest first.
-#[derive(Drop)]
+#[derive(Clone, Copy)]
 pub struct Waiting {
     pub stores: [Pending; 8],
     pub count: u32,
@@ -228,7 +230,7 @@ pub struct Waiting {
 // The bench's state. `width` is the tag's, `words` counts the payload words of a task; with `delayed` the owner's stores wait before
 // they reach memory; `crew` counts the workers, `aside` the words that an ask has set aside (0 without one), `used` the put numbers
 // given out, `restarts` each worker's compares that failed (the field's retries); `written` is the log's length, in words.
-#[derive(Drop)]
+#[derive(Clone, Copy)]
 pub struct Bench {
     pub kind: Kind,
     pub width: u32,
@@ -246,7 +248,7 @@ pub struct Bench {
 
 // Up to four queues over one store, in the order of their making, each with its quota of words. Of the four places the first `made`
 // are made.
-#[derive(Drop)]
+#[derive(Clone, Copy)]
 pub struct Yard {
     pub benches: [Bench; 4],
     pub quotas: [u32; 4],
@@ -256,7 +258,7 @@ pub struct Yard {
 // What fresh is told: the kind's number (1 LIFO, 2 FIFO, 3 double-ended; 4 and 5 are 1 and 3, linked), the tag's width in bits, the
 // size of the first array in tasks, how many workers there are, how many payload words a task has, and whether the owner's stores
 // are delayed. It may be told any numbers.
-#[derive(Drop)]
+#[derive(Clone, Copy)]
 pub struct Setup {
     pub kind: u32,
     pub width: u32,
@@ -267,7 +269,7 @@ pub struct Setup {
 }
 
 // What a begin gives a worker to do.
-#[derive(Drop)]
+#[derive(Clone, Copy)]
 pub enum Operation {
     Put { payload: Payload },
     Take,
@@ -276,7 +278,7 @@ pub enum Operation {
 }
 
 // The table of refusals, in its order (14 and 15 are the judge's own).
-#[derive(Drop)]
+#[derive(Clone, Copy)]
 pub enum Refusal {
     UnknownQueue,
     TagWidth,
@@ -305,7 +307,7 @@ pub enum Refusal {
 // What a call answers: a fresh, a begin or an event is accepted (a put with its number); a step goes on, or ends its operation with an
 // entry of the log; or the call is refused. A hand-out is what the field calls an extraction: a take or a steal returns a task.
 // FULL is the bench's own: the figures' `expand` always finds memory. Grown ends a commit.
-#[derive(Drop)]
+#[derive(Clone, Copy)]
 pub enum Answer {
     Accepted,
     Numbered { number: u32 },
@@ -319,7 +321,7 @@ pub enum Answer {
 }
 
 // What asking for a worker's restarts answers: its count, or why not.
-#[derive(Drop)]
+#[derive(Clone, Copy)]
 pub enum Tally {
     Counted { restarts: u32 },
     Refused { why: Refusal },
@@ -327,7 +329,7 @@ pub enum Tally {
 
 // A line of the bench program's input: `queue`, `put`, `take`, `steal`, `step`, `who`, `end`, or none of these forms. Of a `queue`
 // without a sixth number `words` is 1; a `put` says how many words it has.
-#[derive(Drop)]
+#[derive(Clone, Copy)]
 pub enum Command {
     Open {
         kind: u32,
@@ -357,7 +359,7 @@ pub enum Command {
 }
 
 // The six counts of `T`. The restarts are the sum of eight counts, and may not fit 32 bits.
-#[derive(Drop)]
+#[derive(Clone, Copy)]
 pub struct Counts {
     pub finished: u32,
     pub handouts: u32,

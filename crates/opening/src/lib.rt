@@ -1,6 +1,9 @@
 // The calls that open something: fresh a bench, begin an operation. Fresh zeroes the store's first words once nothing is left to
 // refuse; a begin writes nothing. What ends in `_in` is a call past refusal 12.
 // Uses `model`, `tasks`, `slots`, `stages`, `admission`, `limits`, `memory` and `state`. It is used by `queues` and `replies`.
+
+#![tactic(auto)]
+
 ghost use Rattle.std.specs.Prelude.{◌≡◌, List, ℕ, ◌≤◌, ◌<◌};
 ghost use Rattle.model.specs.declared.Answer.TheVariants.{Refused};
 ghost use Rattle.model.specs.Calls.{no_bench, new_bench, first_length, admitted, lent, fresh_of, begun, begin_in, begin_of};

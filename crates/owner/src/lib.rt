@@ -3,6 +3,9 @@
 // once.
 // Uses `model`, `tasks`, `slots`, `lines`, `limits`, `memory`, `state`, `machine` and `waiting`. It is used by `steps`
 // and `queues`.
+
+#![tactic(auto)]
+
 ghost use Rattle.std.specs.Prelude.{◌≡◌, true, List, ℕ, ◌+◌, ◌≤◌, length};
 ghost use Rattle.model.specs.declared.Room.{Room};
 ghost use Rattle.model.specs.Stores.{joined};

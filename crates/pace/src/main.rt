@@ -2,6 +2,9 @@
 // steal attempt's lines 1 to 4b, from one and the same bench: a bench is a value, so the attempt can be played again from its
 // start, and the log never fills.
 // Uses `queues` and `model`, of the kit `io` and `libc`. It is a program, and no crate uses it.
+
+#![tactic(auto)]
+
 use libc::STDOUT_FILENO;
 use model::{Answer, Operation, Payload, Setup};
 use queues::{Bench, Reply};

@@ -1,6 +1,9 @@
 // Lists of calls played through the bench, each call on what the one before left. Calls and answers are words of the caller's
 // slices, so that a list needs no type of its own.
 // Uses `queues`, `answers` and `model`. It is used by `calls`.
+
+#![tactic(auto)]
+
 ghost use Rattle.std.specs.Prelude.{◌≡◌, ◌++◌, ◌+◌, ◌*◌, ◌/◌, ◌≤◌, min, length, drop};
 ghost use Rattle.std.proofs.Math.Seq.{paste};
 ghost use Rattle.model.specs.Calls.{lent, call_of};
@@ -17,7 +20,7 @@ pub const CALL: usize = 6;
 pub const ANSWER: usize = 7;
 
 // What a list left: the bench, and how many calls were made.
-#[derive(Drop)]
+#[derive(Clone, Copy)]
 pub struct Ended {
     pub bench: Bench,
     pub made: usize,

@@ -1,6 +1,9 @@
 // Several queues over one store: whether their arrays lie apart and without a gap, within their quotas and the store; refusals 12
 // and 24 of a call; and what is left for a new array. A foreign yard holds any 32-bit values, so sums are worked out in 64 bits.
 // Uses `model`, `slots`, `limits` and `state`. It is used by `queues`.
+
+#![tactic(auto)]
+
 ghost use Rattle.std.specs.Prelude.{◌≡◌, true, [], ℕ, ◌+◌, ◌≤◌, ◌<◌};
 ghost use Rattle.model.specs.Tests.{least};
 ghost use Rattle.model.specs.Yard.{bench_at, quota_at, no_overlap, all_below, claimed_words, aside_words, yard_ok, room_of, words_left};
@@ -105,7 +108,7 @@ fn all_keep(yard: Yard) -> bool
 }
 
 // The words that the queues have claimed together, and those that they have set aside; both are far below 64 bits.
-#[derive(Drop)]
+#[derive(Clone, Copy)]
 struct Total {
     claimed: u64,
     aside: u64,

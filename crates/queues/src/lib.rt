@@ -5,6 +5,9 @@
 // A yard has up to four such queues over one store: a call names the queue, and is lent this queue's log.
 // Uses `model`, `answers`, `stages`, `slots`, `rooms`, `limits`, `memory`, `state`, `waiting`, `opening`, `events`, `machine`, `owner`,
 // `plots` (in contracts), `steps` and `yard_calls`. It is used by `plays`, `calls`, `tries`, the exercises and `pace`.
+
+#![tactic(auto)]
+
 ghost use Rattle.std.specs.Prelude.{◌≡◌, List, [], ℕ, get_or, set};
 ghost use Rattle.model.specs.declared.Answer.TheVariants.{Refused};
 ghost use Rattle.model.specs.Answers.{number_of, entry_of};
@@ -19,13 +22,13 @@ use answers::Entry;
 use machine::Made;
 use model::{Answer, Operation, Refusal, Setup, Tally, Worker};
 
-#[derive(Drop)]
+#[derive(Clone, Copy)]
 pub struct Bench {
     pub state: model::Bench,
 }
 
 // The next bench, and the answer.
-#[derive(Drop)]
+#[derive(Clone, Copy)]
 pub struct Reply {
     pub bench: Bench,
     pub answer: Answer,
@@ -199,13 +202,13 @@ impl Bench {
     }
 }
 
-#[derive(Drop)]
+#[derive(Clone, Copy)]
 pub struct Yard {
     pub state: model::Yard,
 }
 
 // The next yard, and the answer.
-#[derive(Drop)]
+#[derive(Clone, Copy)]
 pub struct YardReply {
     pub yard: Yard,
     pub answer: Answer,

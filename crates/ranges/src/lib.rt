@@ -1,6 +1,9 @@
 // 'Values in these ranges': the limits on the anchor, on what a worker at a line has read, and on a waiting store. A foreign
 // state holds any 32-bit values, so a sum of two of them is worked out in 64 bits.
 // Uses `model` and `tasks`. It is used by `limits`.
+
+#![tactic(auto)]
+
 ghost use Rattle.std.specs.Prelude.{◌≡◌, ℕ, ◌+◌, ◌≤◌, ◌<◌, ltb, leb};
 ghost use Rattle.model.specs.declared.Queue.{Queue};
 ghost use Rattle.model.specs.Tests.{◌and◌, ◌or◌};

@@ -1,6 +1,9 @@
 // One line of the program's input: what it does to the bench that is played, and what it prints. Of `step` only parts are here;
 // `listing` puts it together.
 // Uses `model`, `answers`, `state`, `opening`, `events`, `text` and `counts`. It is used by `listing` and `bench`.
+
+#![tactic(auto)]
+
 ghost use Rattle.std.specs.Prelude.{◌≡◌, true, false, List, [], ◌∷◌, ℕ, ◌+◌, ◌≤◌, min, length, take};
 ghost use Rattle.model.specs.Limits.{valid_of};
 ghost use Rattle.model.specs.Calls.{lent, fresh_of, begin_of, who_of};
@@ -33,7 +36,7 @@ use state::Stop;
 pub const LONGEST: usize = 256;
 
 // The program between two lines: whether a `queue` was accepted, and then its bench, on the first `long` words of the store.
-#[derive(Drop)]
+#[derive(Clone, Copy)]
 pub struct Session {
     pub live: bool,
     pub long: u32,
@@ -41,21 +44,21 @@ pub struct Session {
 }
 
 // What a line asks for: steps of a bench that is played, or something else.
-#[derive(Drop)]
+#[derive(Clone, Copy)]
 pub enum Asked {
     Other,
     Step { worker: u32, times: u32 },
 }
 
 // Whether a bench was made or refused.
-#[derive(Drop)]
+#[derive(Clone, Copy)]
 enum Progress {
     Made,
     Stopped,
 }
 
 // What a line left: the session, where its text ends in the output, whether it was an accepted `end`.
-#[derive(Drop)]
+#[derive(Clone, Copy)]
 pub struct Answered {
     pub session: Session,
     pub end: usize,

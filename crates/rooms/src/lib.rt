@@ -1,5 +1,8 @@
 // The room that a step of a lone queue is handed. X1 alone looks at it, so it is worked out at X1 alone.
 // Uses `model` and `slots`. It is used by `queues` and `listing`.
+
+#![tactic(auto)]
+
 ghost use Rattle.std.specs.Prelude.{◌≡◌, ◌≤◌, ◌<◌, length};
 ghost use Rattle.model.specs.Memory.{usable};
 ghost use Rattle.model.specs.Stores.{taken, words_taken, room_in};

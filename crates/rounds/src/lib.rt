@@ -1,6 +1,9 @@
 // One order played from its start, the bench in place: the steps that are given for it, and from there on the lowest worker that
 // may step.
 // Uses `model`, `theorems`, `orders`, `turns`, `tasks`, `stages`, `slots`, `limits`, `state` and `machine`. It is used by `hunter`.
+
+#![tactic(auto)]
+
 ghost use Rattle.std.specs.Prelude.{◌≡◌, true, false, List, [], ◌∷◌, ℕ, ◌+◌, ◌-◌, ◌≤◌, ◌<◌, length, take, get_or};
 ghost use Rattle.model.specs.Tests.{if◌then◌else◌};
 ghost use Rattle.model.specs.World.{is_idle};
@@ -16,7 +19,7 @@ use machine::Made;
 use model::{Bench, Line, Payload, Task, Worker};
 
 // The line that a worker's next step does, and the put numbers used by then.
-#[derive(Drop)]
+#[derive(Clone, Copy)]
 pub struct Begun {
     pub line: Line,
     pub used: u32,
@@ -100,7 +103,7 @@ fn chosen(order: &[u32; 256], given: u32, n: u32, todo: &[u32; 8]) -> u32
 }
 
 // What playing an order left: its steps, the payload words of a task and the words that were logged; or it was cut off.
-#[derive(Drop)]
+#[derive(Clone, Copy)]
 pub struct Played {
     pub steps: u32,
     pub words: u32,

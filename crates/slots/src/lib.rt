@@ -2,6 +2,9 @@
 // the store that slot is; and the room for a larger array. `read` is the anchor as a worker read it at line 1.
 // Uses `model` and `tasks`. It is used by `lines`, `waiting`, `limits`, `opening`, `events`, `machine`, `owner`, `plots`,
 // `rooms`, `yard_calls` and `queues`.
+
+#![tactic(auto)]
+
 ghost use Rattle.std.specs.Prelude.{◌≡◌, true, ℕ, ◌+◌, ◌-◌, ◌*◌, ◌^◌, ◌≤◌, ◌<◌, length, get_or};
 ghost use Rattle.model.specs.declared.Room.{Room};
 ghost use Rattle.model.specs.Tasks.{gathered};

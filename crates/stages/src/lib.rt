@@ -1,5 +1,8 @@
 // Where a worker stands in its operation, what a thief has read, the tag's bits, and one restart more.
 // Uses `model`. It is used by `limits`, `opening`, `events`, `machine`, `queues` and `listing`.
+
+#![tactic(auto)]
+
 ghost use Rattle.std.specs.Prelude.{◌≡◌};
 ghost use Rattle.model.specs.Tests.{if◌then◌else◌};
 ghost use Rattle.model.specs.World.{claim_stage, stage, is_idle};

@@ -3,6 +3,9 @@
 // definition's short name, as code.
 // Uses `model`. It is used by `waiting`, `opening`, `events`, `machine`, `owner`, `queues`, `replies` and
 // `listing`.
+
+#![tactic(auto)]
+
 ghost use Rattle.std.specs.Prelude.{◌≡◌, ◌≤◌, ◌<◌};
 ghost use Rattle.model.specs.declared.Answer.TheVariants.{Refused};
 ghost use Rattle.model.specs.Stores.{anchored, publishing, none_pending};
@@ -14,14 +17,14 @@ use model::{
 };
 
 // What a call hands back: the next state, and the answer.
-#[derive(Drop)]
+#[derive(Clone, Copy)]
 pub struct Returned {
     pub bench: Bench,
     pub answer: Answer,
 }
 
 // Whether a call is refused before anything is done, and why.
-#[derive(Drop)]
+#[derive(Clone, Copy)]
 pub enum Stop {
     No,
     Why { why: Refusal },

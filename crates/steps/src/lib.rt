@@ -2,6 +2,9 @@
 // bench's step is `queues`' own, on the same functions: it makes most steps in place, and another function between would copy the state
 // once more.
 // Uses `model`, `limits` (in proofs), `state`, `waiting`, `machine` and `owner`. It is used by `yard_calls` and `queues`.
+
+#![tactic(auto)]
+
 ghost use Rattle.std.specs.Prelude.{◌≡◌, eqb};
 ghost use Rattle.model.specs.Tests.{◌and◌};
 ghost use Rattle.model.specs.Limits.{Within};

@@ -1,6 +1,9 @@
 // The words of a task: one of them read or replaced, those that a put does not use cut off, those past the known ones tested for
 // 0.
 // Uses `model`. It is used by `answers`, `ranges`, `slots`, `lines`, `owner` and `opening`.
+
+#![tactic(auto)]
+
 ghost use Rattle.std.specs.Prelude.{◌≡◌, ◌+◌, ◌≤◌, ◌<◌, eqb, ltb};
 ghost use Rattle.model.specs.Tests.{◌and◌, ◌or◌};
 ghost use Rattle.model.specs.Tasks.{no_task, word_in, with_word, first_words, none_from};

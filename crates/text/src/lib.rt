@@ -1,5 +1,8 @@
 // Lines of text: a command line's bytes read as a command, and a line of output written.
 // Uses `model`. It is used by `replies`, `listing` and `call_text`.
+
+#![tactic(auto)]
+
 ghost use Rattle.std.specs.Prelude.{◌≡◌, ◌+◌, ◌≤◌, ◌<◌, length, get_or, take, drop};
 ghost use Rattle.text.specs.Numbers.{Placed};
 ghost use Rattle.text.specs.Same.{same as sameOf};
@@ -11,14 +14,14 @@ ghost use Rattle.text.specs.Commands.{key_of, formed, command_of};
 use model::{Command, Payload, Task};
 
 // The number that a word is, if it is one.
-#[derive(Drop)]
+#[derive(Clone, Copy)]
 pub enum Value {
     No,
     Of(u32),
 }
 
 // The word that a line begins with.
-#[derive(Drop)]
+#[derive(Clone, Copy)]
 pub enum Key {
     Other,
     Queue,

@@ -1,6 +1,9 @@
 // What the exercises share: states to try, the calls that try them, and what is printed. A state is one that an accepted fresh
 // makes, or such a one with something replaced. Each try has memory of its own: a store of 30 words and a log of 8.
 // Uses `queues` and `model`, of the kit `io` and `libc`. It is used by `exercise` and `exercise_stores`.
+
+#![tactic(auto)]
+
 ghost use Rattle.std.specs.Prelude.{◌<◌};
 
 use libc::STDOUT_FILENO;
@@ -17,7 +20,7 @@ pub fn number(n: u32) {
 
 // What an answer says, in numbers: 0 accepted, 1 to 5 the kind of its log entry, 6 goes on, 7 refused, 8 accepted with a put
 // number; and beside it the put's number or the refusal's.
-#[derive(Drop)]
+#[derive(Clone, Copy)]
 struct Said {
     kind: u32,
     number: u32,

@@ -2,6 +2,9 @@
 // oldest that leaves it. The owner reads memory with its waiting words put down; a call that needs to read so puts them down, and
 // lifts them again.
 // Uses `model`, `anchors`, `slots` and `state`. It is used by `limits`, `events`, `owner`, `steps` and `queues`.
+
+#![tactic(auto)]
+
 ghost use Rattle.std.specs.Prelude.{true, List, [], ◌∷◌, ◌≡◌, ℕ, ◌≤◌, ◌<◌, length};
 ghost use Rattle.model.specs.Stores.{shared, landed, landed_all, in_line, joined, oldest, one_less};
 ghost use Rattle.slots.specs.Bounds.{Wide};

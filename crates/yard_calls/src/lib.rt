@@ -1,6 +1,9 @@
 // The calls of a yard, several queues over one store: making one, and a call of one of them, past whose refusals 12 and 24 it is the
 // queue's own. The other queues' logs are not lent: a contract holds for every list of logs that has the lent one in its place.
 // Uses `model`, `slots`, `limits` (in proofs), `memory`, `state`, `opening`, `events`, `plots` and `steps`. It is used by `queues`.
+
+#![tactic(auto)]
+
 ghost use Rattle.std.specs.Prelude.{List, [], ◌≡◌, ℕ, ◌<◌, get_or, set};
 ghost use Rattle.model.specs.Calls.{begin, step, drop_link, drain, ask, drop_ask};
 ghost use Rattle.model.specs.Yard.{on_of, make_of, who_at, front_at, bare};
@@ -12,7 +15,7 @@ use model::{Answer, Bench, Operation, Refusal, Setup, Tally, Yard};
 use state::{Returned, Stop};
 
 // What a call hands back: the next yard, and the answer.
-#[derive(Drop)]
+#[derive(Clone, Copy)]
 pub struct Yielded {
     pub yard: Yard,
     pub answer: Answer,
