@@ -1,6 +1,9 @@
 // Judges a log that a running matcher wrote: whether its hand-outs are those of finished puts, and every finished put is handed
 // out or still stored.
 // Uses `model`, `judgement`, `puts` and `marks`. It is called from C and C++ (include/bomqelir.h); no crate uses it.
+
+#![tactic(auto)]
+
 ghost use Rattle.std.specs.Prelude.{◌≡◌, ℕ, ◌*◌, ◌≤◌, length, get_or};
 ghost use Rattle.judgement.specs.Judgement.{words_of, judged_words, judged, verdict_number, entry_bytes};
 

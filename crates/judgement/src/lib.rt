@@ -1,5 +1,8 @@
 // The judgement of a log that a running matcher wrote (specs/), the verdict's type, and the reading of words and of the entries' order.
 // Uses `model`. It is used by `puts`, `marks`, `judge` and `accepted`.
+
+#![tactic(auto)]
+
 ghost use Rattle.std.specs.Prelude.{◌≡◌, ◌+◌, ◌*◌, ◌≤◌, ◌<◌, length, get_or};
 ghost use Rattle.model.specs.Tests.{◌and◌};
 ghost use Rattle.model.specs.Tasks.{same_task};

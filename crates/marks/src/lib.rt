@@ -1,5 +1,8 @@
 // The hand-outs of a log counted, and the finished puts marked that are handed out or listed.
 // Uses `model`, `judgement` and `puts`. It is used by `judge`.
+
+#![tactic(auto)]
+
 ghost use Rattle.std.specs.Prelude.{◌≡◌, ℕ, ◌*◌, ◌≤◌, ◌<◌, length, get_or};
 ghost use Rattle.judgement.specs.Judgement.{words_of, all_below, entry_bytes};
 ghost use Rattle.puts.specs.Puts.{Rising, Gathered};

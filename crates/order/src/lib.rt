@@ -2,3 +2,5 @@
 // hand-outs rise along it, that `T` shows none lost, and which list of calls a listing plays; `proofs/` proves it, and that the
 // numbers of puts that end rise.
 // Uses `model` and `theorems`. It is used by `premise`, `examples` and `accepted`.
+
+#![tactic(auto)]

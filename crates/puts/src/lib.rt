@@ -1,5 +1,8 @@
 // The finished puts of a log: gathered, looked up by number, and told for each hand-out that repeats one.
 // Uses `model` and `judgement`. It is used by `marks` and `judge`.
+
+#![tactic(auto)]
+
 ghost use Rattle.std.specs.Prelude.{◌≡◌, ℕ, ◌+◌, ◌*◌, ◌≤◌, ◌<◌, length, get_or};
 ghost use Rattle.judgement.specs.Judgement.{words_of, entry_bytes};
 ghost use Rattle.puts.specs.Puts.{Rising, FoundBy, Gathered, RepeatsPut};

@@ -1,5 +1,8 @@
 // Which worker steps next, and which order comes next.
 // Uses `model` and `orders`.
+
+#![tactic(auto)]
+
 ghost use Rattle.std.specs.Prelude.{◌≡◌, ◌-◌, ◌≤◌, length};
 ghost use Rattle.turns.specs.Turns.{from, first_busy, Turned};
 
