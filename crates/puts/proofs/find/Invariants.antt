@@ -1,10 +1,10 @@
-use Rattle.std.proofs.Common.{◌-◌, ◌≡◌, ℕ, ◌+◌, ◌*◌, ◌≤◌, ◌<◌, length, get_or}
-use Rattle.judgement.specs.Judgement.{words_of, entry_bytes}
-use Rattle.puts.specs.Puts.{Rising, FoundBy, Gathered, RepeatsPut}
+use Rattle.std.proofs.Common.{◌-◌}
+use Rattle.judgement.specs.Judgement.{words_of}
 use Rattle.puts.proofs.find.Given as goal
+use Rattle.puts.proofs.Halving.{Between}
 
 abbrev pub invariant-loop-low : goal.invariant-loop-low
-invariant-loop-low l = ?
+invariant-loop-low l = Between l.words (words_of l.log) l.puts l.count l.number l.low l.high
 
 -- proposed from the loop's first test
 abbrev pub decreases-loop-low : goal.decreases-loop-low

@@ -1,10 +1,10 @@
-use Rattle.std.proofs.Common.{◌-◌, ◌≡◌, ℕ, ◌+◌, ◌*◌, ◌≤◌, ◌<◌, length, get_or}
-use Rattle.judgement.specs.Judgement.{words_of, entry_bytes}
-use Rattle.puts.specs.Puts.{Rising, FoundBy, Gathered, RepeatsPut}
+use Rattle.std.proofs.Common.{◌-◌, ◌≡◌, ◌≤◌, length}
+use Rattle.judgement.specs.Judgement.{words_of}
+use Rattle.puts.specs.Puts.{Gathered}
 use Rattle.puts.proofs.gather.Given as goal
 
 abbrev pub invariant-loop-j : goal.invariant-loop-j
-invariant-loop-j l = ?
+invariant-loop-j l = (l.j ≤ l.entries) × (length l.puts ≡ length l.fn.puts) × Gathered l.words (words_of l.log) l.j l.puts l.count
 
 -- proposed from the loop's first test
 abbrev pub decreases-loop-j : goal.decreases-loop-j
