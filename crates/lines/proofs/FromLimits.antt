@@ -43,7 +43,7 @@ use Rattle.model.specs.declared.Queue.{Queue}
 use Rattle.model.specs.declared.Room.{Room}
 use Rattle.model.specs.declared.Worker.{Worker}
 use Rattle.model.specs.declared.Bench.{Bench}
-use Rattle.model.specs.Tests.{if◌then◌else◌, ◌and◌, ◌or◌}
+use Rattle.model.specs.Tests.{if◌then◌else◌, ◌or◌}
 use Rattle.model.specs.Memory.{size_at}
 use Rattle.model.specs.Figures.{slot, put_index, take_index, steal_index}
 use Rattle.model.specs.Stores.{in_line, taken}
