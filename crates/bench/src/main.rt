@@ -1,6 +1,6 @@
 // The bench program: reads lines from standard input and writes their listing to standard output. What it shows is proved in the
 // crate `listing`, on slices; here it is read in chunks and written before the next read.
-// Uses `replies`, `listing` and `model`, of the kit `io`, `libc` and `os`. It is a program, and no crate uses it.
+// Uses `replies`, `listing` and `model`. It is a program, and no crate uses it.
 
 #![tactic(auto)]
 
@@ -9,8 +9,16 @@ ghost use Rattle.model.specs.Listing.{program_store, program_log};
 ghost use Rattle.replies.specs.Sessions.{program_of};
 ghost use Rattle.listing.specs.Consuming.{Reachable};
 
-use libc::{STDIN_FILENO, STDOUT_FILENO};
 use replies::{LONGEST, Session};
+use std::io::{Eprint, Error, Print, Read, Stderr, Stdin, Stdout};
+
+// The program's standard streams.
+#[derive(Clone, Copy)]
+struct Streams {
+    input: Stdin,
+    output: Stdout,
+    errors: Stderr,
+}
 
 // What the buffer holds: so many bytes to play, none if there is nothing left to do, and whether nothing comes after them.
 #[derive(Clone, Copy)]
@@ -26,25 +34,31 @@ struct Turn {
     goes: bool,
 }
 
+// Tells of a read or a write that failed on standard error. If that cannot be written either, nothing more can be said.
+fn tell_failure(streams: Streams, what: &str, error: Error) {
+    let _told = eprintln!(streams.errors; "{what}: {error}");
+}
+
 // Reads once, behind the first `have` bytes of the buffer. Waits only if there is nothing to read. At the input's end a line that
 // no newline ends is played as if one did.
-fn read_more(buf: &mut [u8], have: usize) -> Input
+fn read_more(streams: Streams, buf: &mut [u8], have: usize) -> Input
     requires { have < length buf.old }
     ensures { result.bytes ≤ length buf.new }
 {
-    let part = &mut buf[have..];
-    let got = libc::read(STDIN_FILENO, part);
-    if got < 0 {
-        os::fail(b"read");
-        return Input {
-            bytes: 0,
-            last: true,
-        };
-    }
+    let mut input = streams.input;
+    let got = match input.read(&mut buf[have..]) {
+        Ok(got) => got,
+        Err(error) => {
+            tell_failure(streams, "read", error);
+            return Input {
+                bytes: 0,
+                last: true,
+            };
+        }
+    };
     if 0 < got {
-        let k = io::count(got, part);
         return Input {
-            bytes: have + k,
+            bytes: have + got,
             last: false,
         };
     }
@@ -62,19 +76,22 @@ fn read_more(buf: &mut [u8], have: usize) -> Input
 }
 
 // Writes the first n bytes of the output, and answers whether it could; if not, that is told on standard error.
-fn write_out(out: &[u8], n: usize) -> bool
+fn write_out(streams: Streams, out: &[u8], n: usize) -> bool
     requires { n ≤ length out.now }
 {
-    let written = io::write_all(STDOUT_FILENO, &out[..n]);
-    if !written {
-        os::fail(b"write");
+    match streams.output.write_all(&out[..n]) {
+        Ok(()) => true,
+        Err(error) => {
+            tell_failure(streams, "write", error);
+            false
+        }
     }
-    written
 }
 
 // Plays the lines among the first n bytes of the buffer, writes their text whenever the output is full and at the end, and keeps
 // the line that has begun.
 fn play_some(
+    streams: Streams,
     session: Session,
     buf: &mut [u8],
     n: usize,
@@ -97,7 +114,7 @@ fn play_some(
         let used = f.used;
         current = f.session;
         from += used;
-        if !write_out(out, wrote) {
+        if !write_out(streams, out, wrote) {
             break;
         }
         if f.stops {
@@ -120,7 +137,7 @@ fn play_some(
 }
 
 // Plays the input on the program's own store and log, as the definition of its listing has them.
-fn run(buf: &mut [u8], store: &mut [u32], log: &mut [u32], out: &mut [u8])
+fn run(streams: Streams, buf: &mut [u8], store: &mut [u32], log: &mut [u32], out: &mut [u8])
     requires in_bounds { 72 < length buf.old }
     requires store_value { (store.old ≡ program_store) × (log.old ≡ program_log) }
 {
@@ -129,11 +146,11 @@ fn run(buf: &mut [u8], store: &mut [u32], log: &mut [u32], out: &mut [u8])
     let mut turns = u64::MAX;
     while turns > 0 {
         turns -= 1;
-        let input = read_more(buf, have);
+        let input = read_more(streams, buf, have);
         if input.bytes == 0 {
             break;
         }
-        let t = play_some(session, buf, input.bytes, store, log, out);
+        let t = play_some(streams, session, buf, input.bytes, store, log, out);
         if input.last {
             break;
         }
@@ -145,10 +162,15 @@ fn run(buf: &mut [u8], store: &mut [u32], log: &mut [u32], out: &mut [u8])
     }
 }
 
-fn main() {
+fn main(rt: HostRuntime) {
+    let streams = Streams {
+        input: rt.stdin(),
+        output: rt.stdout(),
+        errors: rt.stderr(),
+    };
     let mut store = [0u32; 10235];
     let mut log = [0u32; 16384];
     let mut buf = [0u8; 65536];
     let mut out = [0u8; 65536];
-    run(&mut buf, &mut store, &mut log, &mut out);
+    run(streams, &mut buf, &mut store, &mut log, &mut out);
 }

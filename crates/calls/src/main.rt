@@ -1,7 +1,7 @@
 // Plays a list of library calls from standard input through the public face, a bench's or a yard's, and prints their answers. The
 // form of both is in docs/CALLS.md. A line that is not of the form is told on standard error, and ends the program; what was played
 // before is printed.
-// Uses `queues`, `plays`, `call_text` and `model`, of the kit `io`, `libc` and `os`. It is a program, and no crate uses it.
+// Uses `queues`, `plays`, `call_text` and `model`. It is a program, and no crate uses it.
 
 #![tactic(auto)]
 
@@ -9,9 +9,9 @@ ghost use Rattle.std.specs.Prelude.{◌≡◌, ◌<◌, ◌≤◌, min, length};
 
 use alone::After;
 use call_text::ListLine;
-use libc::STDIN_FILENO;
-use output::Text;
+use output::{Streams, Text};
 use queues::{Bench, Yard};
+use std::io::Read;
 use yard::Left;
 
 mod alone;
@@ -80,23 +80,24 @@ fn least(a: usize, b: usize) -> usize
 
 // Reads once, behind the first `have` bytes of the buffer. Waits only if there is nothing to read. At the input's end a line that
 // no newline ends is played as if one did.
-fn read_more(buf: &mut [u8], have: usize) -> Input
+fn read_more(streams: Streams, buf: &mut [u8], have: usize) -> Input
     requires { have < length buf.old }
     ensures { result.bytes ≤ length buf.new }
 {
-    let part = &mut buf[have..];
-    let got = libc::read(STDIN_FILENO, part);
-    if got < 0 {
-        os::fail(b"read");
-        return Input {
-            bytes: 0,
-            last: true,
-        };
-    }
+    let mut input = streams.input;
+    let got = match input.read(&mut buf[have..]) {
+        Ok(got) => got,
+        Err(error) => {
+            output::tell_failure(streams, "read", error);
+            return Input {
+                bytes: 0,
+                last: true,
+            };
+        }
+    };
     if 0 < got {
-        let k = io::count(got, part);
         return Input {
-            bytes: have + k,
+            bytes: have + got,
             last: false,
         };
     }
@@ -320,12 +321,23 @@ fn play_line(
 }
 
 // Plays the lines that end in the buffer. A line without an end that is longer than any of the form has none.
-fn play_lines(game: Game, buf: &[u8], store: &mut [u32], logs: &mut [u32], out: &mut [u8]) -> Lines
+fn play_lines(
+    streams: Streams,
+    game: Game,
+    buf: &[u8],
+    store: &mut [u32],
+    logs: &mut [u32],
+    out: &mut [u8],
+) -> Lines
     requires { (128 ≤ length out.old) × (80000 ≤ length logs.old) }
     ensures { (result.text.end ≤ length out.new) × (result.used ≤ length buf.now) }
 {
     let mut current = game;
-    let mut text = Text { end: 0, good: true };
+    let mut text = Text {
+        streams,
+        end: 0,
+        good: true,
+    };
     let mut used = 0;
     while used < buf.len() {
         let end = call_text::line_end(buf, used);
@@ -376,6 +388,7 @@ fn carry(buf: &mut [u8], from: usize, n: usize) -> usize
 
 // Reads once, and plays and writes what can be.
 fn play_some(
+    streams: Streams,
     game: Game,
     have: usize,
     buf: &mut [u8],
@@ -386,7 +399,7 @@ fn play_some(
     requires { (have < length buf.old) × (128 ≤ length out.old) × (80000 ≤ length logs.old) }
     ensures { result.have ≤ 75 }
 {
-    let input = read_more(buf, have);
+    let input = read_more(streams, buf, have);
     let n = input.bytes;
     if n == 0 {
         return Next {
@@ -395,7 +408,7 @@ fn play_some(
             goes: false,
         };
     }
-    let consumed = play_lines(game, &buf[..n], store, logs, out);
+    let consumed = play_lines(streams, game, &buf[..n], store, logs, out);
     let goes = output::report(consumed.text, consumed.goes, out);
     let next = consumed.game;
     let kept = carry(buf, consumed.used, n);
@@ -428,7 +441,7 @@ fn unbegun(store: &mut [u32]) -> Game {
     }
 }
 
-fn run(buf: &mut [u8], store: &mut [u32], logs: &mut [u32], out: &mut [u8])
+fn run(streams: Streams, buf: &mut [u8], store: &mut [u32], logs: &mut [u32], out: &mut [u8])
     requires { (75 < length buf.old) × (128 ≤ length out.old) × (80000 ≤ length logs.old) }
 {
     let game = unbegun(store);
@@ -440,17 +453,22 @@ fn run(buf: &mut [u8], store: &mut [u32], logs: &mut [u32], out: &mut [u8])
     let mut turns = u64::MAX;
     while turns > 0 {
         turns -= 1;
-        next = play_some(next.game, next.have, buf, store, logs, out);
+        next = play_some(streams, next.game, next.have, buf, store, logs, out);
         if !next.goes {
             return;
         }
     }
 }
 
-fn main() {
+fn main(rt: HostRuntime) {
+    let streams = Streams {
+        input: rt.stdin(),
+        output: rt.stdout(),
+        errors: rt.stderr(),
+    };
     let mut store = [0u32; 10300];
     let mut logs = [0u32; 80000];
     let mut buf = [0u8; 65536];
     let mut out = [0u8; 65536];
-    run(&mut buf, &mut store, &mut logs, &mut out);
+    run(streams, &mut buf, &mut store, &mut logs, &mut out);
 }

@@ -1,14 +1,28 @@
 // The program's output: text waits in a buffer, and is written where there is no room for more.
 ghost use Rattle.std.specs.Prelude.{◌≡◌, ◌+◌, ◌≤◌, length};
 
-use libc::{STDERR_FILENO, STDOUT_FILENO};
 use model::{Anchor, Answer, Queue, Store, Tally};
+use std::io::{Eprint, Error, Print, Stderr, Stdin, Stdout};
 
-// Where the text ends that waits in the output, and whether every write so far could be made.
+// The program's standard streams.
+#[derive(Clone, Copy)]
+pub struct Streams {
+    pub input: Stdin,
+    pub output: Stdout,
+    pub errors: Stderr,
+}
+
+// The program's streams, where the text ends that waits in the output, and whether every write so far could be made.
 #[derive(Clone, Copy)]
 pub struct Text {
+    pub streams: Streams,
     pub end: usize,
     pub good: bool,
+}
+
+// Tells of a read or a write that failed on standard error. If that cannot be written either, nothing more can be said.
+pub fn tell_failure(streams: Streams, what: &str, error: Error) {
+    let _told = eprintln!(streams.errors; "{what}: {error}");
 }
 
 // Writes the text that waits, unless a write failed before; a failure is told on standard error.
@@ -16,18 +30,27 @@ fn write_out(text: Text, out: &[u8]) -> Text
     requires { text.end ≤ length out.now }
     ensures { result.end ≡ 0 }
 {
+    let streams = text.streams;
     if !text.good {
         return Text {
+            streams,
             end: 0,
             good: false,
         };
     }
     let end = text.end;
-    let good = io::write_all(STDOUT_FILENO, &out[..end]);
-    if !good {
-        os::fail(b"write");
+    let good = match streams.output.write_all(&out[..end]) {
+        Ok(()) => true,
+        Err(error) => {
+            tell_failure(streams, "write", error);
+            false
+        }
+    };
+    Text {
+        streams,
+        end: 0,
+        good,
     }
-    Text { end: 0, good }
 }
 
 // Sees to it that `need` bytes of the output are free.
@@ -49,6 +72,7 @@ fn show_byte(text: Text, byte: u8, out: &mut [u8]) -> Text
     let at = free.end;
     out[at] = byte;
     Text {
+        streams: free.streams,
         end: at + 1,
         good: free.good,
     }
@@ -63,6 +87,7 @@ fn show_answer(text: Text, words: u32, answer: &[u32], out: &mut [u8]) -> Text
     let free = room(text, call_text::ANSWER, out);
     let end = call_text::show(out, free.end, words, answer);
     Text {
+        streams: free.streams,
         end,
         good: free.good,
     }
@@ -112,6 +137,7 @@ pub fn show_words(text: Text, words: &[u32], out: &mut [u8]) -> Text
         let free = room(shown, call_text::WORD, out);
         let end = call_text::show_word(out, free.end, words[i]);
         shown = Text {
+            streams: free.streams,
             end,
             good: free.good,
         };
@@ -130,6 +156,7 @@ pub fn show_tally(text: Text, worker: u32, tally: Tally, out: &mut [u8]) -> Text
             let free = room(text, call_text::ANSWER, out);
             let end = call_text::show_restarts(out, free.end, worker, restarts);
             Text {
+                streams: free.streams,
                 end,
                 good: free.good,
             }
@@ -303,7 +330,7 @@ pub fn report(text: Text, goes: bool, out: &[u8]) -> bool
         return false;
     }
     if !goes {
-        io::write_all(STDERR_FILENO, b"calls: not a line of the form\n");
+        let _told = eprintln!(text.streams.errors; "calls: not a line of the form");
     }
     goes
 }

@@ -1,8 +1,7 @@
 -- Asks and commits, tried by computation: a commit with a thief under way, and that no more than the window is kept.
 use mathlib.Core.Path.{◌≡◌, refl}
-use mathlib.Core.List.{List, [], ◌∷◌, ◌++◌}
+use mathlib.Core.List.{List, ◌∷◌, ◌++◌}
 use native.Mathlib.Omega.{arith}
-use lib.ListN.{replicate}
 use Rattle.model.specs.declared.Operation.TheVariants.{Put, Take, Steal, Commit}
 use Rattle.model.specs.declared.Answer.TheVariants.{Grown}
 use Rattle.model.specs.Tests.{if◌then◌else◌, ◌and◌, ◌or◌}
@@ -11,9 +10,8 @@ use Rattle.model.specs.Tasks.{no_task, word_in, with_word, gathered}
 use Rattle.model.proofs.Runs.{one}
 use Rattle.model.specs.Stores.{landed_all}
 use Rattle.model.specs.Lines.{line_step}
-use Rattle.model.specs.World.{World}
 use Rattle.model.specs.Limits.{valid_of}
-use Rattle.model.specs.Calls.{fresh_of, setup, begin_of, step_of, ask_of, Call, begin, step, ask}
+use Rattle.model.specs.Calls.{fresh_of, begin_of, step_of, ask_of, Call, begin, step, ask}
 use Rattle.model.specs.Run.{played, after}
 use Rattle.model.specs.Window.{window_size, window_task}
 use Rattle.theorems.specs.Demand3.{At, Out, Stands}

@@ -3,6 +3,7 @@ ghost use Rattle.std.specs.Prelude.{◌<◌};
 
 use model::Line;
 use queues::Bench;
+use std::io::Stdout;
 use tries::{anchor, base, played, report, try_anchor, try_state, with_line};
 
 // A linked LIFO queue with `count` tasks and a worker at `line`, its link held or not.
@@ -24,37 +25,41 @@ fn stealing() -> Line {
     }
 }
 
-fn try_drop(tried: &[u8], state: model::Bench, worker: u32) {
+fn try_drop(out: Stdout, tried: &[u8], state: model::Bench, worker: u32) {
     let store = [0u32; 30];
     let log = [0u32; 8];
     let bench = Bench { state: state };
     let reply = bench.drop_link(worker, &store, &log);
     let answer = reply.answer;
-    report(tried, answer);
+    report(out, tried, answer);
 }
 
 // A link fails for no reason, and calls that several refusals fit.
-pub fn drops() {
-    try_drop(b"a held link fails", linked(1, 1, stealing(), true), 1);
+pub fn drops(out: Stdout) {
+    try_drop(out, b"a held link fails", linked(1, 1, stealing(), true), 1);
     try_drop(
+        out,
         b"a link that is not held",
         linked(1, 1, stealing(), false),
         1,
     );
     try_drop(
+        out,
         b"the link of a thief at line 1",
         linked(1, 1, Line::StealRead, false),
         1,
     );
-    try_drop(b"the link of an idle thief", base(5), 1);
-    try_drop(b"the owner's link", base(4), 0);
+    try_drop(out, b"the link of an idle thief", base(5), 1);
+    try_drop(out, b"the owner's link", base(4), 0);
     try_drop(
+        out,
         b"the link of a queue with a tag",
         with_line(base(1), 1, stealing()),
         1,
     );
-    try_drop(b"the link of worker 3 of 3", base(4), 3);
+    try_drop(out, b"the link of worker 3 of 3", base(4), 3);
     try_drop(
+        out,
         b"the link of worker 9 in a foreign state",
         played(65536, false),
         9,
@@ -62,18 +67,29 @@ pub fn drops() {
 }
 
 // Links that no call leaves.
-pub fn held() {
-    try_state(b"a link held past line 1", linked(1, 1, stealing(), true));
+pub fn held(out: Stdout) {
     try_state(
+        out,
+        b"a link held past line 1",
+        linked(1, 1, stealing(), true),
+    );
+    try_state(
+        out,
         b"a link held at line 1",
         linked(1, 1, Line::StealRead, true),
     );
     try_state(
+        out,
         b"a link held by an idle thief",
         linked(1, 1, Line::Idle, true),
     );
-    try_state(b"a link held by the owner", linked(1, 0, Line::Idle, true));
     try_state(
+        out,
+        b"a link held by the owner",
+        linked(1, 0, Line::Idle, true),
+    );
+    try_state(
+        out,
         b"a link past a write of the anchor",
         linked(2, 1, stealing(), true),
     );
@@ -81,15 +97,15 @@ pub fn held() {
     let mut queue = state.queue;
     queue.linked = false;
     state.queue = queue;
-    try_state(b"a link of a queue with a tag", state);
+    try_state(out, b"a link of a queue with a tag", state);
 }
 
-pub fn marks() {
+pub fn marks(out: Stdout) {
     let mut state = base(2);
     let mut queue = state.queue;
     queue.linked = true;
     state.queue = queue;
-    try_state(b"a linked FIFO queue", state);
-    try_anchor(b"a linked queue without a tag", 4, 0, 1, 0);
-    try_anchor(b"a linked queue with a tag", 4, 0, 1, 1);
+    try_state(out, b"a linked FIFO queue", state);
+    try_anchor(out, b"a linked queue without a tag", 4, 0, 1, 0);
+    try_anchor(out, b"a linked queue with a tag", 4, 0, 1, 1);
 }

@@ -1,6 +1,7 @@
 // The restarts of each worker: who is refused, and what a compare that fails counts.
 use model::{Line, Tally};
 use queues::Bench;
+use std::io::Stdout;
 use tries::{anchor, base, played, say_tally, task, text, with_line};
 
 // A bench on which thief 1 of 3 is at its compare, and the anchor is not the one that it read. Its restarts so far are `count`, the
@@ -16,22 +17,22 @@ fn beaten(count: u32) -> model::Bench {
     state
 }
 
-fn tell(tried: &[u8], tally: Tally) {
-    text(tried);
-    text(b": ");
-    say_tally(tally);
-    text(b"\n");
+fn tell(out: Stdout, tried: &[u8], tally: Tally) {
+    text(out, tried);
+    text(out, b": ");
+    say_tally(out, tally);
+    text(out, b"\n");
 }
 
-fn try_who(tried: &[u8], state: model::Bench, worker: u32) {
+fn try_who(out: Stdout, tried: &[u8], state: model::Bench, worker: u32) {
     let store = [0u32; 30];
     let log = [0u32; 8];
     let bench = Bench { state: state };
-    tell(tried, bench.who(worker, &store, &log));
+    tell(out, tried, bench.who(worker, &store, &log));
 }
 
 // The same after a step of worker 1, whose compare fails.
-fn try_beaten(tried: &[u8], count: u32, worker: u32) {
+fn try_beaten(out: Stdout, tried: &[u8], count: u32, worker: u32) {
     let mut store = [0u32; 30];
     let mut log = [0u32; 8];
     let bench = Bench {
@@ -39,15 +40,16 @@ fn try_beaten(tried: &[u8], count: u32, worker: u32) {
     };
     let reply = bench.step(1, &mut store, &mut log);
     let next = reply.bench;
-    try_who(tried, next.state, worker);
+    try_who(out, tried, next.state, worker);
 }
 
 // A worker's count, and calls that several refusals fit.
-pub fn counts() {
-    try_who(b"the owner's restarts", beaten(7), 0);
-    try_who(b"restarts of the last of the crew", beaten(7), 2);
-    try_who(b"restarts of worker 3 of 3", beaten(7), 3);
+pub fn counts(out: Stdout) {
+    try_who(out, b"the owner's restarts", beaten(7), 0);
+    try_who(out, b"restarts of the last of the crew", beaten(7), 2);
+    try_who(out, b"restarts of worker 3 of 3", beaten(7), 3);
     try_who(
+        out,
         b"restarts of worker 9 in a foreign state",
         played(65536, false),
         9,
@@ -55,10 +57,10 @@ pub fn counts() {
 }
 
 // A compare that fails raises its own worker's count, up to the ceiling.
-pub fn ceilings() {
-    try_beaten(b"a compare fails, its own count of 7", 7, 1);
-    try_beaten(b"a compare fails, the owner's count", 7, 0);
-    try_beaten(b"a compare fails, the next thief's count", 7, 2);
-    try_beaten(b"a count of 4294967294", 4294967294, 1);
-    try_beaten(b"a count of 4294967295", 4294967295, 1);
+pub fn ceilings(out: Stdout) {
+    try_beaten(out, b"a compare fails, its own count of 7", 7, 1);
+    try_beaten(out, b"a compare fails, the owner's count", 7, 0);
+    try_beaten(out, b"a compare fails, the next thief's count", 7, 2);
+    try_beaten(out, b"a count of 4294967294", 4294967294, 1);
+    try_beaten(out, b"a count of 4294967295", 4294967295, 1);
 }

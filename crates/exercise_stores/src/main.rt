@@ -7,30 +7,31 @@
 mod delayed;
 mod growth;
 
-fn main() {
-    delayed::lengths();
-    delayed::words();
-    delayed::notes();
-    delayed::anchors();
-    delayed::fifo();
-    delayed::owners_array();
-    delayed::full();
-    delayed::full_growth();
-    delayed::full_order();
-    growth::asks();
-    growth::space();
-    growth::sizes();
-    growth::asides();
-    growth::asides_fit();
-    growth::asides_size();
-    growth::asides_at_x1();
-    growth::asides_of_a_put();
-    growth::asides_of_a_commit();
-    growth::two_notes();
-    growth::two_notes_sizes();
-    growth::two_notes_asides();
-    growth::full();
-    growth::log_room();
-    growth::puts();
-    growth::empty();
+fn main(rt: HostRuntime) {
+    let out = rt.stdout();
+    delayed::lengths(out);
+    delayed::words(out);
+    delayed::notes(out);
+    delayed::anchors(out);
+    delayed::fifo(out);
+    delayed::owners_array(out);
+    delayed::full(out);
+    delayed::full_growth(out);
+    delayed::full_order(out);
+    growth::asks(out);
+    growth::space(out);
+    growth::sizes(out);
+    growth::asides(out);
+    growth::asides_fit(out);
+    growth::asides_size(out);
+    growth::asides_at_x1(out);
+    growth::asides_of_a_put(out);
+    growth::asides_of_a_commit(out);
+    growth::two_notes(out);
+    growth::two_notes_sizes(out);
+    growth::two_notes_asides(out);
+    growth::full(out);
+    growth::log_room(out);
+    growth::puts(out);
+    growth::empty(out);
 }

@@ -1,16 +1,24 @@
 // The program `hunt`: reads one hunt from standard input, and prints the order found as a run for `bench`, then its report.
-// Uses `hunter`, `orders`, `queues`, `text` and `model`, of the kit `io`, `libc` and `os`. It is a program, and no crate uses it.
+// Uses `hunter`, `orders`, `queues`, `text` and `model`. It is a program, and no crate uses it.
 
 #![tactic(auto)]
 
 ghost use Rattle.std.specs.Prelude.{◌≤◌, ◌<◌, length};
 
 use hunter::Found;
-use libc::{STDIN_FILENO, STDOUT_FILENO};
 use model::{Answer, Command, Operation, Payload, Refusal, Setup};
 use orders::Verdict;
 use queues::Bench;
+use std::io::{Eprint, Error, Print, Read, Result, Stderr, Stdin, Stdout};
 use text::Value;
+
+// The program's standard streams.
+#[derive(Clone, Copy)]
+struct Streams {
+    input: Stdin,
+    output: Stdout,
+    errors: Stderr,
+}
 
 // What the buffer holds: so many bytes to read, none if there is nothing left to do, and whether nothing comes after them.
 #[derive(Clone, Copy)]
@@ -60,25 +68,31 @@ struct Lines {
     used: usize,
 }
 
+// Tells of a read or a write that failed on standard error. If that cannot be written either, nothing more can be said.
+fn tell_failure(streams: Streams, what: &str, error: Error) {
+    let _told = eprintln!(streams.errors; "{what}: {error}");
+}
+
 // Reads once, behind the first `have` bytes of the buffer. Waits only if there is nothing to read. At the input's end a line that
 // no newline ends is read as if one did.
-fn read_more(buf: &mut [u8], have: usize) -> Input
+fn read_more(streams: Streams, buf: &mut [u8], have: usize) -> Input
     requires { have < length buf.old }
     ensures { result.bytes ≤ length buf.new }
 {
-    let part = &mut buf[have..];
-    let got = libc::read(STDIN_FILENO, part);
-    if got < 0 {
-        os::fail(b"read");
-        return Input {
-            bytes: 0,
-            last: true,
-        };
-    }
+    let mut input = streams.input;
+    let got = match input.read(&mut buf[have..]) {
+        Ok(got) => got,
+        Err(error) => {
+            tell_failure(streams, "read", error);
+            return Input {
+                bytes: 0,
+                last: true,
+            };
+        }
+    };
     if 0 < got {
-        let k = io::count(got, part);
         return Input {
-            bytes: have + k,
+            bytes: have + got,
             last: false,
         };
     }
@@ -322,7 +336,7 @@ fn no_wish() -> Wish {
 }
 
 // Reads the hunt, line by line.
-fn read_wish(buf: &mut [u8]) -> Wish
+fn read_wish(streams: Streams, buf: &mut [u8]) -> Wish
     requires { 72 < length buf.old }
 {
     let mut wish = no_wish();
@@ -330,7 +344,7 @@ fn read_wish(buf: &mut [u8]) -> Wish
     let mut turns = u64::MAX;
     while turns > 0 {
         turns -= 1;
-        let input = read_more(buf, have);
+        let input = read_more(streams, buf, have);
         let n = input.bytes;
         let lines = read_lines(wish, &buf[..n]);
         wish = lines.wish;
@@ -351,83 +365,90 @@ fn read_wish(buf: &mut [u8]) -> Wish
     bad(wish)
 }
 
+// Whether a write could be made; if not, that is told on standard error.
+fn is_made(streams: Streams, written: Result<()>) -> bool {
+    match written {
+        Ok(()) => true,
+        Err(error) => {
+            tell_failure(streams, "write", error);
+            false
+        }
+    }
+}
+
 // Writes bytes, unless a write has failed; if this one does, that is told on standard error.
-fn say(ok: bool, text: &[u8]) -> bool {
+fn say(streams: Streams, ok: bool, text: &[u8]) -> bool {
     if !ok {
         return false;
     }
-    let written = io::write_all(STDOUT_FILENO, text);
-    if !written {
-        os::fail(b"write");
-    }
-    written
+    is_made(streams, streams.output.write_all(text))
 }
 
 // A space and a number.
-fn tell(ok: bool, n: u32) -> bool {
-    let spaced = say(ok, b" ");
+fn tell(streams: Streams, ok: bool, n: u32) -> bool {
+    let spaced = say(streams, ok, b" ");
     if !spaced {
         return false;
     }
-    let written = io::print_decimal(STDOUT_FILENO, n as u64);
-    if !written {
-        os::fail(b"write");
-    }
-    written
+    is_made(streams, print!(streams.output; "{n}"))
 }
 
-fn tell_refusal(number: u32) {
-    let ok = tell(say(true, b"R"), number);
-    say(ok, b"\n");
+fn tell_refusal(streams: Streams, number: u32) {
+    let ok = tell(streams, say(streams, true, b"R"), number);
+    say(streams, ok, b"\n");
 }
 
 // The queue's line, as it came in.
-fn tell_queue(wish: Wish) -> bool {
+fn tell_queue(streams: Streams, wish: Wish) -> bool {
     let s = wish.setup;
-    let kind = tell(say(true, b"queue"), s.kind);
-    let size = tell(tell(kind, s.width), s.size);
-    let mut ok = tell(tell(size, s.crew), wish.long);
+    let kind = tell(streams, say(streams, true, b"queue"), s.kind);
+    let size = tell(streams, tell(streams, kind, s.width), s.size);
+    let mut ok = tell(streams, tell(streams, size, s.crew), wish.long);
     if wish.numbers == 6 {
-        ok = tell(ok, s.words);
+        ok = tell(streams, ok, s.words);
     }
-    say(ok, b"\n")
+    say(streams, ok, b"\n")
 }
 
 // `times` steps of a worker, if there are any.
-fn tell_steps(ok: bool, worker: u32, times: u32) -> bool {
+fn tell_steps(streams: Streams, ok: bool, worker: u32, times: u32) -> bool {
     if times == 0 {
         return ok;
     }
-    let told = tell(tell(say(ok, b"step"), worker), times);
-    say(told, b"\n")
+    let told = tell(
+        streams,
+        tell(streams, say(streams, ok, b"step"), worker),
+        times,
+    );
+    say(streams, told, b"\n")
 }
 
 // A number, so many times.
-fn tell_often(ok: bool, words: u32, n: u32) -> bool {
+fn tell_often(streams: Streams, ok: bool, words: u32, n: u32) -> bool {
     let mut told = ok;
     let mut k: u32 = 0;
     while k < words {
-        told = tell(told, n);
+        told = tell(streams, told, n);
         k += 1;
     }
     told
 }
 
 // The n-th put has n as each of its words.
-fn tell_put(ok: bool, words: u32, n: u32) -> bool {
-    let told = tell_often(say(ok, b"put"), words, n);
-    say(told, b"\n")
+fn tell_put(streams: Streams, ok: bool, words: u32, n: u32) -> bool {
+    let told = tell_often(streams, say(streams, ok, b"put"), words, n);
+    say(streams, told, b"\n")
 }
 
-fn tell_steal(ok: bool, thief: u32) -> bool {
-    let told = tell(say(ok, b"steal"), thief);
-    say(told, b"\n")
+fn tell_steal(streams: Streams, ok: bool, thief: u32) -> bool {
+    let told = tell(streams, say(streams, ok, b"steal"), thief);
+    say(streams, told, b"\n")
 }
 
-fn tell_report(ok: bool, found: Found) {
-    let repeats = tell(say(ok, b"end\nM"), found.repeats);
-    let told = tell(tell(repeats, found.steps), found.distance);
-    say(told, b"\n");
+fn tell_report(streams: Streams, ok: bool, found: Found) {
+    let repeats = tell(streams, say(streams, ok, b"end\nM"), found.repeats);
+    let told = tell(streams, tell(streams, repeats, found.steps), found.distance);
+    say(streams, told, b"\n");
 }
 
 // What the replay has told: the bench, how many of the owner's list are begun and how many of these are puts, and the steps that
@@ -473,14 +494,14 @@ fn operation_of(worker: u32, put: bool) -> Operation {
     Operation::Take
 }
 
-fn tell_begin(ok: bool, words: u32, worker: u32, put: bool, n: u32) -> bool {
+fn tell_begin(streams: Streams, ok: bool, words: u32, worker: u32, put: bool, n: u32) -> bool {
     if 0 < worker {
-        return tell_steal(ok, worker);
+        return tell_steal(streams, ok, worker);
     }
     if put {
-        return tell_put(ok, words, n);
+        return tell_put(streams, ok, words, n);
     }
-    say(ok, b"take\n")
+    say(streams, ok, b"take\n")
 }
 
 // One more, unless the number is at its ceiling.
@@ -493,13 +514,14 @@ fn up(n: u32) -> u32 {
 
 // An idle worker begins its next operation, and does its first line.
 fn begin_next(
+    streams: Streams,
     replay: Replay,
     wish: Wish,
     worker: u32,
     store: &mut [u32],
     log: &mut [u32],
 ) -> Replay {
-    let mut ok = tell_steps(replay.ok, replay.worker, replay.times);
+    let mut ok = tell_steps(streams, replay.ok, replay.worker, replay.times);
     let mut begun = replay.begun;
     let mut puts = replay.puts;
     let put = worker == 0 && is_put(wish, begun);
@@ -509,7 +531,7 @@ fn begin_next(
     if worker == 0 {
         begun = up(begun);
     }
-    ok = tell_begin(ok, wish.setup.words, worker, put, puts);
+    ok = tell_begin(streams, ok, wish.setup.words, worker, put, puts);
     let operation = operation_of(worker, put);
     let first = replay.bench.begin(worker, operation, store, log);
     let second = first.bench.step(worker, store, log);
@@ -526,6 +548,7 @@ fn begin_next(
 
 // One step more of the order.
 fn step_next(
+    streams: Streams,
     replay: Replay,
     wish: Wish,
     worker: u32,
@@ -535,7 +558,7 @@ fn step_next(
     let made = replay.bench.step(worker, store, log);
     let answer = made.answer;
     if is_idle(answer) {
-        return begin_next(replay, wish, worker, store, log);
+        return begin_next(streams, replay, wish, worker, store, log);
     }
     let mut next = replay;
     let bench = made.bench;
@@ -544,7 +567,7 @@ fn step_next(
         next.times = up(replay.times);
         return next;
     }
-    next.ok = tell_steps(replay.ok, replay.worker, replay.times);
+    next.ok = tell_steps(streams, replay.ok, replay.worker, replay.times);
     next.worker = worker;
     next.times = 1;
     next
@@ -561,7 +584,13 @@ fn steps_of(found: Found) -> u32
 }
 
 // Tells the order found as a run.
-fn tell_order(wish: Wish, found: Found, store: &mut [u32], log: &mut [u32]) -> bool {
+fn tell_order(
+    streams: Streams,
+    wish: Wish,
+    found: Found,
+    store: &mut [u32],
+    log: &mut [u32],
+) -> bool {
     let fresh = Bench::fresh(wish.setup, store);
     let bench = fresh.bench;
     let mut replay = Replay {
@@ -570,17 +599,17 @@ fn tell_order(wish: Wish, found: Found, store: &mut [u32], log: &mut [u32]) -> b
         puts: 0,
         worker: 0,
         times: 0,
-        ok: tell_queue(wish),
+        ok: tell_queue(streams, wish),
     };
     let n = steps_of(found);
     let mut k: u32 = 0;
     while k < n {
         let i = k as usize;
         let worker = found.order[i];
-        replay = step_next(replay, wish, worker, store, log);
+        replay = step_next(streams, replay, wish, worker, store, log);
         k += 1;
     }
-    tell_steps(replay.ok, replay.worker, replay.times)
+    tell_steps(streams, replay.ok, replay.worker, replay.times)
 }
 
 fn number_of(verdict: Verdict) -> u32 {
@@ -631,29 +660,34 @@ fn span(long: u32, store: &[u32]) -> usize
     store.len()
 }
 
-fn run(buf: &mut [u8], store: &mut [u32], log: &mut [u32])
+fn run(streams: Streams, buf: &mut [u8], store: &mut [u32], log: &mut [u32])
     requires { 72 < length buf.old }
 {
-    let wish = read_wish(buf);
+    let wish = read_wish(streams, buf);
     if wish.stage == WRONG {
-        tell_refusal(13);
+        tell_refusal(streams, 13);
         return;
     }
     let found = hunt_for(wish);
     let verdict = found.verdict;
     let number = number_of(verdict);
     if number != 0 {
-        tell_refusal(number);
+        tell_refusal(streams, number);
         return;
     }
     let n = span(wish.long, store);
-    let ok = tell_order(wish, found, &mut store[..n], log);
-    tell_report(ok, found);
+    let ok = tell_order(streams, wish, found, &mut store[..n], log);
+    tell_report(streams, ok, found);
 }
 
-fn main() {
+fn main(rt: HostRuntime) {
+    let streams = Streams {
+        input: rt.stdin(),
+        output: rt.stdout(),
+        errors: rt.stderr(),
+    };
     let mut buf = [0u8; 4096];
     let mut store = [0u32; 10235];
     let mut log = [0u32; 448];
-    run(&mut buf, &mut store, &mut log);
+    run(streams, &mut buf, &mut store, &mut log);
 }

@@ -12,7 +12,7 @@ use Rattle.model.specs.declared.Queue.{Queue}
 use Rattle.model.specs.declared.Store.{Store}
 use Rattle.model.specs.declared.Store.TheVariants.{StoreWord, StoreNote, StorePut, StoreOut, StoreHead, StoreTail}
 use Rattle.model.specs.declared.Region.{Region}
-use Rattle.model.specs.Tests.{if◌then◌else◌, ◌and◌}
+use Rattle.model.specs.Tests.{if◌then◌else◌}
 use Rattle.model.specs.Memory.{offset_at, length_at, size_at}
 use Rattle.model.specs.Stores.{in_line, taken}
 use Rattle.model.specs.World.{World, memory, owners_view, tag_bits, line_at}

@@ -2,7 +2,7 @@
 use mathlib.Core.Bool.{Bool, true, false}
 use mathlib.Core.Path.{◌≡◌, refl, sym, ap, subst, ◌∙◌}
 use mathlib.Core.List.{List}
-use Prim.Native.Nat.{ℕ, zero, suc, ◌+◌, ◌-◌, ◌*◌, ◌≤◌, ◌<◌}
+use Prim.Native.Nat.{ℕ, zero, suc, ◌+◌, ◌-◌, ◌≤◌, ◌<◌}
 use native.Mathlib.Omega.{arith}
 use native.Mathlib.Nat.{add-zero}
 use lib.Dec.{eqb, ltb, leb}
@@ -12,11 +12,11 @@ use Rattle.model.specs.declared.Region.{Region}
 use Rattle.model.specs.declared.Queue.{Queue}
 use Rattle.model.specs.declared.Bench.{Bench}
 use Rattle.model.specs.declared.Line.{Line}
-use Rattle.model.specs.Tests.{least, if◌then◌else◌, ◌and◌}
-use Rattle.model.specs.Memory.{offset_at, length_at, size_at, end_at, words_to, usable}
-use Rattle.model.specs.Stores.{taken, words_taken, room_in}
+use Rattle.model.specs.Tests.{least, if◌then◌else◌}
+use Rattle.model.specs.Memory.{end_at, words_to, usable}
+use Rattle.model.specs.Stores.{taken, words_taken}
 use Rattle.model.specs.World.{World, owners_view, room_alone, is_expanding, line_at}
-use Rattle.model.specs.Limits.{kind_ok, width_ok, words_ok, crew_ok, tidy, directory_ok, bench_ok, log_ok, alone_ok, valid_of, Within}
+use Rattle.model.specs.Limits.{kind_ok, width_ok, words_ok, crew_ok, tidy, directory_ok, bench_ok, log_ok, valid_of, Within}
 use Rattle.model.proofs.Tests.{if_true, if_false, and_left, and_right}
 use Rattle.model.proofs.Directory.{tidy_last}
 

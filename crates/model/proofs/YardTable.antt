@@ -1,7 +1,7 @@
 -- Several queues over one store, tried by computation: what makings and calls answer and where arrays come to lie; and yards at
 -- each limit and past it.
 use mathlib.Core.Path.{◌≡◌, refl}
-use mathlib.Core.Bool.{Bool, true, false}
+use mathlib.Core.Bool.{true, false}
 use mathlib.Core.List.{List, [], ◌∷◌, ◌++◌, map}
 use Prim.Native.Nat.{ℕ}
 use lib.ListN.{replicate}

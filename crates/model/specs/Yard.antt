@@ -1,5 +1,5 @@
 -- Several queues over one store, a yard: making one, and a call of one of them.
-use Rattle.std.specs.Prelude.{Bool, true, List, [], ◌∷◌, ℕ, zero, suc, ◌+◌, ◌-◌, ◌*◌, eqb, ltb, leb, length, get_or, set, replicate}
+use Rattle.std.specs.Prelude.{Bool, true, List, [], ◌∷◌, ℕ, zero, suc, ◌+◌, ◌-◌, eqb, ltb, leb, get_or, set, replicate}
 use Rattle.model.specs.declared.Region.{Region}
 use Rattle.model.specs.declared.Room.{Room}
 use Rattle.model.specs.declared.Queue.{Queue}

@@ -256,7 +256,7 @@ module _ {W : World} (H : Whole W) (J : OpenUsed W) (ρ : Room) (R : Admits ρ W
   thief_ends_none : (k z : ℕ) → Next z z (effect_of ρ W (suc k)).answer
   thief_ends_none k z =
       let θ = thieves W.bench.workers k in
-      let e = thief_open _ _ _ _ _ θ (H.shape.th k) in
+      let e = thief_open _ _ _ W.bench.queue _ θ (H.shape.th k) in
       let L = line_of (suc k) (omega (arith, e W.bench.used, e (suc W.bench.used))) in
       ends_none (open_put θ (suc W.bench.used)) (open_put (effect_of ρ W (suc k)).line (suc W.bench.used)) z (effect_of ρ W (suc k)).answer
       (omega (arith, e (suc W.bench.used), L.0)) L.1

@@ -1,6 +1,6 @@
 -- The orders walked are the complete ones, rising.
 use mathlib.Core.Path.{◌≡◌, refl, sym, ◌∙◌, ap, subst}
-use mathlib.Core.Bool.{Bool, true, false, not, true≢false}
+use mathlib.Core.Bool.{Bool, true, false}
 use mathlib.Core.Logic.{◌⊎◌, inl, inr, ⊎_elim}
 use mathlib.Core.List.{List, [], ◌∷◌, ◌++◌, map}
 use Prim.Native.Nat.{ℕ, zero, suc, ◌+◌, ◌≤◌, ◌<◌}
@@ -9,7 +9,7 @@ use lib.ListN.{length, take, get_or}
 use Rattle.model.specs.Tests.{if◌then◌else◌, ◌or◌}
 use Rattle.model.proofs.Tests.{or_either, or_false, if_true, if_false}
 use Rattle.orders.specs.Orders.{Play, Order, may_step, move, after_order, everyone, some_may, starting_with, orders_of}
-use Rattle.orders.specs.Claims.{Complete, Has, Before, AllOrders, WalkIsWhole}
+use Rattle.orders.specs.Claims.{Complete, Has, Before, WalkIsWhole}
 
 -- ORDERS IN A LIST, by its parts and not by places
 abbrev pub In : List Order → Order → Type 0

@@ -1,5 +1,5 @@
 -- The orders played out with a budget, and the best of them.
-use mathlib.Core.Path.{◌≡◌, refl, sym, ◌∙◌, ap, subst}
+use mathlib.Core.Path.{◌≡◌, refl, sym, ap, subst}
 use mathlib.Core.Bool.{Bool, true, false, true≢false}
 use mathlib.Core.Logic.{◌⊎◌, inl, inr, ⊎_elim}
 use mathlib.Core.List.{List, [], ◌∷◌}
@@ -11,7 +11,7 @@ use borrow.Author.Tests.{ltb-true, ltb-false, leb-true, leb-false, le-leb}
 use Rattle.model.specs.Tests.{if◌then◌else◌}
 use Rattle.orders.specs.Orders.{Play, Order}
 use Rattle.orders.specs.Hunt.{repeats_of, played_out, steps_made, all_out, best}
-use Rattle.orders.specs.Claims.{Before, steps, Cut, CutIsRight}
+use Rattle.orders.specs.Claims.{Before, Cut, CutIsRight}
 use Rattle.orders.proofs.AllOrders.{In, Rises}
 
 -- THE CUT

@@ -12,7 +12,6 @@ use lib.Seq.{get_or-set_same, get_or-set_other}
 use borrow.Author.Tests.{ltb-false}
 use Rattle.model.specs.declared.Setup.{Setup}
 use Rattle.model.specs.declared.Worker.{Worker}
-use Rattle.model.specs.declared.Line.{Line}
 use Rattle.model.specs.declared.Operation.{Operation}
 use Rattle.model.specs.declared.Operation.TheVariants.{Put, Take, Steal, Commit}
 use Rattle.model.specs.declared.Answer.{Answer}
@@ -20,9 +19,8 @@ use Rattle.model.specs.declared.Answer.TheVariants.{Accepted, Numbered, GoesOn, 
 use Rattle.model.specs.Tests.{if◌then◌else◌, ◌and◌, ◌or◌}
 use Rattle.model.specs.Tasks.{words_in}
 use Rattle.model.specs.Memory.{set_all}
-use Rattle.model.specs.Answers.{Entry, entry_of, ends, entry_length, entry_words}
-use Rattle.model.specs.Lines.{Effect}
-use Rattle.model.specs.World.{World, Outcome, line_at, room_alone}
+use Rattle.model.specs.Answers.{entry_of, ends, entry_length, entry_words}
+use Rattle.model.specs.World.{World, line_at, room_alone}
 use Rattle.model.specs.Calls.{fresh_of, first_line, begin_of, step_of, log_full, begin, step}
 use Rattle.model.specs.Counts.{entry_at, is_kind, out_as, out_first, some_below, count_below, counts_of, entries_in}
 use Rattle.model.proofs.Tests.{or_false}

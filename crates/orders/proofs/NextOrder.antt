@@ -1,17 +1,17 @@
 -- The walk by next orders goes through all orders, in their order.
-use mathlib.Core.Path.{◌≡◌, refl, sym, ◌∙◌, ap, subst}
+use mathlib.Core.Path.{◌≡◌, refl, sym, ◌∙◌, ap}
 use mathlib.Core.Bool.{Bool, true, false, true≢false}
-use mathlib.Core.Logic.{◌⊎◌, inl, inr, ⊎_elim}
-use mathlib.Core.List.{List, [], ◌∷◌, ◌++◌, map, append-nil}
-use Prim.Native.Nat.{ℕ, zero, suc, ◌<◌}
+use mathlib.Core.Logic.{inl, inr}
+use mathlib.Core.List.{List, [], ◌∷◌, ◌++◌, map}
+use Prim.Native.Nat.{ℕ, zero, suc}
 use native.Mathlib.Omega.{arith}
 use lib.Dec.{eqb}
-use borrow.Author.Tests.{eqb-true, eq-eqb, ne_eqb}
+use borrow.Author.Tests.{eq-eqb, ne_eqb}
 use Rattle.model.specs.Tests.{if◌then◌else◌, ◌or◌}
-use Rattle.model.proofs.Tests.{if_true, if_false}
+use Rattle.model.proofs.Tests.{if_false}
 use Rattle.orders.specs.Orders.{Play, Order, may_step, move, everyone, some_may, starting_with, orders_of}
 use Rattle.orders.specs.Next.{lowest, above, first_of, turned, next_of, behind_of, given}
-use Rattle.orders.proofs.AllOrders.{Among, Above, Sorted, everyone_sorted}
+use Rattle.orders.proofs.AllOrders.{Among, Sorted, everyone_sorted}
 
 abbrev behind : ℕ → List Order → List Order
 behind i os = map (λ o. i ∷ o) os

@@ -3,10 +3,10 @@ use mathlib.Core.Path.{◌≡◌, refl, sym, ◌∙◌, ap, subst}
 use mathlib.Core.Bool.{Bool, true, false, true≢false}
 use mathlib.Core.Logic.{◌⊎◌, inl, inr, ⊎_elim}
 use mathlib.Core.List.{List, [], ◌∷◌, ◌++◌}
-use Prim.Native.Nat.{ℕ, zero, suc, ◌+◌, ◌-◌, ◌*◌, ◌≤◌, ◌<◌}
+use Prim.Native.Nat.{ℕ, ◌+◌, ◌-◌, ◌≤◌}
 use native.Mathlib.Omega.{arith}
 use lib.Dec.{eqb, leb, ltb}
-use lib.ListN.{length, drop, replicate}
+use lib.ListN.{drop}
 use borrow.Author.Tests.{leb-true, le-leb}
 use Rattle.model.specs.declared.Setup.{Setup}
 use Rattle.model.specs.declared.Operation.{Operation}
@@ -18,7 +18,7 @@ use Rattle.model.specs.Tests.{if◌then◌else◌, ◌and◌}
 use Rattle.model.specs.World.{World, Outcome}
 use Rattle.model.specs.Memory.{usable}
 use Rattle.model.specs.Limits.{width_ok, is_size, crew_ok, words_ok}
-use Rattle.model.specs.Calls.{fresh_of, setup, first_length, begin_of, step_of, Call, begin, step, call_of}
+use Rattle.model.specs.Calls.{fresh_of, setup, first_length, Call, begin, step, call_of}
 use Rattle.model.specs.Run.{after}
 use Rattle.model.proofs.Tests.{if_true}
 use Rattle.theorems.proofs.Cases.{pick}
@@ -46,8 +46,8 @@ use Rattle.orders.specs.Hunt.{
   hunt_plan,
   hunt_of,
 }
-use Rattle.orders.specs.Claims.{Complete, Has, Before, Reported, ReportIsRight, NeverFewer}
-use Rattle.orders.proofs.AllOrders.{In, Rises, has_in, in_has, whole, orders_rise}
+use Rattle.orders.specs.Claims.{Complete, Has, Reported, ReportIsRight, NeverFewer}
+use Rattle.orders.proofs.AllOrders.{In, has_in, in_has, whole, orders_rise}
 use Rattle.orders.proofs.HandOuts.{Fair, order_fair, fair_repeats, fresh_fair}
 use Rattle.orders.proofs.Best.{out_rises, all_out_lem, more_out, best_most, best_in, best_earliest}
 

@@ -1,7 +1,7 @@
 -- A few hunts, computed: each report is what the second simulator's hunt reports.
 use mathlib.Core.Path.{◌≡◌, refl}
 use mathlib.Core.Bool.{Bool, true, false}
-use mathlib.Core.List.{List, [], ◌∷◌, ◌++◌, map}
+use mathlib.Core.List.{List, [], ◌∷◌, ◌++◌}
 use Prim.Native.Nat.{ℕ, zero, suc}
 use lib.ListN.{replicate}
 use Rattle.model.specs.declared.Refusal.TheVariants.{UnknownQueue, ShortStore, NoSuchWorker, PayloadWords}

@@ -9,7 +9,7 @@ use Rattle.model.specs.Tests.{if◌then◌else◌, ◌or◌}
 use Rattle.model.proofs.Tests.{if_true, if_false}
 use Rattle.orders.specs.Orders.{Play, Order, may_step, move, after_order, everyone, some_may}
 use Rattle.orders.specs.Next.{lowest, above, turned, next_of}
-use Rattle.orders.proofs.AllOrders.{Among, everyone_below}
+use Rattle.orders.proofs.AllOrders.{everyone_below}
 use Rattle.orders.proofs.NextOrder.{lowest_is, above_in}
 
 -- the steps given: r of the order's, the last of them made by another worker

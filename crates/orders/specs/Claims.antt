@@ -1,5 +1,5 @@
 -- What is claimed of the hunt.
-use Rattle.std.specs.Prelude.{◌≡◌, Bool, true, false, ◌⊎◌, List, [], ◌∷◌, ℕ, zero, suc, ◌+◌, ◌-◌, ◌≤◌, ◌<◌, length, take, get_or}
+use Rattle.std.specs.Prelude.{◌≡◌, Bool, true, false, ◌⊎◌, List, [], ◌∷◌, ℕ, suc, ◌+◌, ◌-◌, ◌≤◌, ◌<◌, length, take, get_or}
 use Rattle.model.specs.declared.Operation.{Operation}
 use Rattle.model.specs.World.{World, room_alone}
 use Rattle.model.specs.Calls.{setup, begun, begin_of, stepped, next_effect, step_of, Call}

@@ -9,7 +9,7 @@ use Rattle.model.specs.declared.Answer.TheVariants.{Accepted, Numbered, GoesOn, 
 use Rattle.model.specs.Tests.{if◌then◌else◌, unless◌then◌else◌, least}
 use Rattle.model.specs.Tasks.{payload}
 use Rattle.model.specs.World.{World, Outcome}
-use Rattle.model.specs.Answers.{number_of as refusalNumber}
+use Rattle.model.specs.Answers.{number_of as refusal_number}
 use Rattle.model.specs.Calls.{fresh_of, setup_in}
 use Rattle.model.specs.Counts.{counts_of}
 use Rattle.orders.specs.declared.Verdict.{Verdict}
@@ -140,6 +140,6 @@ hunt_of k w c n v s puts steals b = hunt_plan (setup_in k w c n v false) s (plan
 -- the number of a refusal; 0 if there is none
 abbrev pub number_of : Verdict → ℕ
 number_of Hunted = 0
-number_of (Barred r) = refusalNumber r
+number_of (Barred r) = refusal_number r
 number_of ManyOperations = 25
 number_of LargeBudget = 26

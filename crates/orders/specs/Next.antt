@@ -1,6 +1,6 @@
 -- The walk by next orders, as the code makes it: an order is the steps given for it, and from there on the lowest worker that may
 -- step; the next one is given by the last step at which a higher worker may step instead.
-use Rattle.std.specs.Prelude.{Bool, List, [], ◌∷◌, ◌++◌, map, ℕ, zero, suc, eqb}
+use Rattle.std.specs.Prelude.{List, [], ◌∷◌, ◌++◌, map, ℕ, zero, suc, eqb}
 use Rattle.model.specs.Tests.{if◌then◌else◌}
 use Rattle.orders.specs.Orders.{Play, Order, may_step, move, everyone, some_may, starting_with, orders_of}
 

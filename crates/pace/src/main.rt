@@ -1,13 +1,13 @@
 // For timing: plays three million steps through the library's public calls, and prints how many went on. Each run of five is a
 // steal attempt's lines 1 to 4b, from one and the same bench: a bench is a value, so the attempt can be played again from its
 // start, and the log never fills.
-// Uses `queues` and `model`, of the kit `io` and `libc`. It is a program, and no crate uses it.
+// Uses `queues` and `model`. It is a program, and no crate uses it.
 
 #![tactic(auto)]
 
-use libc::STDOUT_FILENO;
 use model::{Answer, Operation, Payload, Setup};
 use queues::{Bench, Reply};
+use std::io;
 
 // 1 of a step that goes on.
 fn went_on(answer: Answer) -> u64 {
@@ -67,7 +67,7 @@ fn attempt(made: u64, start: Bench, store: &mut [u32], log: &mut [u32]) -> u64 {
     lines_from_3(count(count(made, at_1), at_2), second.bench, store, log)
 }
 
-fn main() {
+fn main(rt: HostRuntime) -> io::Result<()> {
     let mut store = [0u32; 64];
     let mut log = [0u32; 64];
     let setup = Setup {
@@ -88,6 +88,5 @@ fn main() {
         steps = attempt(steps, start, &mut store, &mut log);
         attempts += 1;
     }
-    io::print_decimal(STDOUT_FILENO, steps);
-    io::write_all(STDOUT_FILENO, b"\n");
+    println!(rt; "{steps}")
 }

@@ -24,7 +24,7 @@ use Rattle.model.specs.Lines.{line_step}
 use Rattle.model.specs.Stores.{landed_all}
 use Rattle.model.specs.World.{World, Outcome, line_at}
 use Rattle.model.specs.Calls.{log_full, fresh_of, setup, Call, begin, step, call_of}
-use Rattle.model.specs.Tasks.{payload, task, word_in, gathered, first_words}
+use Rattle.model.specs.Tasks.{payload, word_in, gathered, first_words}
 use Rattle.model.specs.Answers.{entry, entry_length, entry_words}
 use Rattle.model.specs.Memory.{usable, zeros, offset_at, length_at, words_to}
 use Rattle.model.specs.Run.{Played, played, after}

@@ -5,7 +5,7 @@
 
 ghost use Rattle.std.specs.Prelude.{◌≡◌, ◌+◌, ◌≤◌, ◌<◌, length, get_or, take, drop};
 ghost use Rattle.text.specs.Numbers.{Placed};
-ghost use Rattle.text.specs.Same.{same as sameOf};
+ghost use Rattle.text.specs.Same.{same as same_of};
 ghost use Rattle.text.specs.Numbers.{plain as plain_of, value_of, decimal_of, line_of};
 ghost use Rattle.text.specs.Outs.{out_values};
 ghost use Rattle.text.specs.Words.{words, head};
@@ -34,7 +34,7 @@ pub enum Key {
 }
 
 pub fn same(a: &[u8], b: &[u8]) -> bool
-    ensures { result ≡ sameOf a.now b.now }
+    ensures { result ≡ same_of a.now b.now }
 {
     let mut i = 0;
     while i < a.len() {

@@ -17,7 +17,7 @@ use Rattle.model.specs.declared.Line.TheVariants.{Idle, PutRead, PutTail, PutTes
 use Rattle.model.specs.declared.Queue.{Queue}
 use Rattle.model.specs.declared.Room.{Room}
 use Rattle.model.specs.declared.Region.{Region}
-use Rattle.model.specs.Tests.{if◌then◌else◌, ◌and◌}
+use Rattle.model.specs.Tests.{if◌then◌else◌}
 use Rattle.model.specs.Memory.{length_at, size_at}
 use Rattle.model.specs.Tasks.{with_word}
 use Rattle.model.specs.Figures.{take_index, steal_index, is_full, is_empty, put_read, take_read, steal_read, note, steal_last}

@@ -20,7 +20,7 @@ use Rattle.model.specs.declared.Region.{Region}
 use Rattle.model.specs.declared.Task.{Task}
 use Rattle.model.specs.declared.Store.{Store}
 use Rattle.model.specs.declared.Store.TheVariants.{StoreWord, StoreNote, StorePut, StoreOut, StoreHead, StoreTail}
-use Rattle.theorems.proofs.Folds.{laid, words}
+use Rattle.theorems.proofs.Folds.{laid}
 use Rattle.model.specs.Memory.{zeros, offset_at, length_at, size_at}
 use Rattle.theorems.proofs.Words.{off, len}
 use Rattle.model.specs.Lines.{size, fits}
@@ -228,7 +228,7 @@ base_dir {κ} {w} {ω} {δ} {Q} {μ} {ol} {oh} {φ} {h} B d c rr same pos O =
       room = rw (eb, ez) B.room;
       tag = B.tag;
       owed = O;
-      th = λ i. thief_holds (move_none (frame_dir v d _ _ eb ez same) (grow_same κ v _ refl) (omega arith)) (φ i) (B.th i);
+      th = λ i. thief_holds {w = w} {g = Q.anchor.tag} {h = h} {k = (suc i)} (move_none (frame_dir v d _ _ eb ez same) (grow_same κ v _ refl) (omega arith)) (φ i) (B.th i);
     }
   where
     v : View

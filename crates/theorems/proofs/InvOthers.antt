@@ -17,7 +17,8 @@ use Rattle.model.specs.World.{is_expanding}
 use Rattle.model.proofs.Directory.{size_pos}
 use Rattle.model.proofs.Tasks.{same_words}
 use Rattle.model.proofs.Tests.{if_true}
-use Rattle.theorems.proofs.Folds.{places, laid, words}
+use Rattle.model.specs.Memory.{offset_at}
+use Rattle.theorems.proofs.Folds.{places, laid, words, words_of}
 use Rattle.theorems.proofs.Directory.{Arrays, Others, long_at, now}
 use Rattle.theorems.proofs.Shape.{tail, Shape}
 use Rattle.theorems.proofs.ShapeLay.{shape_settle}
@@ -37,7 +38,8 @@ others_set {q} {m} {m'} a x O =
 
 others_words : (ω : ℕ) (l : List Region) (q : Queue) (m m' : List ℕ) (ss : List Store) → Others q m m' → Others q (words ω l ss m) (words ω l ss m')
 others_words ω l q m m' [] O = O
-others_words ω l q m m' (StoreWord b s j x ∷ ss) O = others_words ω l q _ _ ss (others_set _ x O)
+others_words ω l q m m' (StoreWord b s j x ∷ ss) O =
+    others_words ω l q (words_of ω l (StoreWord b s j x) m) (words_of ω l (StoreWord b s j x) m') ss (others_set (offset_at l b + (ω + 1) * s + j) x O)
 others_words ω l q m m' (StoreNote k ∷ ss) O = others_words ω l q m m' ss O
 others_words ω l q m m' (StorePut r ∷ ss) O = others_words ω l q m m' ss O
 others_words ω l q m m' (StoreOut r ∷ ss) O = others_words ω l q m m' ss O

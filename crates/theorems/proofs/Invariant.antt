@@ -22,7 +22,6 @@ use Rattle.model.specs.Memory.{offset_at, size_at}
 use Rattle.theorems.proofs.Words.{off}
 use Rattle.model.specs.Lines.{size}
 use Rattle.model.specs.Calls.{link_set}
-use Rattle.model.specs.Figures.{anchor}
 use Rattle.model.proofs.Directory.{Size}
 use Rattle.theorems.proofs.Events.{Event, quiet, line_1, finished_put, handed_out, failed_compare, found_empty, began_put, found_full, waiting_put, drained, History, Out, Told, Concerns, Emptied, puts_since, history_at}
 use Rattle.theorems.proofs.Remainders.{tag_next}

@@ -76,7 +76,7 @@ module _ {κ : Kind} {w ω : ℕ} {δ : Bool} {Q : Queue} {μ : List ℕ} {ol oh
         room = omega (arith, B.room);
         tag = B.tag;
         owed = O;
-        th = λ i. thief_holds (move_none (frame_store v m same low oh) (grow_same κ v _ refl) (omega arith)) (φ i) (B.th i);
+        th = λ i. thief_holds {w = w} {g = Q.anchor.tag} {h = h} {k = (suc i)} (move_none (frame_store v m same low oh) (grow_same κ v _ refl) (omega arith)) (φ i) (B.th i);
       }
 
   base_word : (a x : ℕ) (rr : List Store) → Clear (view ω Q μ ol oh) a → Owed κ w δ (view ω Q (set μ a x) ol oh) Q.anchor.tag h rr → Base κ w ω δ Q (set μ a x) ol oh rr φ h
@@ -100,7 +100,7 @@ module _ {κ : Kind} {w ω : ℕ} {δ : Bool} {Q : Queue} {μ : List ℕ} {ol oh
         tag = B.tag;
         owed = O;
         th = λ i.
-            thief_holds
+            thief_holds {w = w} {g = Q.anchor.tag} {g' = Q.anchor.tag} {h = h} {h' = h} {k = suc i}
             (rw (eb, ez) (move_none (frame_pub v (k + 1) (offset_at Q.arrays Q.published) (2 * size ω Q) (omega arith) (Q.published - 1, omega (arith, is, R.4), refl, refl) (omega arith) C oh) (grow_same κ v _ refl) (omega arith)))
             (φ i) (B.th i);
       }
@@ -136,7 +136,7 @@ module _ {κ : Kind} {w ω : ℕ} {δ : Bool} {Q : Queue} {μ : List ℕ} {ol oh
         room = B.room;
         tag = omega (arith, B.tag);
         owed = O;
-        th = λ i. thief_holds (rw eg (move_none (frame_same v ol' oh' h1) G h5)) (φ i) (B.th i);
+        th = λ i. thief_holds {w = w} {g = Q.anchor.tag} {g' = r.tag} {h = h} {h' = h} {k = suc i} (rw eg (move_none (frame_same v ol' oh' h1) G h5)) (φ i) (B.th i);
       }
 
   -- a put's store: the window comes to be [a, oh')
@@ -157,7 +157,7 @@ module _ {κ : Kind} {w ω : ℕ} {δ : Bool} {Q : Queue} {μ : List ℕ} {ol oh
         room = B.room;
         tag = lg;
         owed = O;
-        th = λ i. thief_holds (rw (eg, is) (move_put (task_at v oh) (frame_same v ol (oh + 1) (omega arith)) G)) (φ i) (B.th i);
+        th = λ i. thief_holds {w = w} {g = Q.anchor.tag} {g' = r.tag} {h = h} {h' = finished_put (task_at v oh) ∷ h} {k = suc i} (rw (eg, is) (move_put (task_at v oh) (frame_same v ol (oh + 1) (omega arith)) G)) (φ i) (B.th i);
       }
 
 -- a store that is no put's

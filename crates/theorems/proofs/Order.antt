@@ -336,10 +336,10 @@ Dull (StoreTail i ∷ ss) = ⊥
 
 dull_marks : (v : View) (num : ℕ → ℕ) (rr : List Store) → Dull rr → Marks v num rr
 dull_marks v num [] d = tt
-dull_marks v num (StoreWord b s j x ∷ rr) d = (tt, dull_marks _ num rr d)
-dull_marks v num (StoreNote k ∷ rr) d = (tt, dull_marks _ num rr d)
-dull_marks v num (StorePut r ∷ rr) d = (tt, dull_marks _ num rr d)
-dull_marks v num (StoreOut r ∷ rr) d = (tt, dull_marks _ num rr d)
+dull_marks v num (StoreWord b s j x ∷ rr) d = (tt, dull_marks (lay_view Fifo (StoreWord b s j x) v) num rr d)
+dull_marks v num (StoreNote k ∷ rr) d = (tt, dull_marks (lay_view Fifo (StoreNote k) v) num rr d)
+dull_marks v num (StorePut r ∷ rr) d = (tt, dull_marks (lay_view Fifo (StorePut r) v) num rr d)
+dull_marks v num (StoreOut r ∷ rr) d = (tt, dull_marks (lay_view Fifo (StoreOut r) v) num rr d)
 dull_marks v num (StoreHead i ∷ rr) d = absurd d
 dull_marks v num (StoreTail i ∷ rr) d = absurd d
 

@@ -488,7 +488,7 @@ own_claim ρ κ w ω δ used low Q μ ss t φ h S f R I =
 lay_all : (κ : Kind) (w ω : ℕ) (δ : Bool) (Q : Queue) (μ : List ℕ) (ol oh : ℕ) (ss : List Store) (φ : ℕ → Line) (h : History) → NonePut ss → Base κ w ω δ Q μ ol oh ss φ h
     → Base κ w ω δ (laid ss Q) (words ω Q.arrays ss μ) (los ss ol) (his κ ss ol oh) [] φ h
 lay_all κ w ω δ Q μ ol oh [] φ h n B = B
-lay_all κ w ω δ Q μ ol oh (s ∷ ss) φ h n B = lay_all κ w ω δ _ _ _ _ ss φ h n.1 (base_lay κ w ω δ Q μ ol oh s ss φ h n.0 B)
+lay_all κ w ω δ Q μ ol oh (s ∷ ss) φ h n B = lay_all κ w ω δ (laid (s ∷ []) Q) (words_of ω Q.arrays s μ) (lo_of s ol) (hi_of κ s ol oh) ss φ h n.1 (base_lay κ w ω δ Q μ ol oh s ss φ h n.0 B)
 
 lay_order : (κ : Kind) (w ω : ℕ) (δ : Bool) (Q : Queue) (μ : List ℕ) (ol oh : ℕ) (ss : List Store) (φ : ℕ → Line) (h : History) → NonePut ss → Base κ w ω δ Q μ ol oh ss φ h
     → Order κ (view ω Q μ ol oh) Q.anchor.head ss h → Order κ (view ω (laid ss Q) (words ω Q.arrays ss μ) (los ss ol) (his κ ss ol oh)) (laid ss Q).anchor.head [] h

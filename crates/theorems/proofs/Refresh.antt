@@ -165,7 +165,7 @@ module _ {κ : Kind} {w ω : ℕ} {δ : Bool} {Q : Queue} {μ : List ℕ} {ol oh
               tag = B.tag;
               owed = O;
               th = λ i.
-                  thief_holds
+                  thief_holds {w = w} {g = Q.anchor.tag} {h = h} {k = (suc i)}
                   (move_none (frame_same (view ω Q μ ol oh) B.lo B.hi B.core.low) (grow_read κ (view ω Q μ ol oh) (view ω Q μ B.lo B.hi) B.hi refl B.tops) B.core.high) (φ i) (B.th i);
             };
         exact = S;

@@ -275,7 +275,7 @@ module _ (o : Line) (K : LineAlike o) (N : NoThiefs o) where
       let ss = in_line W.bench.waiting in
       step_keeps ρ W H
       (subst (λ (l : Line). AlikeOn ρ W (line_step ρ W.bench.kind (tag_bits W.bench) W.bench.words (laid ss W.bench.queue) (words W.bench.words W.bench.queue.arrays ss W.store) 0 l)) (sym is) (K ρ W H R G is))
-  moved ρ W H R G (suc k) is = absurd (N _ _ _ _ _ (subst (ThiefShape W.bench.kind (tag_bits W.bench) W.bench.words W.bench.queue (tail W.bench.kind W.bench.queue.anchor)) is (H.shape.th k)))
+  moved ρ W H R G (suc k) is = absurd (N _ _ _ W.bench.queue _ (subst (ThiefShape W.bench.kind (tag_bits W.bench) W.bench.words W.bench.queue (tail W.bench.kind W.bench.queue.anchor)) is (H.shape.th k)))
 
   here : (W : World) → Whole W → Grows W → (c : Call) (a : Answer) (i : ℕ) → Does i o (record { before = W; call = c; answer = a }) → KeepsIn (record { before = W; call = c; answer = a })
   here W H G c a i (x, e, n) ρ R =

@@ -99,16 +99,16 @@ put_move κ v s ss v' f (suc m) t l = inr (m, f m t l)
 pub settle : (κ : Kind) (w ω : ℕ) (δ : Bool) (Q : Queue) (μ : List ℕ) (ol oh : ℕ) (ss : List Store) (φ : ℕ → Line) (h : History) → Base κ w ω δ Q μ ol oh ss φ h → Settled κ w ω δ Q μ ol oh ss φ h
 settle κ w ω δ Q μ ol oh [] φ h B = record { past = h; base = B; outs = λ t o. o; done = λ t d. d; labels = λ m t l. absurd l; answers = λ t d. inl d }
 settle κ w ω δ Q μ ol oh (StoreWord b s j x ∷ ss) φ h B =
-    quiet_settle κ w ω δ Q μ ol oh (StoreWord b s j x) ss φ h (quiet_move κ _ (StoreWord b s j x) ss _ (λ p. p) (λ m t l. l)) (settle κ w ω δ _ _ _ _ ss φ h (base_lay κ w ω δ Q μ ol oh (StoreWord b s j x) ss φ h tt B))
+    quiet_settle κ w ω δ Q μ ol oh (StoreWord b s j x) ss φ h (quiet_move κ (view ω Q μ ol oh) (StoreWord b s j x) ss _ (λ p. p) (λ m t l. l)) (settle κ w ω δ (laid (StoreWord b s j x ∷ []) Q) (words_of ω Q.arrays (StoreWord b s j x) μ) (lo_of (StoreWord b s j x) ol) (hi_of κ (StoreWord b s j x) ol oh) ss φ h (base_lay κ w ω δ Q μ ol oh (StoreWord b s j x) ss φ h tt B))
 settle κ w ω δ Q μ ol oh (StoreNote k ∷ ss) φ h B =
-    quiet_settle κ w ω δ Q μ ol oh (StoreNote k) ss φ h (quiet_move κ _ (StoreNote k) ss _ (λ p. p) (λ m t l. l)) (settle κ w ω δ _ _ _ _ ss φ h (base_lay κ w ω δ Q μ ol oh (StoreNote k) ss φ h tt B))
+    quiet_settle κ w ω δ Q μ ol oh (StoreNote k) ss φ h (quiet_move κ (view ω Q μ ol oh) (StoreNote k) ss _ (λ p. p) (λ m t l. l)) (settle κ w ω δ (laid (StoreNote k ∷ []) Q) (words_of ω Q.arrays (StoreNote k) μ) (lo_of (StoreNote k) ol) (hi_of κ (StoreNote k) ol oh) ss φ h (base_lay κ w ω δ Q μ ol oh (StoreNote k) ss φ h tt B))
 settle κ w ω δ Q μ ol oh (StorePut r ∷ ss) φ h B =
     let L = base_lay_put κ w ω δ Q μ ol oh (StorePut r) ss φ h tt B in
-    put_settle κ w ω δ Q μ ol oh (StorePut r) ss φ h L.1 (put_move κ _ (StorePut r) ss _ (λ m t l. l)) (settle κ w ω δ _ _ _ _ ss φ _ L.0)
+    put_settle κ w ω δ Q μ ol oh (StorePut r) ss φ h L.1 (put_move κ (view ω Q μ ol oh) (StorePut r) ss _ (λ m t l. l)) (settle κ w ω δ (laid (StorePut r ∷ []) Q) (words_of ω Q.arrays (StorePut r) μ) (lo_of (StorePut r) ol) (hi_of κ (StorePut r) ol oh) ss φ _ L.0)
 settle κ w ω δ Q μ ol oh (StoreOut r ∷ ss) φ h B =
-    quiet_settle κ w ω δ Q μ ol oh (StoreOut r) ss φ h (quiet_move κ _ (StoreOut r) ss _ (λ p. p) (λ m t l. l)) (settle κ w ω δ _ _ _ _ ss φ h (base_lay κ w ω δ Q μ ol oh (StoreOut r) ss φ h tt B))
+    quiet_settle κ w ω δ Q μ ol oh (StoreOut r) ss φ h (quiet_move κ (view ω Q μ ol oh) (StoreOut r) ss _ (λ p. p) (λ m t l. l)) (settle κ w ω δ (laid (StoreOut r ∷ []) Q) (words_of ω Q.arrays (StoreOut r) μ) (lo_of (StoreOut r) ol) (hi_of κ (StoreOut r) ol oh) ss φ h (base_lay κ w ω δ Q μ ol oh (StoreOut r) ss φ h tt B))
 settle κ w ω δ Q μ ol oh (StoreHead i ∷ ss) φ h B =
-    quiet_settle κ w ω δ Q μ ol oh (StoreHead i) ss φ h (quiet_move κ _ (StoreHead i) ss _ (λ p. p) (λ m t l. l)) (settle κ w ω δ _ _ _ _ ss φ h (base_lay κ w ω δ Q μ ol oh (StoreHead i) ss φ h tt B))
+    quiet_settle κ w ω δ Q μ ol oh (StoreHead i) ss φ h (quiet_move κ (view ω Q μ ol oh) (StoreHead i) ss _ (λ p. p) (λ m t l. l)) (settle κ w ω δ (laid (StoreHead i ∷ []) Q) (words_of ω Q.arrays (StoreHead i) μ) (lo_of (StoreHead i) ol) (hi_of κ (StoreHead i) ol oh) ss φ h (base_lay κ w ω δ Q μ ol oh (StoreHead i) ss φ h tt B))
 settle κ w ω δ Q μ ol oh (StoreTail i ∷ ss) φ h B =
     let L = base_lay_put κ w ω δ Q μ ol oh (StoreTail i) ss φ h tt B in
-    put_settle κ w ω δ Q μ ol oh (StoreTail i) ss φ h L.1 (put_move κ _ (StoreTail i) ss _ (λ m t l. l)) (settle κ w ω δ _ _ _ _ ss φ _ L.0)
+    put_settle κ w ω δ Q μ ol oh (StoreTail i) ss φ h L.1 (put_move κ (view ω Q μ ol oh) (StoreTail i) ss _ (λ m t l. l)) (settle κ w ω δ (laid (StoreTail i ∷ []) Q) (words_of ω Q.arrays (StoreTail i) μ) (lo_of (StoreTail i) ol) (hi_of κ (StoreTail i) ol oh) ss φ _ L.0)

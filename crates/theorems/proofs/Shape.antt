@@ -22,7 +22,6 @@ use Rattle.model.specs.Tests.{if◌then◌else◌}
 use Rattle.model.specs.Memory.{size_at}
 use Rattle.model.specs.Lines.{size}
 use Rattle.model.specs.World.{is_expanding}
-use Rattle.model.specs.Figures.{anchor}
 use Rattle.theorems.proofs.Folds.{places_of, places}
 use Rattle.theorems.proofs.Directory.{Arrays}
 

@@ -23,7 +23,7 @@ use Rattle.theorems.proofs.Shape.{tail, Bounded, tail_of, low_of, tails, lows, P
 pub path_join : (κ : Kind) (w ω : ℕ) (l : List Region) (c low p τ : ℕ) (ss rr : List Store) → Path κ w ω l c low p τ ss
     → Path κ w ω l c (lows ss low) (places ss p) (tails ss τ) rr → Path κ w ω l c low p τ (ss ++ rr)
 path_join κ w ω l c low p τ [] rr P R = R
-path_join κ w ω l c low p τ (s ∷ ss) rr (f, P) R = (f, path_join κ w ω l c _ _ _ ss rr P R)
+path_join κ w ω l c low p τ (s ∷ ss) rr (f, P) R = (f, path_join κ w ω l c (low_of s low) (places_of s p) (tail_of s τ) ss rr P R)
 
 pub lows_join : (ss rr : List Store) (x : ℕ) → lows (ss ++ rr) x ≡ lows rr (lows ss x)
 lows_join [] rr x = refl
@@ -141,7 +141,7 @@ shape_lay Deque (StoreTail i) S = absurd S.path.0
 pub shape_settle : (κ : Kind) {w ω used low : ℕ} {q : Queue} {m : List ℕ} {o : Line} {φ : ℕ → Line} (ss : List Store) → Shape κ w ω used low q m ss o φ
     → Shape κ w ω used (lows ss low) (laid ss q) (words ω q.arrays ss m) [] o φ
 shape_settle κ [] S = S
-shape_settle κ (s ∷ ss) S = shape_settle κ ss (shape_lay κ s S)
+shape_settle κ {ω = ω} {low = low} {q = q} {m = m} (s ∷ ss) S = shape_settle κ {ω = ω} {low = low_of s low} {q = laid (s ∷ []) q} {m = words_of ω q.arrays s m} ss (shape_lay κ s S)
 
 -- FIFO's tail, read off the anchor
 pub tails_is : (κ : Kind) (w ω : ℕ) (l : List Region) (c low p : ℕ) (ss : List Store) (a : Anchor) → Path κ w ω l c low p (tail κ a) ss → tails ss (tail κ a) ≡ tail κ (anchor_after ss a)

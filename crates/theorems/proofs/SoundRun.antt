@@ -226,7 +226,7 @@ since_zero k h drained n z = z
 since_read : (ρ : Room) (κ : Kind) (w ω : ℕ) (δ : Bool) (y : ℕ) (q : Queue) (m : List ℕ) (i k : ℕ) (h : History) → k ≡ i → (l : Line) → l ≡ StealRead
     → puts_since k (event_of ω δ y (step i) l (line_step ρ κ w ω q m i l).answer ∷ h) ≡ 0
 unfolding line_step
-since_read ρ κ w ω δ y q m i k h e l r = rw (r, e) (since_now i h)
+since_read ρ κ w ω δ y q m i k h e l r = rw r (subst (λ (x : ℕ). puts_since x (line_1 i ∷ h) ≡ 0) (sym e) (since_now i h))
 
 -- a step whose stores that are put down are no put's
 put_none : (κ : Kind) (w : ℕ) (r : Anchor) → NonePut (put_store κ w r ∷ []) → ⊥
@@ -444,7 +444,7 @@ call_within ρ W (drop_link i) = drop_by (λ (D : Outcome). Within D.world.bench
 call_within ρ W (ask i) = ask_by (λ (D : Outcome). Within D.world.bench.used (event_in W (ask i) D.answer)) W (λ r q. tt) ρ i (λ n A. tt)
 call_within ρ W (drop_ask i) = drop_ask_by (λ (D : Outcome). Within D.world.bench.used (event_in W (drop_ask i) D.answer)) W (λ r q. tt) ρ i (λ n A. tt)
 call_within ρ W drain =
-    drain_by (λ (D : Outcome). Within D.world.bench.used (event_in W drain D.answer)) W (λ r q. tt) ρ (λ some. drain_within W.bench.used _ _ _ _ (oldest W.bench.waiting) false)
+    drain_by (λ (D : Outcome). Within D.world.bench.used (event_in W drain D.answer)) W (λ r q. tt) ρ (λ some. drain_within W.bench.used _ _ W.bench.queue _ (oldest W.bench.waiting) false)
 
 used_next : (ρ : Room) (W : World) (c : Call) (h : History) → Used W h → Used (call_in ρ W c).world (event_in W c (call_in ρ W c).answer ∷ h)
 used_next ρ W c h U u d = go (Memᴰ.cases_cons d)

@@ -255,7 +255,7 @@ steal_compare κ w ω δ y Q μ ol oh ss φ h k r e t false q I ok some L f = (t
 
 -- what a thief has read, after a step that goes on
 soon : (κ : Kind) (w : ℕ) (v : View) (g : ℕ) (h : History) (k : ℕ) (θ : Line) → ThiefOk κ w v g h k θ → ThiefOk κ w v g (quiet ∷ h) k θ
-soon κ w v g h k θ o = thief_holds (move_calm quiet tt (frame_same v v.own_lo v.own_hi (omega arith)) (grow_same κ v v refl) (omega arith)) θ o
+soon κ w v g h k θ o = thief_holds {w = w} {g = g} {h = h} (move_calm quiet tt (frame_same v v.own_lo v.own_hi (omega arith)) (grow_same κ v v refl) (omega arith)) θ o
 
 -- the test for EMPTY
 steal_test : (κ : Kind) (w ω : ℕ) (δ : Bool) (y : ℕ) (Q : Queue) (μ : List ℕ) (ol oh : ℕ) (ss : List Store) (φ : ℕ → Line) (h : History) (k : ℕ) (r : Anchor) (x : Bool) → is_empty κ r ≡ x

@@ -167,7 +167,7 @@ says_in W (step i) a = says W.bench.words W.bench.delayed W.bench.waiting.count 
 says_in W (drop_link i) a = says W.bench.words W.bench.delayed W.bench.waiting.count (drop_link i) _ a
 says_in W (ask i) a = says W.bench.words W.bench.delayed W.bench.waiting.count (ask i) _ a
 says_in W (drop_ask i) a = says W.bench.words W.bench.delayed W.bench.waiting.count (drop_ask i) _ a
-says_in W drain a = says_drain W.bench.words W.bench.delayed W.bench.waiting.count _ a _ _ _ (oldest W.bench.waiting) (is_refused a)
+says_in W drain a = says_drain W.bench.words W.bench.delayed W.bench.waiting.count _ a _ W.bench.queue _ (oldest W.bench.waiting) (is_refused a)
 
 pub told : (s : Played) (e : Event) → event_at s ≡ e → SaysAt s e
 told s e q = subst (SaysAt s) q (says_in s.before s.call s.answer)
@@ -409,12 +409,12 @@ done_drain κ ω q m (StoreHead i) false = refl
 done_drain κ ω q m (StoreTail i) false = refl
 
 done_in : (W : World) (c : Call) (a : Answer) → finishes_put (event_in W c a) ≡ arrives_as W c a
-done_in W (begin i op) a = done_is W.bench.words W.bench.delayed W.bench.waiting.count (begin i op) _ a
+done_in W (begin i op) a = done_is W.bench.words W.bench.delayed W.bench.waiting.count (begin i op) (line_at W.bench.workers i) a
 done_in W (step i) a = done_is W.bench.words W.bench.delayed W.bench.waiting.count (step i) _ a
-done_in W (drop_link i) a = done_is W.bench.words W.bench.delayed W.bench.waiting.count (drop_link i) _ a
-done_in W (ask i) a = done_is W.bench.words W.bench.delayed W.bench.waiting.count (ask i) _ a
-done_in W (drop_ask i) a = done_is W.bench.words W.bench.delayed W.bench.waiting.count (drop_ask i) _ a
-done_in W drain a = done_drain _ _ _ _ (oldest W.bench.waiting) (is_refused a)
+done_in W (drop_link i) a = done_is W.bench.words W.bench.delayed W.bench.waiting.count (drop_link i) (line_at W.bench.workers i) a
+done_in W (ask i) a = done_is W.bench.words W.bench.delayed W.bench.waiting.count (ask i) (line_at W.bench.workers i) a
+done_in W (drop_ask i) a = done_is W.bench.words W.bench.delayed W.bench.waiting.count (drop_ask i) (line_at W.bench.workers i) a
+done_in W drain a = done_drain _ _ W.bench.queue _ (oldest W.bench.waiting) (is_refused a)
 
 puts_is : (T : List Played) → finished_puts (events T) ≡ puts T
 puts_is [] = refl
@@ -481,12 +481,12 @@ drain_one κ ω q m (StoreHead i) false = refl
 drain_one κ ω q m (StoreTail i) false = refl
 
 drain_in_lem : (W : World) (c : Call) (a : Answer) → W.bench.delayed ≡ true → drain_of_lem (event_in W c a) ≡ drains_as c a
-drain_in_lem W (begin i op) a e = ap (λ (δ : Bool). drain_of_lem (event_of W.bench.words δ W.bench.waiting.count (begin i op) (line_at W.bench.workers i) a)) e ∙ still_is _ _ (begin i op) _ a
-drain_in_lem W (step i) a e = ap (λ (δ : Bool). drain_of_lem (event_of W.bench.words δ W.bench.waiting.count (step i) (line_at W.bench.workers i) a)) e ∙ still_is _ _ (step i) _ a
-drain_in_lem W (drop_link i) a e = ap (λ (δ : Bool). drain_of_lem (event_of W.bench.words δ W.bench.waiting.count (drop_link i) (line_at W.bench.workers i) a)) e ∙ still_is _ _ (drop_link i) _ a
-drain_in_lem W (ask i) a e = ap (λ (δ : Bool). drain_of_lem (event_of W.bench.words δ W.bench.waiting.count (ask i) (line_at W.bench.workers i) a)) e ∙ still_is _ _ (ask i) _ a
-drain_in_lem W (drop_ask i) a e = ap (λ (δ : Bool). drain_of_lem (event_of W.bench.words δ W.bench.waiting.count (drop_ask i) (line_at W.bench.workers i) a)) e ∙ still_is _ _ (drop_ask i) _ a
-drain_in_lem W drain a e = drain_one _ _ _ _ (oldest W.bench.waiting) (is_refused a)
+drain_in_lem W (begin i op) a e = ap (λ (δ : Bool). drain_of_lem (event_of W.bench.words δ W.bench.waiting.count (begin i op) (line_at W.bench.workers i) a)) e ∙ still_is _ _ (begin i op) (line_at W.bench.workers i) a
+drain_in_lem W (step i) a e = ap (λ (δ : Bool). drain_of_lem (event_of W.bench.words δ W.bench.waiting.count (step i) (line_at W.bench.workers i) a)) e ∙ still_is W.bench.words _ (step i) _ a
+drain_in_lem W (drop_link i) a e = ap (λ (δ : Bool). drain_of_lem (event_of W.bench.words δ W.bench.waiting.count (drop_link i) (line_at W.bench.workers i) a)) e ∙ still_is W.bench.words _ (drop_link i) (line_at W.bench.workers i) a
+drain_in_lem W (ask i) a e = ap (λ (δ : Bool). drain_of_lem (event_of W.bench.words δ W.bench.waiting.count (ask i) (line_at W.bench.workers i) a)) e ∙ still_is W.bench.words _ (ask i) (line_at W.bench.workers i) a
+drain_in_lem W (drop_ask i) a e = ap (λ (δ : Bool). drain_of_lem (event_of W.bench.words δ W.bench.waiting.count (drop_ask i) (line_at W.bench.workers i) a)) e ∙ still_is W.bench.words _ (drop_ask i) (line_at W.bench.workers i) a
+drain_in_lem W drain a e = drain_one _ _ W.bench.queue _ (oldest W.bench.waiting) (is_refused a)
 
 -- all calls of the list have delayed stores
 abbrev pub Delayed : List Played → Type 0

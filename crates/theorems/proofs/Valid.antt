@@ -32,7 +32,6 @@ use Rattle.model.specs.Stores.{Shared, in_line, taken, words_taken}
 use Rattle.model.specs.World.{World, tag_bits, line_at, is_idle, owners_view}
 use Rattle.model.specs.Limits.{kind_ok, link_ok, links_ok, task_ok, number_ok, anchor_ok, read_ok, head_ok, room_ok, some_ok, noted_ok, slot_ok, is_deque, next_ok, owner_ok, thief_ok, thieves_ok, has_anchor, stores_ok, bench_ok, valid_of, growth_ok, log_ok}
 use Rattle.theorems.proofs.Folds.{places, laid, words, landed_is}
-use Rattle.model.specs.Figures.{anchor}
 use Rattle.theorems.proofs.Directory.{Arrays, tidy_below}
 use Rattle.theorems.proofs.Asides.{Aside, ok_aside}
 use Rattle.theorems.proofs.Shape.{open_for, KnownFor, tail, Bounded, Head, OwnRead, Some, Span, Early, ThiefRead, Slot, Double, After, Known, pending, Spent, OwnShape, ThiefShape, tails, lows, FitAnchor, FitHead, FitTail, Path, Shape, Spare}

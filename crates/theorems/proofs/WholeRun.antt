@@ -363,7 +363,9 @@ module _ (ρ : Room) {W : World} (H : Whole W) where
       here = linked_now ρ W.bench.kind (tag_bits W.bench) W.bench.words W.bench.queue W.store (suc k) H.low _ (line_at W.bench.workers (suc k)) H.kinds (inr (H.shape.th k)) (H.links (suc k))
 
       go : Now (queue_then ρ W (suc k) E)
-      go = rw (thief_calm k, (thief_lands k).1) here
+      go =
+          subst (λ (x : Bool). Now (laid (landing W.bench.delayed (suc k) E.stores) (queue_after ρ x W.bench.queue))) (sym (thief_calm k))
+          (subst (λ (ss : List Store). Now (laid ss W.bench.queue)) (sym (thief_lands k).1) here)
 
   stepped_links : Admits ρ W.bench W.store → (i : ℕ) → i < W.bench.crew → LinksOk W.bench.kind (step_to ρ W i).world.bench.queue (step_to ρ W i).world.bench.workers
   stepped_links R i l k h = go (held_set (queue_then ρ W i (effect_of ρ W i)).links i k _ h)

@@ -1,21 +1,25 @@
 // What the exercises share: states to try, the calls that try them, and what is printed. A state is one that an accepted fresh
 // makes, or such a one with something replaced. Each try has memory of its own: a store of 30 words and a log of 8.
-// Uses `queues` and `model`, of the kit `io` and `libc`. It is used by `exercise` and `exercise_stores`.
+// Uses `queues` and `model`. It is used by `exercise` and `exercise_stores`.
 
 #![tactic(auto)]
 
 ghost use Rattle.std.specs.Prelude.{◌<◌};
 
-use libc::STDOUT_FILENO;
 use model::{Anchor, Answer, Growth, Line, Operation, Payload, Region, Setup, Tally, Task, Worker};
 use queues::{Bench, Reply};
+use std::io::{Print, Stdout};
 
-pub fn text(bytes: &[u8]) {
-    io::write_all(STDOUT_FILENO, bytes);
+pub fn text(out: Stdout, bytes: &[u8]) {
+    let _written = out.write_all(bytes);
 }
 
-pub fn number(n: u32) {
-    io::print_decimal(STDOUT_FILENO, n as u64);
+pub fn count(out: Stdout, n: u64) {
+    let _written = print!(out; "{n}");
+}
+
+pub fn number(out: Stdout, n: u32) {
+    count(out, n as u64);
 }
 
 // What an answer says, in numbers: 0 accepted, 1 to 5 the kind of its log entry, 6 goes on, 7 refused, 8 accepted with a put
@@ -44,50 +48,50 @@ fn said_by(answer: Answer) -> Said {
     }
 }
 
-fn said_text(said: Said) {
+fn said_text(out: Stdout, said: Said) {
     let kind = said.kind;
     match kind {
-        1 => text(b"finished put "),
-        2 => text(b"handed out put "),
-        3 => text(b"EMPTY"),
-        4 => text(b"FULL for put "),
-        5 => text(b"grown"),
-        6 => text(b"goes on"),
-        7 => text(b"refused "),
-        8 => text(b"accepted as put "),
-        _ => text(b"accepted"),
+        1 => text(out, b"finished put "),
+        2 => text(out, b"handed out put "),
+        3 => text(out, b"EMPTY"),
+        4 => text(out, b"FULL for put "),
+        5 => text(out, b"grown"),
+        6 => text(out, b"goes on"),
+        7 => text(out, b"refused "),
+        8 => text(out, b"accepted as put "),
+        _ => text(out, b"accepted"),
     }
     if 0 < said.number {
-        number(said.number);
+        number(out, said.number);
     }
 }
 
-pub fn say(answer: Answer) {
-    said_text(said_by(answer));
+pub fn say(out: Stdout, answer: Answer) {
+    said_text(out, said_by(answer));
 }
 
-pub fn say_of(call: &[u8], reply: Reply) {
+pub fn say_of(out: Stdout, call: &[u8], reply: Reply) {
     let answer = reply.answer;
-    text(call);
-    say(answer);
+    text(out, call);
+    say(out, answer);
 }
 
-pub fn say_tally(tally: Tally) {
+pub fn say_tally(out: Stdout, tally: Tally) {
     match tally {
-        Tally::Counted { restarts } => number(restarts),
+        Tally::Counted { restarts } => number(out, restarts),
         Tally::Refused { why } => {
-            text(b"refused ");
-            number(queues::number_of(why));
+            text(out, b"refused ");
+            number(out, queues::number_of(why));
         }
     }
 }
 
 // A line of output.
-pub fn report(tried: &[u8], answer: Answer) {
-    text(tried);
-    text(b": ");
-    say(answer);
-    text(b"\n");
+pub fn report(out: Stdout, tried: &[u8], answer: Answer) {
+    text(out, tried);
+    text(out, b": ");
+    say(out, answer);
+    text(out, b"\n");
 }
 
 pub fn begun_on(state: model::Bench, worker: u32, operation: Operation, store: &[u32]) -> Answer {
@@ -111,9 +115,9 @@ pub fn stepped(state: model::Bench, worker: u32) -> Answer {
 }
 
 // The owner takes: a state within the limits is refused for no other reason than a busy owner, 7.
-pub fn try_state(tried: &[u8], state: model::Bench) {
+pub fn try_state(out: Stdout, tried: &[u8], state: model::Bench) {
     let answer = begun(state, 0, Operation::Take);
-    report(tried, answer);
+    report(out, tried, answer);
 }
 
 // The state that an accepted fresh makes: 2 slots, tags of 4 bits, a crew of 3.
@@ -184,8 +188,12 @@ pub fn with_anchor(state: model::Bench, anchor: Anchor) -> model::Bench {
     next
 }
 
-pub fn try_anchor(tried: &[u8], kind: u32, head: u32, count: u32, tag: u32) {
-    try_state(tried, with_anchor(base(kind), anchor(head, count, tag)));
+pub fn try_anchor(out: Stdout, tried: &[u8], kind: u32, head: u32, count: u32, tag: u32) {
+    try_state(
+        out,
+        tried,
+        with_anchor(base(kind), anchor(head, count, tag)),
+    );
 }
 
 // A pair of the directory, and how many are published and claimed. The size that is kept is the first array's.

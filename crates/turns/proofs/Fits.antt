@@ -1,8 +1,8 @@
 -- How many operations each worker has open or left, kept through a step: one that ends its operation takes one off.
 use mathlib.Core.Path.{◌≡◌, refl, sym, ◌∙◌, ap, subst}
-use mathlib.Core.Bool.{Bool, true, false, not, true≢false}
+use mathlib.Core.Bool.{Bool, true, false, not}
 use mathlib.Core.List.{List, [], ◌∷◌}
-use Prim.Native.Nat.{ℕ, zero, suc, ◌+◌, ◌-◌, ◌≤◌, ◌<◌}
+use Prim.Native.Nat.{ℕ, suc, ◌+◌, ◌-◌, ◌<◌}
 use native.Mathlib.Omega.{arith}
 use lib.Dec.{eqb, ltb}
 use lib.ListN.{length, set, get_or}
@@ -12,9 +12,8 @@ use Rattle.model.specs.declared.Worker.{Worker}
 use Rattle.model.specs.declared.Line.{Line}
 use Rattle.model.specs.declared.Operation.{Operation}
 use Rattle.model.specs.Tests.{if◌then◌else◌, ◌or◌}
-use Rattle.model.specs.World.{World, resting, line_at, is_idle}
-use Rattle.model.specs.Calls.{first_line}
-use Rattle.orders.specs.Orders.{Play, left_of, has_some, may_step}
+use Rattle.model.specs.World.{resting, line_at, is_idle}
+use Rattle.orders.specs.Orders.{Play, left_of, has_some}
 use Rattle.orders.proofs.Spends.{busy, busy_is, idle_is}
 use Rattle.orders.proofs.NoneRefused.{other_line}
 use Rattle.turns.proofs.Ties.{Counts}

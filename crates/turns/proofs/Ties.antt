@@ -1,16 +1,15 @@
 -- What the two functions answer, said of a play: the lowest worker that may step, and the steps given for the next order.
 use mathlib.Core.Path.{◌≡◌, refl, sym, ◌∙◌, ap}
-use mathlib.Core.Bool.{Bool, true, false}
 use mathlib.Core.List.{List, [], ◌∷◌}
 use Prim.Native.Nat.{ℕ, zero, suc, ◌+◌, ◌-◌, ◌≤◌, ◌<◌}
 use native.Mathlib.Omega.{arith}
-use lib.Dec.{eqb, ltb}
+use lib.Dec.{ltb}
 use lib.ListN.{length, take, set, get_or}
-use lib.Seq.{take-set-lt, take-take, length-take-le, get_or-take}
+use lib.Seq.{take-set-lt, take-take, length-take-le}
 use Rattle.model.specs.Tests.{if◌then◌else◌}
-use Rattle.orders.specs.Orders.{Play, Order, may_step, after_order, everyone}
+use Rattle.orders.specs.Orders.{Play, may_step, everyone}
 use Rattle.orders.specs.Next.{lowest, above, next_of}
-use Rattle.orders.proofs.Turning.{given_by, Higher, LastOf, HigherAt, next_by}
+use Rattle.orders.proofs.Turning.{given_by, Higher, HigherAt, next_by}
 use Rattle.turns.specs.Turns.{from, first_busy, Turned}
 
 -- what each worker has open or left

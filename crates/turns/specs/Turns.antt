@@ -1,5 +1,5 @@
 -- Choosing the next worker, and the next order, on numbers: how many operations each worker has open or left.
-use Rattle.std.specs.Prelude.{◌≡◌, List, [], ◌∷◌, ℕ, zero, suc, ◌+◌, ◌-◌, ◌≤◌, ◌<◌, ltb, get_or, set}
+use Rattle.std.specs.Prelude.{◌≡◌, List, [], ◌∷◌, ℕ, zero, suc, ◌-◌, ◌≤◌, ◌<◌, ltb, get_or, set}
 use Rattle.model.specs.Tests.{if◌then◌else◌}
 
 -- the workers from m on, n of them; those up to 7

@@ -1,9 +1,9 @@
 -- Arrays that lie apart, end within the first N words and take N words cover them: counted word by word and array by array.
 use mathlib.Core.Path.{◌≡◌, refl, sym, ◌∙◌, ap, subst}
-use mathlib.Core.Bool.{Bool, true, false}
+use mathlib.Core.Bool.{Bool, true}
 use mathlib.Core.Logic.{◌≢◌, ◌⊎◌, inl, inr}
 use mathlib.Core.List.{List}
-use Prim.Native.Nat.{ℕ, zero, suc, ◌+◌, ◌-◌, ◌*◌, ◌≤◌, ◌<◌}
+use Prim.Native.Nat.{ℕ, zero, suc, ◌+◌, ◌-◌, ◌≤◌, ◌<◌}
 use native.Mathlib.Omega.{arith}
 use lib.Dec.{leb}
 use lib.ListN.{get_or}
@@ -12,10 +12,9 @@ use Rattle.model.specs.declared.Queue.{Queue}
 use Rattle.model.specs.declared.Region.{Region}
 use Rattle.model.specs.declared.Bench.{Bench}
 use Rattle.model.specs.declared.Yard.{Yard}
-use Rattle.model.specs.Tests.{◌and◌, ◌or◌}
 use Rattle.model.proofs.Tests.{and_left, and_right, or_cases}
-use Rattle.model.specs.Memory.{offset_at, size_at, end_at, words_to}
-use Rattle.model.specs.Stores.{taken, words_taken}
+use Rattle.model.specs.Memory.{offset_at, end_at, words_to}
+use Rattle.model.specs.Stores.{taken}
 use Rattle.model.specs.Limits.{tidy}
 use Rattle.model.specs.World.{line_at}
 use Rattle.model.specs.Calls.{no_bench}

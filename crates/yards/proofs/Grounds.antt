@@ -3,31 +3,29 @@ use mathlib.Core.Path.{◌≡◌, refl, sym, ◌∙◌, ap, subst}
 use mathlib.Core.Bool.{Bool, true, false, true≢false}
 use mathlib.Core.Logic.{◌≢◌, ◌⊎◌, inl, inr}
 use mathlib.Core.List.{List, [], ◌∷◌}
-use Prim.Native.Nat.{ℕ, zero, suc, ◌+◌, ◌-◌, ◌*◌, ◌≤◌, ◌<◌}
+use Prim.Native.Nat.{ℕ, zero, suc, ◌+◌, ◌-◌, ◌≤◌, ◌<◌}
 use native.Mathlib.Omega.{arith}
 use lib.Dec.{ltb, leb}
-use lib.ListN.{length, get_or, set, replicate, length-set}
+use lib.ListN.{length, get_or, set, length-set}
 use lib.Seq.{get_or-set_other, get_or-set_same}
 use borrow.Author.Tests.{leb-true, le-leb, ltb-true, lt-ltb}
-use Rattle.model.specs.declared.Kind.{Kind}
 use Rattle.model.specs.declared.Queue.{Queue}
 use Rattle.model.specs.declared.Region.{Region}
 use Rattle.model.specs.declared.Bench.{Bench}
-use Rattle.model.specs.declared.Yard.{Yard}
 use Rattle.model.specs.declared.Room.{Room}
 use Rattle.model.specs.declared.Setup.{Setup}
 use Rattle.model.specs.declared.Refusal.{Refusal}
 use Rattle.model.specs.declared.Refusal.TheVariants.{UnknownQueue, TagWidth, ArraySize, Crew, PayloadWords, ShortStore, ShortQuota, NoSuchQueue}
 use Rattle.model.specs.declared.Answer.TheVariants.{Accepted}
 use Rattle.model.specs.Answers.{number_of}
-use Rattle.model.specs.Tests.{least, if◌then◌else◌, ◌and◌, ◌or◌}
+use Rattle.model.specs.Tests.{least, if◌then◌else◌, ◌and◌}
 use Rattle.model.proofs.Tests.{and_both, or_either, if_true}
 use Rattle.model.specs.Memory.{zeros, offset_at, length_at, size_at, end_at, words_to, usable}
-use Rattle.model.specs.Stores.{Shared, taken, words_taken, room_in, next_length, claiming, in_line}
-use Rattle.model.specs.Limits.{is_size, width_ok, crew_ok, words_ok, bench_ok, log_ok}
+use Rattle.model.specs.Stores.{Shared, taken, words_taken, next_length, claiming, in_line}
+use Rattle.model.specs.Limits.{is_size, width_ok, crew_ok, words_ok, bench_ok}
 use Rattle.model.specs.World.{World, Outcome, owners_view}
 use Rattle.model.specs.Calls.{no_bench, lent, new_bench, first_length, admitted, Call, call_in}
-use Rattle.model.specs.Yard.{Ground, bench_at, queue_at, quota_at, log_at, world_of, total_of, claimed_by, held_by, claimed_words, aside_words, room_of, words_left, all_below, no_overlap, place_ok, sound_yard, sound_for, Yields, refuse_all, leaves, on_of, making, make_of, YardCall, make, on, yields, ground_after}
+use Rattle.model.specs.Yard.{Ground, bench_at, queue_at, quota_at, world_of, total_of, claimed_by, held_by, claimed_words, aside_words, room_of, words_left, all_below, no_overlap, place_ok, sound_yard, sound_for, Yields, refuse_all, leaves, on_of, making, make_of, YardCall, make, on, yields, ground_after}
 use Rattle.theorems.proofs.Remainders.{le_or_lt}
 use Rattle.theorems.proofs.Directory.{both, Arrays, Admits, Others, end}
 use Rattle.theorems.proofs.Valid.{Whole, own_valid, log_valid}
@@ -38,7 +36,7 @@ use Rattle.model.proofs.Alone.{least_left, least_right, at_most_usable}
 use Rattle.theorems.proofs.Alone.{added}
 use Rattle.theorems.proofs.Fresh.{Admitted, start_of, Started, started}
 use Rattle.yards.specs.Yards.{Apart, opened}
-use Rattle.yards.proofs.Writes.{Outside, Untouched, zeroed, Changes, call_changes, apart_others}
+use Rattle.yards.proofs.Writes.{Untouched, zeroed, Changes, call_changes, apart_others}
 
 pub record Tended (G : Ground) : Type 0 where
   pub made : G.yard.made ≤ 4

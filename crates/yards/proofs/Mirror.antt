@@ -1,14 +1,12 @@
 -- The same queue at other places of another store: a line does the same, since its stores name a word by the array's place in the
 -- directory, the slot and the word.
-use mathlib.Core.Path.{◌≡◌, refl, sym, ◌∙◌, ap, subst}
-use mathlib.Core.Bool.{Bool, true, false}
-use mathlib.Core.Logic.{◌≢◌, ◌⊎◌, inl, inr}
+use mathlib.Core.Path.{◌≡◌, refl, ◌∙◌, ap}
+use mathlib.Core.Bool.{Bool, true}
 use mathlib.Core.List.{List, [], ◌∷◌, ◌++◌}
 use Prim.Native.Nat.{ℕ, zero, suc, ◌+◌, ◌-◌, ◌*◌, ◌/◌, ◌≤◌, ◌<◌}
 use native.Mathlib.Omega.{arith}
-use lib.Dec.{eqb, leb}
-use lib.ListN.{length, get_or, set, length-set}
-use lib.Seq.{get_or-set_other, get_or-set_same}
+use lib.Dec.{leb}
+use lib.ListN.{length}
 use Rattle.model.specs.declared.Kind.{Kind}
 use Rattle.model.specs.declared.Kind.TheVariants.{Lifo, Fifo, Deque}
 use Rattle.model.specs.declared.Line.{Line}
@@ -18,20 +16,16 @@ use Rattle.model.specs.declared.Room.{Room}
 use Rattle.model.specs.declared.Growth.{Growth}
 use Rattle.model.specs.declared.Growth.TheVariants.{ForPut, ForCommit}
 use Rattle.model.specs.declared.Region.{Region}
-use Rattle.model.specs.declared.Anchor.{Anchor}
 use Rattle.model.specs.declared.Store.{Store}
-use Rattle.model.specs.declared.Store.TheVariants.{StoreWord, StoreNote, StorePut, StoreOut, StoreHead, StoreTail}
-use Rattle.model.specs.declared.Task.{Task}
+use Rattle.model.specs.declared.Store.TheVariants.{StoreWord}
 use Rattle.model.specs.declared.Answer.TheVariants.{GoesOn, Full}
 use Rattle.model.specs.Tests.{if◌then◌else◌, ◌and◌}
 use Rattle.model.specs.Tasks.{with_word, word_in}
 use Rattle.model.specs.Memory.{word_at, offset_at, length_at, size_at}
 use Rattle.model.specs.Figures.{slot, put_index, take_index, steal_index, is_full, note}
 use Rattle.model.specs.Stores.{next_length}
-use Rattle.model.specs.Lines.{Effect, eff, goes, fits, task_for, grows, size, word_of, write_word, put_on, take_on, steal_on, copy_words, copy_on, line_step}
+use Rattle.model.specs.Lines.{eff, goes, fits, task_for, grows, size, word_of, write_word, put_on, take_on, steal_on, copy_words, copy_on, line_step}
 use Rattle.model.proofs.Directory.{size_pos}
-use Rattle.theorems.proofs.Folds.{laid, words}
-use Rattle.theorems.proofs.Words.{earlier_slot}
 use Rattle.theorems.proofs.Directory.{Arrays, now, tidy_proper}
 use Rattle.theorems.proofs.Shape.{tail, Span, InArray, ThiefShape, Shape}
 use Rattle.theorems.proofs.ShapeOwner.{slot_in, take_slot}

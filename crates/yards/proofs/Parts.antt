@@ -1,26 +1,21 @@
 -- A queue's part in a yard's list is a list in company: what the other queues' calls and the makings write lies outside its arrays.
-use mathlib.Core.Path.{◌≡◌, refl, sym, ◌∙◌, ap, subst}
-use mathlib.Core.Bool.{Bool, true, false, true≢false}
+use mathlib.Core.Path.{◌≡◌, refl, sym, subst}
 use mathlib.Core.Logic.{◌≢◌, ◌⊎◌, inl, inr}
 use mathlib.Core.List.{List, [], ◌∷◌}
-use Prim.Native.Nat.{ℕ, ◌+◌, ◌*◌, ◌≤◌, ◌<◌}
+use Prim.Native.Nat.{ℕ, ◌<◌}
 use native.Mathlib.Omega.{arith}
 use lib.Dec.{eqb}
-use lib.ListN.{length, set}
 use borrow.Author.Tests.{eq-eqb, ne_eqb}
 use Rattle.model.specs.declared.Room.{Room}
 use Rattle.model.specs.declared.Setup.{Setup}
 use Rattle.model.specs.declared.Refusal.{Refusal}
-use Rattle.model.specs.declared.Refusal.TheVariants.{ForeignState}
-use Rattle.model.specs.declared.Answer.{Answer}
 use Rattle.model.specs.declared.Answer.TheVariants.{Accepted, Refused}
-use Rattle.model.specs.Tests.{if◌then◌else◌, ◌or◌}
+use Rattle.model.specs.Tests.{if◌then◌else◌}
 use Rattle.model.proofs.Tests.{if_true, if_false}
-use Rattle.model.specs.Answers.{number_of}
-use Rattle.model.specs.World.{World, Outcome}
+use Rattle.model.specs.World.{World}
 use Rattle.model.specs.Calls.{Call}
 use Rattle.model.specs.Run.{Played}
-use Rattle.model.specs.Yard.{Ground, queue_at, world_of, claimed_words, room_of, Yields, refuse_all, leaves, on_of, making, make_of, YardCall, make, on, yields, ground_after, part_in, part}
+use Rattle.model.specs.Yard.{Ground, queue_at, world_of, claimed_words, room_of, Yields, on_of, make_of, YardCall, make, on, yields, ground_after, part}
 use Rattle.theorems.proofs.Directory.{Others}
 use Rattle.theorems.proofs.WholeRun.{storing}
 use Rattle.theorems.proofs.Company.{Any, Turn, played_in, after_in, InCompany, Accompanied, nobody, passing, calling, of_company}

@@ -1,8 +1,8 @@
 -- A call of a queue and the same call of the queue alone, its arrays elsewhere: the same answer, and again the same queue elsewhere.
 use mathlib.Core.Path.{◌≡◌, refl, sym, ◌∙◌, ap, subst}
-use mathlib.Core.Bool.{Bool, true, false, true≢false}
+use mathlib.Core.Bool.{Bool, true, false}
 use mathlib.Core.List.{List, [], ◌∷◌}
-use Prim.Native.Nat.{ℕ, zero, suc, ◌+◌, ◌-◌, ◌*◌, ◌≤◌, ◌<◌}
+use Prim.Native.Nat.{ℕ, zero, suc, ◌-◌, ◌*◌, ◌≤◌, ◌<◌}
 use native.Mathlib.Omega.{arith}
 use lib.Dec.{eqb, ltb}
 use lib.ListN.{length, set}
@@ -39,23 +39,23 @@ use Rattle.model.specs.declared.Room.{Room}
 use Rattle.model.specs.declared.Store.{Store}
 use Rattle.model.specs.declared.Operation.{Operation}
 use Rattle.model.specs.declared.Refusal.{Refusal}
-use Rattle.model.specs.declared.Refusal.TheVariants.{NoSuchWorker, BusyWorker, IdleWorker, WrongHand, NumbersSpent, LogFull, NoLink, WaitingFull, NoneWaiting, NoSpace, AskStands, NoAsk}
+use Rattle.model.specs.declared.Refusal.TheVariants.{NoSuchWorker, BusyWorker, WrongHand, NumbersSpent, NoSpace, AskStands, NoAsk}
 use Rattle.model.specs.declared.Answer.TheVariants.{Accepted}
 use Rattle.model.specs.Tests.{if◌then◌else◌, unless◌then◌else◌}
 use Rattle.model.specs.Memory.{zeros, length_at, size_at}
 use Rattle.model.specs.Stores.{Shared, shared, next_length, claiming, in_line, oldest}
 use Rattle.model.specs.Lines.{Effect, fits, holds_link, fails_compare}
 use Rattle.model.specs.World.{World, Outcome, refuse, owners_view, tag_bits, line_at, is_idle}
-use Rattle.model.specs.Calls.{right_hand, numbers_left, asked, begun, begin_in, raised, landing, stepped, crowded, no_room, commit, next_effect, step_in, drop_link_in, drain_in, drained, of_idle_owner, set_aside, ask_in, drop_ask_in, Call, begin, step, drop_link, drain, ask, drop_ask, call_in}
-use Rattle.theorems.proofs.Folds.{laid, words, arrays_after, claimed_after, queue_after, store_after, landed_is}
+use Rattle.model.specs.Calls.{right_hand, numbers_left, asked, begun, begin_in, raised, landing, stepped, crowded, no_room, commit, next_effect, step_in, drop_link_in, drain_in, drained, of_idle_owner, set_aside, Call, begin, step, drop_link, drain, ask, drop_ask, call_in}
+use Rattle.theorems.proofs.Folds.{laid, words, arrays_after, queue_after, store_after, landed_is}
 use Rattle.theorems.proofs.Directory.{Arrays, Admits, end, long_at}
 use Rattle.theorems.proofs.Shape.{Path}
 use Rattle.theorems.proofs.ShapeLay.{shape_settle}
 use Rattle.theorems.proofs.Valid.{Whole}
 use Rattle.theorems.proofs.Cases.{effect_of, effect_is, queue_then, store_then, world_with, step_to, stepped_is, drain_to, drained_is, dropped}
-use Rattle.theorems.proofs.WholeRun.{thief_calm, thief_lands}
+use Rattle.theorems.proofs.WholeRun.{thief_calm}
 use Rattle.yards.proofs.Writes.{own_shape, own_path, own_left, thief_stores, oldest_path}
-use Rattle.yards.proofs.Mirror.{redirect, Like, sizes, fits_both, thief_same, own_same}
+use Rattle.yards.proofs.Mirror.{redirect, Like, fits_both, thief_same, own_same}
 use Rattle.yards.proofs.Likes.{Placed, like_stores, claim_like}
 
 -- the queue of W alone: its directory is d, its store m

@@ -2,9 +2,9 @@
 use mathlib.Core.Path.{◌≡◌, refl, sym, ◌∙◌, ap, subst}
 use mathlib.Core.Logic.{◌≢◌, ◌⊎◌, inl, inr}
 use mathlib.Core.List.{List, []}
-use Prim.Native.Nat.{ℕ, ◌+◌, ◌-◌, ◌<◌}
+use Prim.Native.Nat.{ℕ, ◌<◌}
 use native.Mathlib.Omega.{arith}
-use lib.ListN.{length, get_or, set}
+use lib.ListN.{length, set}
 use lib.Seq.{get_or-set_other, get_or-set_same, set-get_or, set-set, set_comm}
 use Rattle.model.specs.declared.Room.{Room}
 use Rattle.model.specs.declared.Bench.{Bench}
@@ -13,9 +13,8 @@ use Rattle.model.specs.Stores.{words_taken}
 use Rattle.model.specs.Lines.{Effect}
 use Rattle.model.specs.World.{World, Outcome}
 use Rattle.model.specs.Calls.{no_bench, lent, next_effect, step_in, step}
-use Rattle.model.specs.Yard.{Ground, Yields, bench_at, queue_at, quota_at, log_at, world_of, total_of, claimed_by, held_by, claimed_words, aside_words, room_of, put_back, leaves, on_of, on, yields, ground_after}
-use Rattle.swaps.specs.Swaps.{SwappedBy}
-use Rattle.swaps.proofs.WorkersOwn.{moved, moved_out, QuietAs, quiet_by, quiet_in}
+use Rattle.model.specs.Yard.{Ground, Yields, bench_at, queue_at, log_at, world_of, total_of, claimed_by, held_by, room_of, put_back, leaves, on, ground_after}
+use Rattle.swaps.proofs.WorkersOwn.{moved, QuietAs, quiet_by, quiet_in}
 use Rattle.swaps.proofs.Swaps.{swap_in}
 use Rattle.yards.specs.Yards.{opened}
 use Rattle.yards.specs.Swaps.{step_at, QuietAt, SwappedAt, SwapQuietInYards}

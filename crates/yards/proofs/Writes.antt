@@ -5,7 +5,7 @@ use mathlib.Core.Logic.{◌≢◌, ◌⊎◌, inl, inr}
 use mathlib.Core.List.{List, [], ◌∷◌, ◌++◌}
 use Prim.Native.Nat.{ℕ, zero, suc, ◌+◌, ◌-◌, ◌*◌, ◌≤◌, ◌<◌}
 use native.Mathlib.Omega.{arith}
-use lib.Dec.{eqb, leb}
+use lib.Dec.{leb}
 use lib.ListN.{length, get_or, set, take, drop, replicate, length-set, length-replicate}
 use lib.Seq.{get_or-set_other, get_or-append-add, get_or-drop, length-take-le}
 use borrow.Author.Tests.{leb-true}
@@ -19,23 +19,22 @@ use Rattle.model.specs.declared.Region.{Region}
 use Rattle.model.specs.declared.Anchor.{Anchor}
 use Rattle.model.specs.declared.Store.{Store}
 use Rattle.model.specs.declared.Store.TheVariants.{StoreWord, StoreNote, StorePut, StoreOut, StoreHead, StoreTail}
-use Rattle.model.specs.declared.Task.{Task}
 use Rattle.model.specs.Tests.{if◌then◌else◌}
 use Rattle.model.specs.Memory.{zeros, offset_at, length_at, size_at, end_at, words_to}
 use Rattle.model.specs.Figures.{is_empty, steal_store}
 use Rattle.model.specs.Stores.{words_taken, next_length, claiming, in_line, oldest}
-use Rattle.model.specs.Lines.{Effect, fits, size, succeeds, line_step}
+use Rattle.model.specs.Lines.{Effect, size, succeeds, line_step}
 use Rattle.model.specs.World.{World, Outcome, tag_bits, line_at}
-use Rattle.model.specs.Calls.{landing, set_aside, Call, call_in}
-use Rattle.theorems.proofs.Folds.{words, words_of, laid, arrays_after, claimed_after, store_after, queue_after}
+use Rattle.model.specs.Calls.{landing, Call, call_in}
+use Rattle.theorems.proofs.Folds.{words, laid, arrays_after, claimed_after, store_after, queue_after}
 use Rattle.theorems.proofs.Words.{earlier_slot, set_here, zeros_low, zeros_length}
-use Rattle.theorems.proofs.Directory.{both, Arrays, Free, Admits, Others, long_at}
-use Rattle.theorems.proofs.Shape.{tail, low_of, tail_of, Path, ThiefShape, Shape}
+use Rattle.theorems.proofs.Directory.{both, Free, Admits, Others, long_at}
+use Rattle.theorems.proofs.Shape.{tail, Path, ThiefShape, Shape}
 use Rattle.theorems.proofs.ShapeStep.{claim_only, own_shaped}
 use Rattle.theorems.proofs.Held.{line_drain}
 use Rattle.theorems.proofs.Valid.{thieves, Whole}
-use Rattle.theorems.proofs.Cases.{effect_of, queue_then, store_then, step_to, MayStep, MayAside, drain_to, call_by}
-use Rattle.theorems.proofs.WholeRun.{in_line_lem, thief_calm, thief_lands, call_whole}
+use Rattle.theorems.proofs.Cases.{effect_of, store_then, step_to, MayAside, drain_to, call_by}
+use Rattle.theorems.proofs.WholeRun.{in_line_lem, thief_calm, thief_lands}
 use Rattle.theorems.proofs.Alone.{added}
 use Rattle.yards.specs.Yards.{Apart}
 

@@ -1,12 +1,11 @@
 -- Several queues over one store: each keeps what it has alone, in lists that mix all queues' calls and makings.
-use Rattle.std.specs.Prelude.{◌≡◌, true, false, ◌⊎◌, ◌≢◌, List, [], ◌∷◌, map, ℕ, zero, suc, ◌+◌, ◌≤◌, ◌<◌, length, get_or, replicate}
+use Rattle.std.specs.Prelude.{◌≡◌, true, false, ◌⊎◌, ◌≢◌, List, [], map, ℕ, zero, suc, ◌+◌, ◌≤◌, ◌<◌, length, get_or, replicate}
 use Rattle.model.specs.declared.Kind.TheVariants.{Fifo}
 use Rattle.model.specs.declared.Growth.TheVariants.{ForCommit}
 use Rattle.model.specs.declared.Line.TheVariants.{Claim}
 use Rattle.model.specs.declared.Queue.{Queue}
 use Rattle.model.specs.declared.Room.{Room}
 use Rattle.model.specs.declared.Setup.{Setup}
-use Rattle.model.specs.declared.Yard.{Yard}
 use Rattle.model.specs.declared.Refusal.TheVariants.{ForeignState}
 use Rattle.model.specs.declared.Answer.{Answer}
 use Rattle.model.specs.declared.Answer.TheVariants.{Accepted, GoesOn, Refused}

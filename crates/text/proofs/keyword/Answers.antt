@@ -1,0 +1,91 @@
+use mathlib.Core.Path.{sym, ◌∙◌}
+use Rattle.model.specs.Tests.{if◌then◌else◌}
+use Rattle.text.specs.Commands.{key_of}
+use Rattle.text.proofs.keyword.Goals as goal
+
+pub returns-then-same : goal.returns-then-same
+unfolding key_of if◌then◌else◌
+returns-then-same c = sym (rw (sym c.same.ensures ∙ c.if-same.true))
+
+pub returns-then-same-2 : goal.returns-then-same-2
+unfolding key_of if◌then◌else◌
+returns-then-same-2 c = sym (rw (
+  sym c.same.ensures ∙ c.if-same.false,
+  sym c.same-2.ensures ∙ c.if-same-2.true,
+))
+
+pub returns-then-same-3 : goal.returns-then-same-3
+unfolding key_of if◌then◌else◌
+returns-then-same-3 c = sym (rw (
+  sym c.same.ensures ∙ c.if-same.false,
+  sym c.same-2.ensures ∙ c.if-same-2.false,
+  sym c.same-3.ensures ∙ c.if-same-3.true,
+))
+
+pub returns-then-same-4 : goal.returns-then-same-4
+unfolding key_of if◌then◌else◌
+returns-then-same-4 c = sym (rw (
+  sym c.same.ensures ∙ c.if-same.false,
+  sym c.same-2.ensures ∙ c.if-same-2.false,
+  sym c.same-3.ensures ∙ c.if-same-3.false,
+  sym c.same-4.ensures ∙ c.if-same-4.true,
+))
+
+pub returns-then-same-5 : goal.returns-then-same-5
+unfolding key_of if◌then◌else◌
+returns-then-same-5 c = sym (rw (
+  sym c.same.ensures ∙ c.if-same.false,
+  sym c.same-2.ensures ∙ c.if-same-2.false,
+  sym c.same-3.ensures ∙ c.if-same-3.false,
+  sym c.same-4.ensures ∙ c.if-same-4.false,
+  sym c.same-5.ensures ∙ c.if-same-5.true,
+))
+
+pub returns-then-same-6 : goal.returns-then-same-6
+unfolding key_of if◌then◌else◌
+returns-then-same-6 c = sym (rw (
+  sym c.same.ensures ∙ c.if-same.false,
+  sym c.same-2.ensures ∙ c.if-same-2.false,
+  sym c.same-3.ensures ∙ c.if-same-3.false,
+  sym c.same-4.ensures ∙ c.if-same-4.false,
+  sym c.same-5.ensures ∙ c.if-same-5.false,
+  sym c.same-6.ensures ∙ c.if-same-6.true,
+))
+
+pub returns-then-same-7 : goal.returns-then-same-7
+unfolding key_of if◌then◌else◌
+returns-then-same-7 c = sym (rw (
+  sym c.same.ensures ∙ c.if-same.false,
+  sym c.same-2.ensures ∙ c.if-same-2.false,
+  sym c.same-3.ensures ∙ c.if-same-3.false,
+  sym c.same-4.ensures ∙ c.if-same-4.false,
+  sym c.same-5.ensures ∙ c.if-same-5.false,
+  sym c.same-6.ensures ∙ c.if-same-6.false,
+  sym c.same-7.ensures ∙ c.if-same-7.true,
+))
+
+pub returns : goal.returns
+unfolding key_of if◌then◌else◌
+returns c = sym (rw (
+  sym c.same.ensures ∙ c.if-same.false,
+  sym c.same-2.ensures ∙ c.if-same-2.false,
+  sym c.same-3.ensures ∙ c.if-same-3.false,
+  sym c.same-4.ensures ∙ c.if-same-4.false,
+  sym c.same-5.ensures ∙ c.if-same-5.false,
+  sym c.same-6.ensures ∙ c.if-same-6.false,
+  sym c.same-7.ensures ∙ c.if-same-7.false,
+))
+
+-- no goal for slice-aggregate-same
+
+-- no goal for slice-aggregate-same-2
+
+-- no goal for slice-aggregate-same-3
+
+-- no goal for slice-aggregate-same-4
+
+-- no goal for slice-aggregate-same-5
+
+-- no goal for slice-aggregate-same-6
+
+-- no goal for slice-aggregate-same-7
