@@ -7,7 +7,7 @@ use Prim.Native.Nat.{ℕ}
 use native.Mathlib.Omega.{arith}
 use lib.ListN.{replicate}
 use Rattle.model.specs.declared.Operation.TheVariants.{Put, Take, Steal}
-use Rattle.model.specs.Tests.{if◌then◌else◌, ◌and◌, ◌or◌}
+use Rattle.model.specs.Tests.{when◌then◌else◌, ◌and◌, ◌or◌}
 use Rattle.model.specs.Memory.{zeros, word_at, set_word, offset_at, length_at, size_at, words_to}
 use Rattle.model.specs.Tasks.{word_in, with_word, gathered}
 use Rattle.model.proofs.Runs.{one}
@@ -35,7 +35,7 @@ unseen = does (begin 0 (Put (one 65))) ++ begin 1 Steal ∷ step 1 ∷ step 1 �
 
 -- the thief is answered EMPTY at place 8, the put's task stands in the window, and it was not handed out
 pub put_unseen : At (played delayed unseen) 8 (Empties 1) × Stands (after delayed unseen) (short 1 65) × (any_out (short 1 65) (played delayed unseen) ≡ false)
-unfolding delayed unseen does any_out is_out played after fresh_of begin_of step_of drain_of valid_of words_to line_step landed_all zeros word_at set_word offset_at length_at size_at gathered word_in with_word if◌then◌else◌ ◌and◌ ◌or◌
+unfolding delayed unseen does any_out is_out played after fresh_of begin_of step_of drain_of valid_of words_to line_step landed_all zeros word_at set_word offset_at length_at size_at gathered word_in with_word when◌then◌else◌ ◌and◌ ◌or◌
 put_unseen = (refl, (0, omega arith, refl), refl)
 
 -- its store is the last of three: the third drain brings it to memory
@@ -43,7 +43,7 @@ unfoldable pub drained_put : List Call
 drained_put = does (begin 0 (Put (one 65))) ++ replicate 3 drain ++ begin 1 Steal ∷ []
 
 pub three_drains : DrainedBy (played delayed drained_put) 5 9 × (DrainedBy (played delayed drained_put) 5 8 → ⊥)
-unfolding delayed drained_put does played after fresh_of begin_of step_of drain_of valid_of words_to line_step landed_all zeros word_at set_word offset_at length_at size_at gathered word_in with_word if◌then◌else◌ ◌and◌ ◌or◌
+unfolding delayed drained_put does played after fresh_of begin_of step_of drain_of valid_of words_to line_step landed_all zeros word_at set_word offset_at length_at size_at gathered word_in with_word when◌then◌else◌ ◌and◌ ◌or◌
 three_drains = (omega arith, λ h. omega arith)
 
 -- A TAG OF ONE BIT: put 1 is drained; a take, put 2, a take and put 3 fill the line; the thief's line 1 at place 34 reads put 1's
@@ -55,7 +55,7 @@ wrapped =
 
 -- two puts are drained between, and put 3 is lost
 pub wrapped_loses : Loses delayed wrapped 2
-unfolding delayed wrapped does any_out is_out any_start starts_attempt is_step played after fresh_of begin_of step_of drain_of valid_of words_to line_step landed_all zeros word_at set_word offset_at length_at size_at gathered word_in with_word if◌then◌else◌ ◌and◌ ◌or◌
+unfolding delayed wrapped does any_out is_out any_start starts_attempt is_step played after fresh_of begin_of step_of drain_of valid_of words_to line_step landed_all zeros word_at set_word offset_at length_at size_at gathered word_in with_word when◌then◌else◌ ◌and◌ ◌or◌
 wrapped_loses =
     record {
       thief = 1;
@@ -79,5 +79,5 @@ wrapped_loses =
 
 -- though none finishes there: a premise by finished puts would be false
 pub none_finishes : finished (between 34 47 (played delayed wrapped)) ≡ 0
-unfolding delayed wrapped does played after fresh_of begin_of step_of drain_of valid_of words_to line_step landed_all zeros word_at set_word offset_at length_at size_at gathered word_in with_word if◌then◌else◌ ◌and◌ ◌or◌
+unfolding delayed wrapped does played after fresh_of begin_of step_of drain_of valid_of words_to line_step landed_all zeros word_at set_word offset_at length_at size_at gathered word_in with_word when◌then◌else◌ ◌and◌ ◌or◌
 none_finishes = refl

@@ -16,7 +16,7 @@ use Rattle.model.specs.declared.Operation.TheVariants.{Put, Take, Steal}
 use Rattle.model.specs.declared.Answer.{Answer}
 use Rattle.model.specs.declared.Answer.TheVariants.{Accepted, Numbered, GoesOn, Finished, HandedOut, Empty, Full, Grown, Refused}
 use Rattle.model.proofs.Tests.{and_both, or_false}
-use Rattle.model.specs.Tests.{if◌then◌else◌, ◌and◌, ◌or◌}
+use Rattle.model.specs.Tests.{when◌then◌else◌, ◌and◌, ◌or◌}
 use Rattle.model.specs.Memory.{zeros, word_at, set_word, offset_at, length_at, size_at, words_to}
 use Rattle.model.specs.Tasks.{payload, task, word_in, with_word, gathered, first_words, same_task}
 use Rattle.model.proofs.Tasks.{task_same}
@@ -131,7 +131,7 @@ bench_of k = (fresh_of (setup k 1 2 2 1) (replicate 12 0) (replicate 64 0)).worl
 
 -- P1: the thief's line 1 is at place 7, its compare at place 36; 2 = 2^1 puts finish between, and put 3 is lost
 pub p1_loses : Loses (bench 1 2) p1 2
-unfolding bench p1 does any_out is_out any_start starts_attempt is_step played after fresh_of begin_of step_of valid_of words_to line_step landed_all zeros word_at set_word offset_at length_at size_at gathered word_in with_word if◌then◌else◌ ◌and◌ ◌or◌
+unfolding bench p1 does any_out is_out any_start starts_attempt is_step played after fresh_of begin_of step_of valid_of words_to line_step landed_all zeros word_at set_word offset_at length_at size_at gathered word_in with_word when◌then◌else◌ ◌and◌ ◌or◌
 p1_loses =
     record {
       thief = 1;
@@ -154,21 +154,21 @@ p1_loses =
     }
 
 pub p1_breaks_premise : FewPuts (bench 1 2) p1 → ⊥
-unfolding p1_loses bench p1 does played fresh_of begin_of step_of valid_of words_to line_step landed_all zeros word_at set_word offset_at length_at size_at gathered word_in with_word if◌then◌else◌ ◌and◌ ◌or◌
+unfolding p1_loses bench p1 does played fresh_of begin_of step_of valid_of words_to line_step landed_all zeros word_at set_word offset_at length_at size_at gathered word_in with_word when◌then◌else◌ ◌and◌ ◌or◌
 p1_breaks_premise f = let z : 2 < 2 = f 1 7 36 p1_loses.compares p1_loses.attempt (omega arith) in omega arith
 
 -- P2: with a tag of 2 bits the compare fails, and put 3 stands in the window
 pub p2_stands : Stands (after (bench 2 2) p1) (short 3 67)
-unfolding bench p1 does after fresh_of begin_of step_of valid_of words_to line_step landed_all zeros word_at set_word offset_at length_at size_at gathered word_in with_word if◌then◌else◌ ◌and◌ ◌or◌
+unfolding bench p1 does after fresh_of begin_of step_of valid_of words_to line_step landed_all zeros word_at set_word offset_at length_at size_at gathered word_in with_word when◌then◌else◌ ◌and◌ ◌or◌
 p2_stands = (0, omega arith, refl)
 
 -- P2 keeps the premise: three puts finish in all, and it takes four to break it
 p2_puts : puts (played (bench 2 2) p1) ≡ 3
-unfolding bench p1 does played fresh_of begin_of step_of valid_of words_to line_step landed_all zeros word_at set_word offset_at length_at size_at gathered word_in with_word if◌then◌else◌ ◌and◌ ◌or◌
+unfolding bench p1 does played fresh_of begin_of step_of valid_of words_to line_step landed_all zeros word_at set_word offset_at length_at size_at gathered word_in with_word when◌then◌else◌ ◌and◌ ◌or◌
 p2_puts = refl
 
 p2_few : (d : ℕ) → d ≤ 3 → Few (bench 2 2).bench.kind (tag_bits (bench 2 2).bench) d
-unfolding bench fresh_of zeros if◌then◌else◌ ◌and◌ ◌or◌
+unfolding bench fresh_of zeros when◌then◌else◌ ◌and◌ ◌or◌
 p2_few d h = λ some. let z : d < 4 = omega arith in z
 
 pub p2_keeps_premise : FewPuts (bench 2 2) p1
@@ -182,7 +182,7 @@ p2_keeps_premise i l j x a =
 
 -- so demand 3 holds of it, not emptily
 p2_accepted : (fresh_of (setup 1 2 2 2 1) (replicate 12 0) (replicate 64 0)).answer ≡ Accepted
-unfolding fresh_of if◌then◌else◌ ◌and◌ ◌or◌
+unfolding fresh_of when◌then◌else◌ ◌and◌ ◌or◌
 p2_accepted = refl
 
 pub p2_holds : Demand3 (bench 2 2) p1
@@ -198,11 +198,11 @@ mixed =
 
 -- KEPT speaks of all words: number 3 is handed out at place 61, put 3's task nowhere
 pub three_out : At (played (bench 1 3) mixed) 61 (λ s. s.answer ≡ HandedOut 2 (short 3 69))
-unfolding bench mixed does played fresh_of begin_of step_of valid_of words_to line_step landed_all zeros word_at set_word offset_at length_at size_at gathered word_in with_word if◌then◌else◌ ◌and◌ ◌or◌
+unfolding bench mixed does played fresh_of begin_of step_of valid_of words_to line_step landed_all zeros word_at set_word offset_at length_at size_at gathered word_in with_word when◌then◌else◌ ◌and◌ ◌or◌
 three_out = refl
 
 pub not_kept : Demand3 (bench 1 3) mixed → ⊥
-unfolding bench mixed does any_out is_out played after fresh_of begin_of step_of valid_of words_to line_step landed_all zeros word_at set_word offset_at length_at size_at gathered word_in with_word if◌then◌else◌ ◌and◌ ◌or◌
+unfolding bench mixed does any_out is_out played after fresh_of begin_of step_of valid_of words_to line_step landed_all zeros word_at set_word offset_at length_at size_at gathered word_in with_word when◌then◌else◌ ◌and◌ ◌or◌
 not_kept D = go (D.kept 30 35 (short 3 67) (record { begun = (3, one 67, refl, refl, refl); later = omega arith; finished = (0, refl) }))
   where
     go : ((k : ℕ) × Out (played (bench 1 3) mixed) k (short 3 67)) ⊎ Stands (after (bench 1 3) mixed) (short 3 67) → ⊥
@@ -216,7 +216,7 @@ payload_is n x p' p e q = let z : one x ≡ p = cc in ap (λ (y : Payload). y.fi
 
 -- BELONGS speaks of all words: the task 3, 69 has the number of one put and the payload of another
 pub not_belongs : Demand3 (bench 1 3) mixed → ⊥
-unfolding bench mixed does played fresh_of begin_of step_of valid_of words_to line_step landed_all zeros word_at set_word offset_at length_at size_at gathered word_in with_word if◌then◌else◌ ◌and◌ ◌or◌
+unfolding bench mixed does played fresh_of begin_of step_of valid_of words_to line_step landed_all zeros word_at set_word offset_at length_at size_at gathered word_in with_word when◌then◌else◌ ◌and◌ ◌or◌
 not_belongs D =
     let F = D.belongs 61 (short 3 69) (2, refl) in
     let same = D.numbers 30 F.0 (short 3 67) (short 3 69) (3, one 67, refl, refl, refl) F.3.begun refl in
@@ -228,7 +228,7 @@ unfoldable pub p1_take : List Call
 p1_take = p1 ++ begin 0 Take ∷ step 0 ∷ step 0 ∷ []
 
 pub false_empty : Demand3 (bench 1 2) p1_take → ⊥
-unfolding bench p1_take p1 does any_out is_out played fresh_of begin_of step_of valid_of words_to line_step landed_all zeros word_at set_word offset_at length_at size_at gathered word_in with_word if◌then◌else◌ ◌and◌ ◌or◌
+unfolding bench p1_take p1 does any_out is_out played fresh_of begin_of step_of valid_of words_to line_step landed_all zeros word_at set_word offset_at length_at size_at gathered word_in with_word when◌then◌else◌ ◌and◌ ◌or◌
 false_empty D = go (D.none_left 39 0 refl)
   where
     T : List Played
@@ -260,7 +260,7 @@ unfoldable pub bench2 : World
 bench2 = (fresh_of (setup 1 1 2 3 2) (replicate 18 0) (replicate 64 0)).world
 
 pub cut_stands : Stands (after bench2 (does2 (begin 0 (Put (payload 65 1 8 9))))) (task 1 (payload 65 1 0 0))
-unfolding bench2 does2 played after fresh_of begin_of step_of valid_of words_to line_step landed_all zeros word_at set_word offset_at length_at size_at gathered word_in with_word if◌then◌else◌ ◌and◌ ◌or◌
+unfolding bench2 does2 played after fresh_of begin_of step_of valid_of words_to line_step landed_all zeros word_at set_word offset_at length_at size_at gathered word_in with_word when◌then◌else◌ ◌and◌ ◌or◌
 cut_stands = (0, omega arith, refl)
 
 -- as above, and thief 2 has read put 3's first payload word too: it is that of put 5, and the second is not
@@ -273,11 +273,11 @@ mixed2 =
 
 -- KEPT speaks of the last word too: number 3 and its first payload word are handed out at place 71, put 3's task nowhere
 pub most_out : At (played bench2 mixed2) 71 (λ s. s.answer ≡ HandedOut 2 (task 3 (payload 65 5 0 0)))
-unfolding bench2 mixed2 does2 played after fresh_of begin_of step_of valid_of words_to line_step landed_all zeros word_at set_word offset_at length_at size_at gathered word_in with_word if◌then◌else◌ ◌and◌ ◌or◌
+unfolding bench2 mixed2 does2 played after fresh_of begin_of step_of valid_of words_to line_step landed_all zeros word_at set_word offset_at length_at size_at gathered word_in with_word when◌then◌else◌ ◌and◌ ◌or◌
 most_out = refl
 
 pub not_kept2 : Demand3 bench2 mixed2 → ⊥
-unfolding bench2 mixed2 does2 any_out is_out played after fresh_of begin_of step_of valid_of words_to line_step landed_all zeros word_at set_word offset_at length_at size_at gathered word_in with_word if◌then◌else◌ ◌and◌ ◌or◌
+unfolding bench2 mixed2 does2 any_out is_out played after fresh_of begin_of step_of valid_of words_to line_step landed_all zeros word_at set_word offset_at length_at size_at gathered word_in with_word when◌then◌else◌ ◌and◌ ◌or◌
 not_kept2 D = go (D.kept 35 41 third (record { begun = (3, payload 65 3 0 0, refl, refl, refl); later = omega arith; finished = (0, refl) }))
   where
     third : Task

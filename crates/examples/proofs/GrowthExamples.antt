@@ -4,7 +4,7 @@ use mathlib.Core.List.{List, ◌∷◌, ◌++◌}
 use native.Mathlib.Omega.{arith}
 use Rattle.model.specs.declared.Operation.TheVariants.{Put, Take, Steal, Commit}
 use Rattle.model.specs.declared.Answer.TheVariants.{Grown}
-use Rattle.model.specs.Tests.{if◌then◌else◌, ◌and◌, ◌or◌}
+use Rattle.model.specs.Tests.{when◌then◌else◌, ◌and◌, ◌or◌}
 use Rattle.model.specs.Memory.{zeros, word_at, set_word, offset_at, length_at, size_at, words_to}
 use Rattle.model.specs.Tasks.{no_task, word_in, with_word, gathered}
 use Rattle.model.proofs.Runs.{one}
@@ -30,7 +30,7 @@ grown =
 pub grown_keeps :
     At (played (bench 1 2) grown) 24 (λ s. s.answer ≡ Grown 0) × Out (played (bench 1 2) grown) 25 (short 2 66) × Stands (after (bench 1 2) grown) (short 1 65)
     × Stands (after (bench 1 2) grown) (short 3 67) × (window_size (after (bench 1 2) grown) ≡ 2)
-unfolding bench grown does played after fresh_of begin_of step_of ask_of valid_of words_to line_step landed_all zeros word_at set_word offset_at length_at size_at gathered word_in with_word if◌then◌else◌ ◌and◌ ◌or◌
+unfolding bench grown does played after fresh_of begin_of step_of ask_of valid_of words_to line_step landed_all zeros word_at set_word offset_at length_at size_at gathered word_in with_word when◌then◌else◌ ◌and◌ ◌or◌
 grown_keeps = (refl, (1, refl), (0, omega arith, refl), (1, omega arith, refl), refl)
 
 -- A FIFO with put 2 in its window, and behind it the slot of put 1, which was taken; the same after a commit
@@ -44,5 +44,5 @@ larger = taken ++ ask 0 ∷ tried.does 0 Commit 4
 pub behind_the_window :
     (window_task (after (bench_of 2) taken) 0 ≡ short 2 66) × (window_task (after (bench_of 2) larger) 0 ≡ short 2 66)
     × (window_task (after (bench_of 2) taken) 1 ≡ short 1 65) × (window_task (after (bench_of 2) larger) 1 ≡ no_task)
-unfolding bench_of taken larger tried.does after fresh_of begin_of step_of ask_of valid_of words_to line_step landed_all zeros word_at set_word offset_at length_at size_at gathered word_in with_word if◌then◌else◌ ◌and◌ ◌or◌
+unfolding bench_of taken larger tried.does after fresh_of begin_of step_of ask_of valid_of words_to line_step landed_all zeros word_at set_word offset_at length_at size_at gathered word_in with_word when◌then◌else◌ ◌and◌ ◌or◌
 behind_the_window = (refl, refl, refl, refl)

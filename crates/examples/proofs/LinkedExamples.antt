@@ -8,7 +8,7 @@ use native.Mathlib.Omega.{arith}
 use lib.ListN.{replicate}
 use Rattle.model.specs.declared.Operation.TheVariants.{Put, Steal}
 use Rattle.model.specs.declared.Answer.TheVariants.{Accepted, GoesOn, HandedOut}
-use Rattle.model.specs.Tests.{if◌then◌else◌, ◌and◌, ◌or◌}
+use Rattle.model.specs.Tests.{when◌then◌else◌, ◌and◌, ◌or◌}
 use Rattle.model.specs.Memory.{zeros, word_at, set_word, offset_at, length_at, size_at, words_to}
 use Rattle.model.specs.Tasks.{word_in, with_word, gathered}
 use Rattle.model.proofs.Runs.{one}
@@ -37,32 +37,32 @@ restarts k cs = restarts_of (after (bench_of k) cs).bench.restarts 1
 
 -- the same calls: with a tag the compare succeeds and put 3 is lost; linked, it fails and none is
 pub lifo_loses : (lost 1 p1 ≡ 1) × (restarts 1 p1 ≡ 0)
-unfolding counts_of some_below count_below bench_of p1 does after fresh_of begin_of step_of valid_of words_to line_step landed_all zeros word_at set_word offset_at length_at size_at gathered word_in with_word if◌then◌else◌ ◌and◌ ◌or◌
+unfolding counts_of some_below count_below bench_of p1 does after fresh_of begin_of step_of valid_of words_to line_step landed_all zeros word_at set_word offset_at length_at size_at gathered word_in with_word when◌then◌else◌ ◌and◌ ◌or◌
 lifo_loses = (refl, refl)
 
 pub linked_lifo_keeps : (lost 4 p1 ≡ 0) × (restarts 4 p1 ≡ 1)
-unfolding counts_of some_below count_below bench_of p1 does after fresh_of begin_of step_of valid_of words_to line_step landed_all zeros word_at set_word offset_at length_at size_at gathered word_in with_word if◌then◌else◌ ◌and◌ ◌or◌
+unfolding counts_of some_below count_below bench_of p1 does after fresh_of begin_of step_of valid_of words_to line_step landed_all zeros word_at set_word offset_at length_at size_at gathered word_in with_word when◌then◌else◌ ◌and◌ ◌or◌
 linked_lifo_keeps = (refl, refl)
 
 pub deque_loses : (lost 3 p1_deque ≡ 1) × (restarts 3 p1_deque ≡ 0)
-unfolding counts_of some_below count_below p1_deque bench_of p1 does after fresh_of begin_of step_of valid_of words_to line_step landed_all zeros word_at set_word offset_at length_at size_at gathered word_in with_word if◌then◌else◌ ◌and◌ ◌or◌
+unfolding counts_of some_below count_below p1_deque bench_of p1 does after fresh_of begin_of step_of valid_of words_to line_step landed_all zeros word_at set_word offset_at length_at size_at gathered word_in with_word when◌then◌else◌ ◌and◌ ◌or◌
 deque_loses = (refl, refl)
 
 pub linked_deque_keeps : (lost 5 p1_deque ≡ 0) × (restarts 5 p1_deque ≡ 1)
-unfolding counts_of some_below count_below p1_deque bench_of p1 does after fresh_of begin_of step_of valid_of words_to line_step landed_all zeros word_at set_word offset_at length_at size_at gathered word_in with_word if◌then◌else◌ ◌and◌ ◌or◌
+unfolding counts_of some_below count_below p1_deque bench_of p1 does after fresh_of begin_of step_of valid_of words_to line_step landed_all zeros word_at set_word offset_at length_at size_at gathered word_in with_word when◌then◌else◌ ◌and◌ ◌or◌
 linked_deque_keeps = (refl, refl)
 
 -- put 3 stands in the window, though as many puts finish between the thief's line 1 and its compare as lose it with a tag
 pub linked_stands : Stands (after (bench_of 4) p1) (short 3 67)
-unfolding bench_of p1 does after fresh_of begin_of step_of valid_of words_to line_step landed_all zeros word_at set_word offset_at length_at size_at gathered word_in with_word if◌then◌else◌ ◌and◌ ◌or◌
+unfolding bench_of p1 does after fresh_of begin_of step_of valid_of words_to line_step landed_all zeros word_at set_word offset_at length_at size_at gathered word_in with_word when◌then◌else◌ ◌and◌ ◌or◌
 linked_stands = (0, omega arith, refl)
 
 pub linked_puts : puts (between 7 36 (played (bench_of 4) p1)) ≡ 2
-unfolding played bench_of p1 does after fresh_of begin_of step_of valid_of words_to line_step landed_all zeros word_at set_word offset_at length_at size_at gathered word_in with_word if◌then◌else◌ ◌and◌ ◌or◌
+unfolding played bench_of p1 does after fresh_of begin_of step_of valid_of words_to line_step landed_all zeros word_at set_word offset_at length_at size_at gathered word_in with_word when◌then◌else◌ ◌and◌ ◌or◌
 linked_puts = refl
 
 linked_accepted : (fresh_of (setup 4 1 2 2 1) (replicate 12 0) (replicate 64 0)).answer ≡ Accepted
-unfolding fresh_of if◌then◌else◌ ◌and◌ ◌or◌
+unfolding fresh_of when◌then◌else◌ ◌and◌ ◌or◌
 linked_accepted = refl
 
 -- demand 3 holds of every list of this bench without a premise, and so does what demand 3's premise gives beside it
@@ -83,14 +83,14 @@ unfoldable pub alone : List Call
 alone = does (begin 0 (Put (one 65))) ++ does (begin 1 Steal)
 
 pub link_kept : At (played (bench_of 4) (alone ++ step 1 ∷ [])) 12 (λ s. s.answer ≡ HandedOut 1 (short 1 65))
-unfolding alone played bench_of p1 does after fresh_of begin_of step_of valid_of words_to line_step landed_all zeros word_at set_word offset_at length_at size_at gathered word_in with_word if◌then◌else◌ ◌and◌ ◌or◌
+unfolding alone played bench_of p1 does after fresh_of begin_of step_of valid_of words_to line_step landed_all zeros word_at set_word offset_at length_at size_at gathered word_in with_word when◌then◌else◌ ◌and◌ ◌or◌
 link_kept = refl
 
 -- its link fails for no reason: so does the compare, and the task stands
 pub link_dropped : At (played (bench_of 4) (alone ++ drop_link 1 ∷ step 1 ∷ [])) 13 (λ s. s.answer ≡ GoesOn)
-unfolding alone played drop_link_of bench_of p1 does after fresh_of begin_of step_of valid_of words_to line_step landed_all zeros word_at set_word offset_at length_at size_at gathered word_in with_word if◌then◌else◌ ◌and◌ ◌or◌
+unfolding alone played drop_link_of bench_of p1 does after fresh_of begin_of step_of valid_of words_to line_step landed_all zeros word_at set_word offset_at length_at size_at gathered word_in with_word when◌then◌else◌ ◌and◌ ◌or◌
 link_dropped = refl
 
 pub dropped_stands : Stands (after (bench_of 4) (alone ++ drop_link 1 ∷ step 1 ∷ [])) (short 1 65) × (restarts 4 (alone ++ drop_link 1 ∷ step 1 ∷ []) ≡ 1)
-unfolding alone drop_link_of bench_of p1 does after fresh_of begin_of step_of valid_of words_to line_step landed_all zeros word_at set_word offset_at length_at size_at gathered word_in with_word if◌then◌else◌ ◌and◌ ◌or◌
+unfolding alone drop_link_of bench_of p1 does after fresh_of begin_of step_of valid_of words_to line_step landed_all zeros word_at set_word offset_at length_at size_at gathered word_in with_word when◌then◌else◌ ◌and◌ ◌or◌
 dropped_stands = ((0, omega arith, refl), refl)

@@ -9,7 +9,7 @@ use lib.ListN.{replicate}
 use Rattle.model.specs.declared.Operation.{Operation}
 use Rattle.model.specs.declared.Operation.TheVariants.{Put, Take, Steal}
 use Rattle.model.specs.declared.Answer.TheVariants.{Accepted}
-use Rattle.model.specs.Tests.{if◌then◌else◌, ◌and◌, ◌or◌}
+use Rattle.model.specs.Tests.{when◌then◌else◌, ◌and◌, ◌or◌}
 use Rattle.model.specs.Memory.{zeros, word_at, set_word, offset_at, length_at, size_at, words_to}
 use Rattle.model.specs.Tasks.{payload, word_in, with_word, gathered}
 use Rattle.model.proofs.Runs.{one}
@@ -39,7 +39,7 @@ front k cs = log_front (after (bench k) cs)
 -- the put numbers of those of a log's first n entries that pass the test
 unfoldable pub numbers : (List ℕ → ℕ → Bool) → List ℕ → ℕ → List ℕ
 numbers test l zero = []
-numbers test l (suc j) = numbers test l j ++ (if test l j then (entry_at 1 l j).task.number ∷ [] else [])
+numbers test l (suc j) = numbers test l j ++ (when test l j then (entry_at 1 l j).task.number ∷ [] else [])
 
 -- the owner reads head 0 and stops before its last three lines; the thief takes both tasks, and head is 2
 unfoldable pub stale : List Call
@@ -50,15 +50,15 @@ unfoldable pub lowered : List Call
 lowered = stale ++ replicate 3 (step 0) ++ does 1 Steal 7 ++ does 0 (Put (one 7)) 6 ++ does 0 Take 6
 
 pub head_goes_back : ((after (bench 2) stale).bench.queue.anchor.head ≡ 2) × ((after (bench 2) (stale ++ replicate 3 (step 0))).bench.queue.anchor.head ≡ 1)
-unfolding stale does bench after fresh_of begin_of step_of valid_of words_to line_step landed_all zeros word_at set_word offset_at length_at size_at gathered word_in with_word if◌then◌else◌ ◌and◌ ◌or◌
+unfolding stale does bench after fresh_of begin_of step_of valid_of words_to line_step landed_all zeros word_at set_word offset_at length_at size_at gathered word_in with_word when◌then◌else◌ ◌and◌ ◌or◌
 head_goes_back = (refl, refl)
 
 pub all_hand_outs : numbers (λ l j. is_kind 1 l 2 j) (front 2 lowered) 8 ≡ 1 ∷ 2 ∷ 1 ∷ 2 ∷ 3 ∷ []
-unfolding lowered stale does bench front numbers after front_of fresh_of begin_of step_of valid_of words_to line_step landed_all zeros word_at set_word offset_at length_at size_at gathered word_in with_word if◌then◌else◌ ◌and◌ ◌or◌
+unfolding lowered stale does bench front numbers after front_of fresh_of begin_of step_of valid_of words_to line_step landed_all zeros word_at set_word offset_at length_at size_at gathered word_in with_word when◌then◌else◌ ◌and◌ ◌or◌
 all_hand_outs = refl
 
 pub first_hand_outs : numbers (out_first 1) (front 2 lowered) 8 ≡ 1 ∷ 2 ∷ 3 ∷ []
-unfolding lowered stale does bench front numbers after front_of some_below fresh_of begin_of step_of valid_of words_to line_step landed_all zeros word_at set_word offset_at length_at size_at gathered word_in with_word if◌then◌else◌ ◌and◌ ◌or◌
+unfolding lowered stale does bench front numbers after front_of some_below fresh_of begin_of step_of valid_of words_to line_step landed_all zeros word_at set_word offset_at length_at size_at gathered word_in with_word when◌then◌else◌ ◌and◌ ◌or◌
 first_hand_outs = refl
 
 -- two puts and two takes: LIFO and double-ended hand out put 2 first
@@ -66,11 +66,11 @@ unfoldable pub twice : List Call
 twice = does 0 (Put (one 5)) 5 ++ does 0 (Put (one 6)) 5 ++ does 0 Take 5 ++ does 0 Take 5
 
 pub lifo_is_not : LogInOrder 1 (front 1 twice) → ⊥
-unfolding twice does bench front after front_of some_below fresh_of begin_of step_of valid_of words_to line_step landed_all zeros word_at set_word offset_at length_at size_at gathered word_in with_word if◌then◌else◌ ◌and◌ ◌or◌
+unfolding twice does bench front after front_of some_below fresh_of begin_of step_of valid_of words_to line_step landed_all zeros word_at set_word offset_at length_at size_at gathered word_in with_word when◌then◌else◌ ◌and◌ ◌or◌
 lifo_is_not f = let z : 2 < 1 = f 2 3 (omega arith) refl refl in omega arith
 
 pub deque_is_not : LogInOrder 1 (front 3 twice) → ⊥
-unfolding twice does bench front after front_of some_below fresh_of begin_of step_of valid_of words_to line_step landed_all zeros word_at set_word offset_at length_at size_at gathered word_in with_word if◌then◌else◌ ◌and◌ ◌or◌
+unfolding twice does bench front after front_of some_below fresh_of begin_of step_of valid_of words_to line_step landed_all zeros word_at set_word offset_at length_at size_at gathered word_in with_word when◌then◌else◌ ◌and◌ ◌or◌
 deque_is_not f = let z : 2 < 1 = f 2 3 (omega arith) refl refl in omega arith
 
 -- nor are the answers
@@ -83,16 +83,16 @@ answers_are_not k e f o =
     f (subst (LogInOrder _) (sym (log_is_answers b m l e twice)) (log_in_order _ _ (words_le b m l e) (answers_cut b m l e twice) o))
 
 pub lifo_answers_are_not : InOrder (played (bench 1) twice) → ⊥
-unfolding bench fresh_of if◌then◌else◌ ◌and◌ ◌or◌
+unfolding bench fresh_of when◌then◌else◌ ◌and◌ ◌or◌
 lifo_answers_are_not = answers_are_not 1 refl lifo_is_not
 
 pub deque_answers_are_not : InOrder (played (bench 3) twice) → ⊥
-unfolding bench fresh_of if◌then◌else◌ ◌and◌ ◌or◌
+unfolding bench fresh_of when◌then◌else◌ ◌and◌ ◌or◌
 deque_answers_are_not = answers_are_not 3 refl deque_is_not
 
 -- three payload words, so six words an entry; the payload's fourth word is not in it
 pub wide_front :
     log_front (after (fresh_of (setup 3 1 1 1 3) (replicate 4 0) (replicate 40 9)).world (does 0 (Put (payload 5 6 7 8)) 7 ++ does 0 Take 7))
     ≡ 1 ∷ 0 ∷ 1 ∷ 5 ∷ 6 ∷ 7 ∷ 2 ∷ 0 ∷ 1 ∷ 5 ∷ 6 ∷ 7 ∷ []
-unfolding does after front_of fresh_of begin_of step_of valid_of words_to line_step landed_all zeros word_at set_word offset_at length_at size_at gathered word_in with_word if◌then◌else◌ ◌and◌ ◌or◌
+unfolding does after front_of fresh_of begin_of step_of valid_of words_to line_step landed_all zeros word_at set_word offset_at length_at size_at gathered word_in with_word when◌then◌else◌ ◌and◌ ◌or◌
 wide_front = refl

@@ -7,7 +7,7 @@
 ghost use Rattle.std.specs.Prelude.{◌≡◌, ◌≤◌};
 ghost use Rattle.model.specs.declared.Line.TheVariants.{Claim, PutWord};
 ghost use Rattle.model.specs.declared.Growth.TheVariants.{ForPut};
-ghost use Rattle.model.specs.Tests.{if◌then◌else◌};
+ghost use Rattle.model.specs.Tests.{when◌then◌else◌};
 ghost use Rattle.model.specs.Figures.{is_full, put_read, take_read, steal_read, steal_last, note_all, note};
 ghost use Rattle.model.specs.Lines.{copy_on, put_on, take_on, steal_on};
 ghost use Rattle.figures.specs.Bounds.{Ordered};
@@ -65,7 +65,7 @@ pub fn steal_read(kind: Kind, anchor: Anchor) -> Line
 // Put 2 (FIFO 3): X1 if the array of `size` tasks is full, else the write.
 pub fn put_test(kind: Kind, size: u32, read: Anchor, task: Task) -> Line
     requires { (read.head ≤ 65535) × (size ≤ 1024) }
-    ensures { result ≡ if◌then◌else◌ (is_full kind size read) (Claim (ForPut task)) (PutWord task read 0) }
+    ensures { result ≡ when◌then◌else◌ (is_full kind size read) (Claim (ForPut task)) (PutWord task read 0) }
 {
     let full = is_full(kind, size, read);
     if full {

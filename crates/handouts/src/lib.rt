@@ -5,7 +5,7 @@
 #![tactic(auto)]
 
 ghost use Rattle.std.specs.Prelude.{◌≡◌, ◌+◌, ◌%◌, ◌≤◌, ◌<◌, length, get_or};
-ghost use Rattle.model.specs.Tests.{if◌then◌else◌, ◌and◌};
+ghost use Rattle.model.specs.Tests.{when◌then◌else◌, ◌and◌};
 ghost use Rattle.model.specs.Tasks.{gathered, same_task};
 ghost use Rattle.model.specs.Answers.{entry_length};
 ghost use Rattle.model.specs.Counts.{entry_at, is_kind, some_below, count_below, out_as, out_whole, out_first};
@@ -76,7 +76,7 @@ pub fn task_from(words: u32, memory: &[u32], at: u64) -> Task
 // One more where the test was passed.
 pub fn one_more(count: u32, hit: bool) -> u32
     requires { count < 4294967295 }
-    ensures { result ≡ if◌then◌else◌ hit (count + 1) count }
+    ensures { result ≡ when◌then◌else◌ hit (count + 1) count }
 {
     if hit {
         return count + 1;

@@ -9,7 +9,7 @@ use lib.Dec.{eqb, ltb}
 use lib.ListN.{length, take, get_or}
 use lib.Seq.{length-take-le}
 use borrow.Author.Tests.{le-ltb, eq-eqb, ne_eqb}
-use Rattle.model.specs.Tests.{if◌then◌else◌, ◌or◌}
+use Rattle.model.specs.Tests.{when◌then◌else◌, ◌or◌}
 use Rattle.model.proofs.Tests.{if_true, if_false}
 use Rattle.orders.specs.declared.Verdict.TheVariants.{Hunted}
 use Rattle.orders.specs.Orders.{Play, Order, after_order, orders_of}
@@ -58,7 +58,7 @@ pub record Kept (S : Play) (g : ℕ) (b o b' : Order) (r' : ℕ) : Type 0 where
   pub repeats : r' ≡ repeats_of S b'
 
 pub kept_new : (S : Play) (g : ℕ) (b o : Order) (r s : ℕ) → r ≡ repeats_of S b → s ≡ repeats_of S o → (eqb g 0 or ltb r s) ≡ true → Kept S g b o o s
-unfolding if◌then◌else◌ ◌or◌
+unfolding when◌then◌else◌ ◌or◌
 kept_new S zero b o r s e f h = record { is = refl; repeats = f }
 kept_new S (suc g) b o r s e f h = record { is = ap (λ (x : Order). x ∷ []) (if_true b (more (ne_eqb (suc g) 0 (λ z. omega (arith, z))) h)); repeats = f }
   where
@@ -66,7 +66,7 @@ kept_new S (suc g) b o r s e f h = record { is = ap (λ (x : Order). x ∷ []) (
     more q h = rw (sym e, sym f) (rw q at h)
 
 pub kept_old : (S : Play) (g : ℕ) (b o : Order) (r s : ℕ) → r ≡ repeats_of S b → s ≡ repeats_of S o → (eqb g 0 or ltb r s) ≡ false → Kept S g b o b r
-unfolding if◌then◌else◌ ◌or◌
+unfolding when◌then◌else◌ ◌or◌
 kept_old S zero b o r s e f h = absurd (true≢false (sym (rw (eq-eqb 0 0 refl)) ∙ h))
 kept_old S (suc g) b o r s e f h = record { is = ap (λ (x : Order). x ∷ []) (if_false o (less (ne_eqb (suc g) 0 (λ z. omega (arith, z))) h)); repeats = e }
   where
@@ -101,7 +101,7 @@ module _ {S : Play} {B g : ℕ} {order : List ℕ} {b : Order} {r n : ℕ} (H : 
   -- the budget cuts it off
   pub hunted_cut : (d : ℕ) → n < length o → d ≡ takes_and_steals S.left - 1 - r
       → record { verdict = Hunted; order = b; repeats = r; steps = B; distance = d } ≡ report_of S B (orders_of 256 S)
-  unfolding if◌then◌else◌
+  unfolding when◌then◌else◌
   hunted_cut d h e =
       let O = walking_cut S B (orders_of 256 S) (so_far g b) n o (behind_of 256 S o) h H.walking in
       report_is S B b r B false d (O.found ∙ best_so_far S g b start H.none) H.repeats O.made O.done e
@@ -123,7 +123,7 @@ module _ {S : Play} {B g : ℕ} {order : List ℕ} {b : Order} {r n : ℕ} (H : 
         ∙ turn_next S 256 k g' order₁ others order' (omega (arith, size, complete.short)) (omega (arith, size, complete.short, long)) (subst (λ (q : Order). Higher S q (λ j. get_or others j 0)) (sym made) higher) turned)
 
     pub hunted_all : g' ≡ 0 → record { verdict = Hunted; order = b'; repeats = r'; steps = B - (n - k); distance = 0 } ≡ report_of S B (orders_of 256 S)
-    unfolding if◌then◌else◌
+    unfolding when◌then◌else◌
     hunted_all z =
         let none : behind_of 256 S o ≡ [] = rest ∙ ap (λ (j : ℕ). given 256 S (take j order')) z in
         let O = walking_over S B (orders_of 256 S) (b' ∷ []) (n - k) (subst (λ (os : List Order). Walking S B (orders_of 256 S) (b' ∷ []) (n - k) os) none on) in

@@ -15,7 +15,7 @@ use Rattle.model.specs.declared.Refusal.{Refusal}
 use Rattle.model.specs.declared.Refusal.TheVariants.{NoSuchWorker}
 use Rattle.model.specs.declared.Answer.{Answer}
 use Rattle.model.specs.declared.Answer.TheVariants.{Accepted, Refused}
-use Rattle.model.specs.Tests.{if◌then◌else◌, unless◌then◌else◌, least}
+use Rattle.model.specs.Tests.{when◌then◌else◌, unless◌then◌else◌, least}
 use Rattle.model.specs.Memory.{zeros, usable}
 use Rattle.model.specs.World.{World, Outcome, refuse, resting, line_at, is_idle}
 use Rattle.model.specs.Calls.{lent, setup, fresh_of, first_length, new_bench, no_bench, admitted}
@@ -134,13 +134,13 @@ module _ (u : Setup) (s : ℕ) (a : (opening u s).answer ≡ Accepted) where
 -- THE REPORT, refused or made
 module _ (u : Setup) (s : ℕ) (l : List (List Operation)) (b : ℕ) where
   abbrev last : Report
-  last = if leb b 1000000 then report_of (start_of u s l) b (orders_of 256 (start_of u s l)) else refusal LargeBudget
+  last = when leb b 1000000 then report_of (start_of u s l) b (orders_of 256 (start_of u s l)) else refusal LargeBudget
 
   abbrev third : Report
-  third = if leb (operations l) 64 then last else refusal ManyOperations
+  third = when leb (operations l) 64 then last else refusal ManyOperations
 
   abbrev second : Report
-  second = if eqb (operations (drop u.crew l)) 0 then third else refusal (Barred NoSuchWorker)
+  second = when eqb (operations (drop u.crew l)) 0 then third else refusal (Barred NoSuchWorker)
 
   pub plan_barred : (r : Refusal) → (opening u s).answer ≡ Refused r → refusal (Barred r) ≡ hunt_plan u s l b
   plan_barred r e = sym (ap (λ (x : Answer). unless_refused x second) e)

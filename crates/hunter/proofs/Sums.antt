@@ -10,7 +10,7 @@ use lib.Seq.{drop-cons}
 use borrow.Author.Tests.{eq-eqb, ne_eqb, le-leb, lt-leb}
 use Rattle.model.specs.declared.Operation.{Operation}
 use Rattle.model.specs.declared.Operation.TheVariants.{Steal}
-use Rattle.model.specs.Tests.{if◌then◌else◌, ◌or◌, least}
+use Rattle.model.specs.Tests.{when◌then◌else◌, ◌or◌, least}
 use Rattle.model.specs.World.{World}
 use Rattle.model.proofs.Tests.{if_true, if_false}
 use Rattle.model.specs.Counts.{counts_of, count_below, is_kind, out_first}

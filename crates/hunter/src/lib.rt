@@ -6,7 +6,7 @@
 
 ghost use Rattle.std.specs.Prelude.{◌≡◌, Bool, true, false, List, [], ◌∷◌, map, ℕ, ◌+◌, ◌-◌, ◌≤◌, ◌<◌, min, eqb, ltb, length, take, drop, get_or, replicate};
 ghost use Rattle.model.specs.World.{World};
-ghost use Rattle.model.specs.Tests.{if◌then◌else◌, ◌or◌, least};
+ghost use Rattle.model.specs.Tests.{when◌then◌else◌, ◌or◌, least};
 ghost use Rattle.orders.specs.Orders.{orders_of};
 ghost use Rattle.orders.specs.Next.{first_of};
 ghost use Rattle.orders.specs.Claims.{Complete};

@@ -5,7 +5,7 @@ use mathlib.Core.List.{List}
 use Prim.Native.Nat.{ℕ, zero, suc, ◌+◌, ◌≤◌, ◌<◌}
 use native.Mathlib.Omega.{arith}
 use lib.ListN.{get_or}
-use Rattle.model.specs.Tests.{if◌then◌else◌, ◌and◌, ◌or◌}
+use Rattle.model.specs.Tests.{when◌then◌else◌, ◌and◌, ◌or◌}
 use Rattle.model.specs.Counts.{entry_at, is_kind, some_below, count_below, out_whole, out_first}
 use Rattle.model.proofs.Tests.{and_left}
 use Rattle.judgement.specs.Judgement.{all_below, kept, listed}
@@ -61,8 +61,8 @@ module _ (v : ℕ) (l : List ℕ) (n : ℕ) (stored : List ℕ) (m : ℕ) (puts 
       (kept_put (get_or puts g.0 0) (G.put g.0 g.1) ∙ sym (marked_is g.0 g.1) ∙ g.2))
 
 -- no more first hand-outs than hand-outs
-fewer_at : (p q : Bool) (a b : ℕ) → (p ≡ true → q ≡ true) → a ≤ b → (if p then a + 1 else a) ≤ (if q then b + 1 else b)
-unfolding if◌then◌else◌
+fewer_at : (p q : Bool) (a b : ℕ) → (p ≡ true → q ≡ true) → a ≤ b → (when p then a + 1 else a) ≤ (when q then b + 1 else b)
+unfolding when◌then◌else◌
 fewer_at true true a b f h = omega (arith, h)
 fewer_at true false a b f h = absurd (clash (sym (f refl)))
 fewer_at false true a b f h = omega (arith, h)

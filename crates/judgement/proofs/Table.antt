@@ -4,7 +4,7 @@ use mathlib.Core.Path.{◌≡◌, refl}
 use mathlib.Core.List.{List, [], ◌∷◌, ◌++◌, map}
 use Prim.Native.Nat.{ℕ, ◌/◌, ◌%◌}
 use lib.ListN.{replicate}
-use Rattle.model.specs.Tests.{if◌then◌else◌, ◌and◌, ◌or◌}
+use Rattle.model.specs.Tests.{when◌then◌else◌, ◌and◌, ◌or◌}
 use Rattle.model.specs.Tasks.{gathered}
 use Rattle.model.specs.Counts.{some_below, count_below}
 use Rattle.judgement.specs.declared.Verdict.{Verdict}
@@ -92,7 +92,7 @@ table =
     ∷ []
 
 pub judgements : map (λ (r : Row). judged r.words (bytes_of r.log) (bytes_of r.stored)) table ≡ map (λ (r : Row). r.verdict) table
-unfolding judged words_of all_below some_below count_below if◌then◌else◌ ◌and◌ ◌or◌ gathered
+unfolding judged words_of all_below some_below count_below when◌then◌else◌ ◌and◌ ◌or◌ gathered
 judgements = refl
 
 -- lengths: 16 before 15 before 14, and 65,536 bytes are not too many
@@ -109,11 +109,11 @@ pub lengths :
     ∷ (replicate 15 0, replicate 65536 0)
     ∷ [])
     ≡ BadLength ∷ BadLength ∷ BadLength ∷ BadLength ∷ TooLong ∷ TooLong ∷ TooLong ∷ TooLong ∷ BadLength ∷ []
-unfolding judged if◌then◌else◌ ◌and◌
+unfolding judged when◌then◌else◌ ◌and◌
 lengths = refl
 
 pub width_first : judged 0 (replicate 65537 0) (replicate 3 0) ≡ PayloadWords
-unfolding judged if◌then◌else◌ ◌and◌
+unfolding judged when◌then◌else◌ ◌and◌
 width_first = refl
 
 pub numbers :
@@ -130,5 +130,5 @@ pub counts :
     ∷ judged 1 (replicate 65537 0) []
     ∷ [])
     ≡ (2, 1) ∷ (0, 0) ∷ (0, 0) ∷ (0, 0) ∷ []
-unfolding judged words_of all_below some_below count_below if◌then◌else◌ ◌and◌ ◌or◌ gathered
+unfolding judged words_of all_below some_below count_below when◌then◌else◌ ◌and◌ ◌or◌ gathered
 counts = refl

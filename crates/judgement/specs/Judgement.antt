@@ -1,7 +1,7 @@
 -- The judgement of a matcher's log, from its bytes: document 02, Wishes 1, 5 and 9. The entries are those of the bench's own log
 -- (model/specs/Counts): kind, worker, put number, and v payload words.
 use Rattle.std.specs.Prelude.{Bool, true, not, List, [], ◌∷◌, ℕ, zero, suc, ◌+◌, ◌-◌, ◌*◌, ◌/◌, ◌%◌, eqb, ltb, leb, length, get_or}
-use Rattle.model.specs.Tests.{if◌then◌else◌, ◌and◌, ◌or◌, unless◌then◌else◌}
+use Rattle.model.specs.Tests.{when◌then◌else◌, ◌and◌, ◌or◌, unless◌then◌else◌}
 use Rattle.model.specs.Tasks.{same_task}
 use Rattle.model.specs.Answers.{entry_length}
 use Rattle.model.specs.Limits.{words_ok}
@@ -65,7 +65,7 @@ repeats v l n = handouts v l n - count_below (out_first v l) n
 
 -- of the words of a log with n entries, and of a list of m numbers
 abbrev pub judged_words : ℕ → List ℕ → ℕ → List ℕ → ℕ → Verdict
-judged_words v l n stored m = if accepts v l n stored m then Accepted (handouts v l n) (repeats v l n) else No
+judged_words v l n stored m = when accepts v l n stored m then Accepted (handouts v l n) (repeats v l n) else No
 
 -- the bytes of an entry
 abbrev pub entry_bytes : ℕ → ℕ

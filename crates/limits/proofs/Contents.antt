@@ -9,7 +9,7 @@ use Rattle.model.specs.declared.Queue.{Queue}
 use Rattle.model.specs.declared.Region.{Region}
 use Rattle.model.specs.declared.Waiting.{Waiting}
 use Rattle.model.specs.declared.Bench.{Bench}
-use Rattle.model.specs.Tests.{if◌then◌else◌, ◌and◌}
+use Rattle.model.specs.Tests.{when◌then◌else◌, ◌and◌}
 use Rattle.model.specs.Memory.{size_at}
 use Rattle.model.specs.Stores.{in_line}
 use Rattle.model.specs.Lines.{size}
@@ -54,8 +54,8 @@ stands a true n w true x f e =
     rw (y, z, f, u)
 
 -- no bits or as many as the width
-pub narrow : (x : Bool) (w : ℕ) {r : ℕ} → r ≡ (if x then 0 else w) → w ≤ 16 → r ≤ 16
-unfolding if◌then◌else◌
+pub narrow : (x : Bool) (w : ℕ) {r : ℕ} → r ≡ (when x then 0 else w) → w ≤ 16 → r ≤ 16
+unfolding when◌then◌else◌
 narrow true w e h = omega (arith, e)
 narrow false w e h = omega (arith, e, h)
 

@@ -35,7 +35,7 @@ use Rattle.model.specs.declared.Line.TheVariants.{
 }
 use Rattle.model.specs.declared.Queue.{Queue}
 use Rattle.model.specs.declared.Worker.{Worker}
-use Rattle.model.specs.Tests.{if◌then◌else◌, ◌and◌, ◌or◌}
+use Rattle.model.specs.Tests.{when◌then◌else◌, ◌and◌, ◌or◌}
 use Rattle.model.specs.World.{line_at, stage, is_idle}
 use Rattle.model.specs.Limits.{line_ok, owner_ok, thieves_ok}
 use Rattle.limits.specs.declared.Scope.{Scope}
@@ -70,32 +70,32 @@ idle (StealNext r t) e = cc
 idle (StealCompare r x t) e = cc
 
 -- the tests of one worker, whatever each says
-same : {z : Bool} (t : Bool) {x y : Bool} → x ≡ z → y ≡ z → (if t then x else y) ≡ z
-unfolding if◌then◌else◌
+same : {z : Bool} (t : Bool) {x y : Bool} → x ≡ z → y ≡ z → (when t then x else y) ≡ z
+unfolding when◌then◌else◌
 same true e f = e
 same false e f = f
 
 by_hand : (t u b a c l m d : Bool) → u ≡ true → b ≡ false
-    → (if t then a and l else if u then (b or c) and m else d) ≡ ((if t then a else c) and (if t then l else m))
-unfolding if◌then◌else◌ ◌or◌
+    → (when t then a and l else when u then (b or c) and m else d) ≡ ((when t then a else c) and (when t then l else m))
+unfolding when◌then◌else◌ ◌or◌
 by_hand true u b a c l m d e f = refl
 by_hand false u b a c l m d e f = rw (e, f)
 
 -- the owner reads p, a thief q
-pub by_reader : {A : Type 0} (t : Bool) (f : Queue → A) (q p : Queue) → f (if t then p else q) ≡ (if t then f p else f q)
-unfolding if◌then◌else◌
+pub by_reader : {A : Type 0} (t : Bool) (f : Queue → A) (q p : Queue) → f (when t then p else q) ≡ (when t then f p else f q)
+unfolding when◌then◌else◌
 by_reader true f q p = refl
 by_reader false f q p = refl
 
 pub reached : (t : Bool) (S : Scope) (q p : Queue) → Scoped S q p
-    → Reached (if t then S.owner else S.memory) S.words S.first (if t then p else q)
-unfolding if◌then◌else◌
+    → Reached (when t then S.owner else S.memory) S.words S.first (when t then p else q)
+unfolding when◌then◌else◌
 reached true S q p (m, o) = o
 reached false S q p (m, o) = m
 
 pub in_reach : (t : Bool) (S : Scope) → S.memory.published ≤ 11 → S.owner.published ≤ 11
-    → (if t then S.owner else S.memory).published ≤ 11
-unfolding if◌then◌else◌
+    → (when t then S.owner else S.memory).published ≤ 11
+unfolding when◌then◌else◌
 in_reach true S m o = o
 in_reach false S m o = m
 
@@ -113,10 +113,10 @@ module _ (κ : Kind) (w v : ℕ) (q p : Queue) (n i : ℕ) where
     outside h k = if_false _ (ne_eqb i 0 (λ e. omega arith)) ∙ if_false _ (le-ltb i n k) ∙ ne_eqb (stage l) 0 busy
 
     pub inside : i < n
-        → member_ok κ w v q p n i l ≡ ((if eqb i 0 then ltb (stage l) 4 else ltb 3 (stage l)) and line_ok κ w v (if eqb i 0 then p else q) l)
+        → member_ok κ w v q p n i l ≡ ((when eqb i 0 then ltb (stage l) 4 else ltb 3 (stage l)) and line_ok κ w v (when eqb i 0 then p else q) l)
     inside h =
         by_hand (eqb i 0) (ltb i n) (eqb (stage l) 0) (ltb (stage l) 4) (ltb 3 (stage l)) _ _ _ (lt-ltb i n h) (ne_eqb (stage l) 0 busy)
-        ∙ ap (λ (x : Bool). (if eqb i 0 then ltb (stage l) 4 else ltb 3 (stage l)) and x)
+        ∙ ap (λ (x : Bool). (when eqb i 0 then ltb (stage l) 4 else ltb 3 (stage l)) and x)
         (sym (by_reader (eqb i 0) (λ (r : Queue). line_ok κ w v r l) q p))
 
 module _ (κ : Kind) (w v : ℕ) (q p : Queue) (n : ℕ) (l : List Worker) where
@@ -124,7 +124,7 @@ module _ (κ : Kind) (w v : ℕ) (q p : Queue) (n : ℕ) (l : List Worker) where
   member k = member_ok κ w v q p n k (line_at l k)
 
   pub turn : (k : ℕ) → workers_ok κ w v q p n l (suc k) ≡ (workers_ok κ w v q p n l k and member k)
-  unfolding if◌then◌else◌
+  unfolding when◌then◌else◌
   turn zero = and_true (owner_ok κ w v p (line_at l 0))
   turn (suc k) =
       and_assoc (owner_ok κ w v p (line_at l 0)) (thieves_ok κ w v q n l k) _

@@ -12,7 +12,7 @@ use borrow.Author.Tests.{eqb-true, ltb-true, leb-true}
 use Rattle.model.specs.declared.Line.{Line}
 use Rattle.model.specs.declared.Region.{Region}
 use Rattle.model.specs.declared.Queue.{Queue}
-use Rattle.model.specs.Tests.{if◌then◌else◌, ◌and◌}
+use Rattle.model.specs.Tests.{when◌then◌else◌, ◌and◌}
 use Rattle.model.specs.Memory.{nowhere, offset_at, length_at, size_at}
 use Rattle.model.specs.Limits.{tidy, directory_ok}
 use Rattle.ranges.specs.Doubles.{Doubled}
@@ -23,8 +23,8 @@ use Rattle.limits.proofs.Scan.{fails_by_lem}
 use Rattle.limits.proofs.Lengths.{never}
 
 -- every published array is claimed
-pub reaches : (x : Bool) (c p : ℕ) → eqb c (if x then p + 1 else p) ≡ true → p ≤ c
-unfolding if◌then◌else◌
+pub reaches : (x : Bool) (c p : ℕ) → eqb c (when x then p + 1 else p) ≡ true → p ≤ c
+unfolding when◌then◌else◌
 reaches true c p e = let h : c ≡ p + 1 = eqb-true _ _ e in omega arith
 reaches false c p e = let h : c ≡ p = eqb-true _ _ e in omega arith
 

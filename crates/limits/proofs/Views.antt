@@ -9,7 +9,7 @@ use borrow.Author.Tests.{le-leb, lt-leb}
 use Rattle.model.specs.declared.Queue.{Queue}
 use Rattle.model.specs.declared.Waiting.{Waiting}
 use Rattle.model.specs.declared.Bench.{Bench}
-use Rattle.model.specs.Tests.{if◌then◌else◌, ◌and◌}
+use Rattle.model.specs.Tests.{when◌then◌else◌, ◌and◌}
 use Rattle.model.specs.Stores.{Shared, shared, landed_all, in_line}
 use Rattle.model.proofs.Tests.{and_both, fails, and_false}
 use Rattle.waiting.specs.Places.{notes_ok, first_in}
@@ -27,14 +27,14 @@ unfolding notes_ok
 none_noted l e = ap (λ (n : ℕ). notes_ok (first_in l.stores n)) e
 
 pub none_held : (d : Bool) (l : Waiting) → l.count ≡ 0 → line_held d l ≡ true
-none_held d l e = and_both _ _ (le-leb l.count (if d then 8 else 0) (omega (arith, e))) (none_noted l e)
+none_held d l e = and_both _ _ (le-leb l.count (when d then 8 else 0) (omega (arith, e))) (none_noted l e)
 
 -- too many wait, or a note is none
-pub unheld_many : (d : Bool) (l : Waiting) → (if d then 8 else 0) < l.count → line_held d l ≡ false
-unheld_many d l h = fails (notes_ok (in_line l)) (lt-leb l.count (if d then 8 else 0) h)
+pub unheld_many : (d : Bool) (l : Waiting) → (when d then 8 else 0) < l.count → line_held d l ≡ false
+unheld_many d l h = fails (notes_ok (in_line l)) (lt-leb l.count (when d then 8 else 0) h)
 
 pub unheld_note : (d : Bool) (l : Waiting) → notes_ok (in_line l) ≡ false → line_held d l ≡ false
-unheld_note d l e = ap (λ (x : Bool). leb l.count (if d then 8 else 0) and x) e ∙ and_false _
+unheld_note d l e = ap (λ (x : Bool). leb l.count (when d then 8 else 0) and x) e ∙ and_false _
 
 -- a view, told or not
 abbrev Told : Bench → View → Type 0

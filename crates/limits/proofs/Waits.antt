@@ -12,7 +12,7 @@ use Rattle.model.specs.declared.Queue.{Queue}
 use Rattle.model.specs.declared.Store.{Store}
 use Rattle.model.specs.declared.Store.TheVariants.{StoreWord, StoreNote, StorePut, StoreOut, StoreHead, StoreTail}
 use Rattle.model.specs.declared.Region.{Region}
-use Rattle.model.specs.Tests.{if◌then◌else◌}
+use Rattle.model.specs.Tests.{when◌then◌else◌}
 use Rattle.model.specs.Memory.{offset_at, length_at, size_at}
 use Rattle.model.specs.Stores.{in_line, taken}
 use Rattle.model.specs.World.{World, memory, owners_view, tag_bits, line_at}
@@ -28,13 +28,13 @@ use Rattle.limits.proofs.Bounds.{bounds_of}
 use Rattle.limits.proofs.Directory.{Ordered, ordered, ends_before}
 
 -- eight with the mode, none without it
-pub most_eight : (d : Bool) → (if d then 8 else 0) ≤ 8
-unfolding if◌then◌else◌
+pub most_eight : (d : Bool) → (when d then 8 else 0) ≤ 8
+unfolding when◌then◌else◌
 most_eight true = omega arith
 most_eight false = omega arith
 
-pub at_most : (d : Bool) (n : ℕ) → leb n (if d then 8 else 0) ≡ true → n ≤ 8
-at_most d n e = let h : n ≤ (if d then 8 else 0) = leb-true _ _ e in omega (arith, h, most_eight d)
+pub at_most : (d : Bool) (n : ℕ) → leb n (when d then 8 else 0) ≡ true → n ≤ 8
+at_most d n e = let h : n ≤ (when d then 8 else 0) = leb-true _ _ e in omega (arith, h, most_eight d)
 
 -- notes
 note_in : (κ : Kind) (w v : ℕ) (p : Queue) (s : Store) → p.published ≤ 11 → store_ok κ w v p s ≡ true → note_ok s ≡ true

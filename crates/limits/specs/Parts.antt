@@ -7,7 +7,7 @@ use Rattle.model.specs.declared.Region.{Region}
 use Rattle.model.specs.declared.Waiting.{Waiting}
 use Rattle.model.specs.declared.Worker.{Worker}
 use Rattle.model.specs.declared.Bench.{Bench}
-use Rattle.model.specs.Tests.{if◌then◌else◌, ◌and◌}
+use Rattle.model.specs.Tests.{when◌then◌else◌, ◌and◌}
 use Rattle.model.specs.Lines.{size}
 use Rattle.model.specs.Stores.{in_line}
 use Rattle.model.specs.World.{tag_bits, line_at, is_idle}
@@ -50,7 +50,7 @@ follows_ok v p n =
 -- worker i at line l, in a crew of n; thieves read q, the owner p
 abbrev pub member_ok : Kind → ℕ → ℕ → Queue → Queue → ℕ → ℕ → Line → Bool
 member_ok κ w v q p n i l =
-    if eqb i 0 then owner_ok κ w v p l else if ltb i n then thief_ok κ w v q l else is_idle l
+    when eqb i 0 then owner_ok κ w v p l else when ltb i n then thief_ok κ w v q l else is_idle l
 
 -- the first k workers: the owner, and the thieves below k
 abbrev pub workers_ok : Kind → ℕ → ℕ → Queue → Queue → ℕ → List Worker → ℕ → Bool
@@ -59,7 +59,7 @@ workers_ok κ w v q p n l (suc k) = owner_ok κ w v p (line_at l 0) and thieves_
 
 -- a line whose stores can be put down: of a length that the mode allows, with notes that name places of the directory
 abbrev pub line_held : Bool → Waiting → Bool
-line_held d l = leb l.count (if d then 8 else 0) and notes_ok (in_line l)
+line_held d l = leb l.count (when d then 8 else 0) and notes_ok (in_line l)
 
 -- the limits on fresh's numbers, and on the directory, of which the owner reads n arrays as published
 abbrev pub frame_ok : Bench → ℕ → Bool

@@ -10,7 +10,7 @@
 
 ghost use Rattle.std.specs.Prelude.{◌≡◌, true, false, List, ℕ, ◌+◌, ◌-◌, ◌*◌, ◌≤◌, ◌<◌, eqb, ltb};
 ghost use Rattle.model.specs.declared.Queue.{Queue};
-ghost use Rattle.model.specs.Tests.{if◌then◌else◌, ◌and◌};
+ghost use Rattle.model.specs.Tests.{when◌then◌else◌, ◌and◌};
 ghost use Rattle.model.specs.Memory.{size_at};
 ghost use Rattle.model.specs.Lines.{size};
 ghost use Rattle.model.specs.World.{owners_view, line_at, is_idle, is_expanding};
@@ -82,7 +82,7 @@ fn tidy(words: u32, queue: Queue) -> bool
 
 // An array is claimed and unpublished exactly while the owner expands.
 fn claims_ok(published: u32, claimed: u32, owner: Line) -> bool
-    ensures { result ≡ eqb claimed (if is_expanding owner then published + 1 else published) }
+    ensures { result ≡ eqb claimed (when is_expanding owner then published + 1 else published) }
 {
     if stages::stage(owner) == 2 {
         claimed as u64 == published as u64 + 1
@@ -115,7 +115,7 @@ fn directory_ok(words: u32, queue: Queue, seen: u32, owner: Line) -> bool
 
 // A worker that is not idle is at a line of its own operation: the owner's put or take, a thief's steal.
 fn own_line(worker: u32, at: u32) -> bool
-    ensures { result ≡ (if eqb worker 0 then ltb at 4 else ltb 3 at) }
+    ensures { result ≡ (when eqb worker 0 then ltb at 4 else ltb 3 at) }
 {
     if worker == 0 { at < 4 } else { 3 < at }
 }
@@ -141,7 +141,7 @@ struct Scope {
 }
 
 fn reach_of(scope: Scope, worker: u32) -> Reach
-    ensures { result ≡ (if eqb worker 0 then scope.owner else scope.memory) }
+    ensures { result ≡ (when eqb worker 0 then scope.owner else scope.memory) }
 {
     if worker == 0 {
         return scope.owner;
@@ -247,7 +247,7 @@ struct View {
 
 // At most 8 stores wait, and none without the mode.
 fn most_waiting(delayed: bool) -> u32
-    ensures { result ≡ (if delayed then 8 else 0) }
+    ensures { result ≡ (when delayed then 8 else 0) }
 {
     if delayed { 8 } else { 0 }
 }

@@ -10,7 +10,7 @@ use borrow.Author.Tests.{eqb-true, leb-true, ltb-true}
 use Rattle.model.specs.declared.Line.{Line}
 use Rattle.model.specs.declared.Region.{Region}
 use Rattle.model.specs.declared.Queue.{Queue}
-use Rattle.model.specs.Tests.{if◌then◌else◌}
+use Rattle.model.specs.Tests.{when◌then◌else◌}
 use Rattle.model.specs.Memory.{offset_at, length_at, size_at}
 use Rattle.model.specs.World.{is_expanding}
 use Rattle.model.specs.Stores.{taken}
@@ -87,14 +87,14 @@ pub record Arrays (v : ℕ) (q : Queue) (n : ℕ) : Type 0 where
   pub doubled : (k : ℕ) → k < q.claimed → size_at v q.arrays k ≡ q.initial * 2 ^ k
   pub fits : taken q ≤ n
 
-grown : (x : Bool) (p : ℕ) → p ≤ (if x then p + 1 else p)
-unfolding if◌then◌else◌
+grown : (x : Bool) (p : ℕ) → p ≤ (when x then p + 1 else p)
+unfolding when◌then◌else◌
 grown true p = omega arith
 grown false p = omega arith
 
 -- q is the queue in memory, r as the worker reads it; p arrays are published for the owner, which is at line o
 module _ (v : ℕ) (q : Queue) (p : ℕ) (o : Line) (t : directory_ok v q p o ≡ true) where
-  pub told : q.claimed ≡ (if is_expanding o then p + 1 else p)
+  pub told : q.claimed ≡ (when is_expanding o then p + 1 else p)
   told = eqb-true _ _ (and_left _ _ (and_right _ _ (and_right _ _ (and_right _ _ t))))
 
   pub in_memory : (0 < q.published) × (q.published ≤ p)

@@ -43,7 +43,7 @@ use Rattle.model.specs.declared.Queue.{Queue}
 use Rattle.model.specs.declared.Room.{Room}
 use Rattle.model.specs.declared.Worker.{Worker}
 use Rattle.model.specs.declared.Bench.{Bench}
-use Rattle.model.specs.Tests.{if◌then◌else◌, ◌or◌}
+use Rattle.model.specs.Tests.{when◌then◌else◌, ◌or◌}
 use Rattle.model.specs.Memory.{size_at}
 use Rattle.model.specs.Figures.{slot, put_index, take_index, steal_index}
 use Rattle.model.specs.Stores.{in_line, taken}
@@ -170,7 +170,7 @@ noted_in Deque h j e = let o : h < 2048 = ltb-true _ _ e in omega (arith, o)
 
 -- at line l: one array more is claimed than published, or none
 abbrev Told : Queue → Line → Type 0
-Told q l = q.claimed ≡ (if is_expanding l then q.published + 1 else q.published)
+Told q l = q.claimed ≡ (when is_expanding l then q.published + 1 else q.published)
 
 -- each line, from its own limits and the directory; q is the queue as its worker reads it
 module _ (κ : Kind) (w v : ℕ) (q : Queue) (n : ℕ) (A : Arrays v q n) where
@@ -333,17 +333,17 @@ module _ {ρ : Room} (W : World) (v : Within ρ W) where
 
   -- the waiting line has eight places, and without the mode none waits
   pub few_within : W.bench.waiting.count ≤ 8
-  unfolding if◌then◌else◌
+  unfolding when◌then◌else◌
   few_within = by W.bench.delayed (leb-true _ _ (and_left _ _ (limits_of W v).waiting))
     where
-      by : (d : Bool) → W.bench.waiting.count ≤ (if d then 8 else 0) → W.bench.waiting.count ≤ 8
+      by : (d : Bool) → W.bench.waiting.count ≤ (when d then 8 else 0) → W.bench.waiting.count ≤ 8
       by true h = h
       by false h = omega (arith, h)
 
   pub none_within : W.bench.delayed ≡ false → W.bench.waiting.count ≡ 0
   none_within e =
-      let h : W.bench.waiting.count ≤ (if W.bench.delayed then 8 else 0) = leb-true _ _ (and_left _ _ (limits_of W v).waiting) in
-      let n : ◌≡◌ {A = ℕ} (if W.bench.delayed then 8 else 0) 0 = if_false 8 e in omega (arith, h, n)
+      let h : W.bench.waiting.count ≤ (when W.bench.delayed then 8 else 0) = leb-true _ _ (and_left _ _ (limits_of W v).waiting) in
+      let n : ◌≡◌ {A = ℕ} (when W.bench.delayed then 8 else 0) 0 = if_false 8 e in omega (arith, h, n)
 
   -- a link is held in a linked queue, past line 1 of a steal
   pub link_within : (i : ℕ) → i < 8 → holds_link W.bench.queue i ≡ true

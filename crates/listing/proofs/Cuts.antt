@@ -11,7 +11,7 @@ use lib.Seq.{take-suc-set, take-suc, drop-set-lt, get_or-drop, drop-drop, take_a
 use borrow.Author.Tests.{ltb-true, ltb-false}
 use Rattle.model.specs.declared.Command.{Command}
 use Rattle.model.specs.declared.Command.TheVariants as command
-use Rattle.model.specs.Tests.{if◌then◌else◌}
+use Rattle.model.specs.Tests.{when◌then◌else◌}
 use Rattle.model.specs.Listing.{Program, ended, respond, listing_from}
 use Rattle.text.specs.Words.{lines, head, tail}
 use Rattle.text.specs.Commands.{command_of}
@@ -148,7 +148,7 @@ carried buf from n to r after e f g = record { count = sym (ap length (sym same)
 
 -- Whatever the chunks are, what is written is the listing of the whole input.
 pub any_cut : {P : Program} {buf text : List ℕ} {cs : List (List ℕ)} → Stream P buf cs text → listing_of P (buf ++ whole cs) ≡ text
-unfolding whole if◌then◌else◌
+unfolding whole when◌then◌else◌
 any_cut {P} {buf} (reads {c = c} {cs = cs} s) = ap (listing_of P) (sym (append_assoc buf c (whole cs))) ∙ any_cut s
 any_cut (consumes {buf = buf} {cs = cs} f m l out by e s) =
     by.shows (whole cs) ∙ ap (λ (Q : Program). take f.wrote out ++ listing_of Q (drop f.used buf ++ whole cs)) (left_on f.stops f.session m l e) ∙ ap (λ (t : List ℕ). take f.wrote out ++ t) (any_cut s)

@@ -8,7 +8,7 @@ use mathlib.Core.List.{List, [], ◌∷◌, ◌++◌}
 use lib.ListN.{length, take, drop}
 use lib.Dec.{eqb}
 use borrow.Author.Tests.{eq-eqb, ne_eqb, eqb-true, eqb-false}
-use Rattle.model.specs.Tests.{if◌then◌else◌}
+use Rattle.model.specs.Tests.{when◌then◌else◌}
 use Rattle.text.specs.Words.{onto, lines, head, tail}
 use Rattle.listing.specs.Listing.{until_newline, Open}
 
@@ -24,19 +24,19 @@ unfolding until_newline
 front_none = refl
 
 pub front_newline : (b : ℕ) (s : List ℕ) → b ≡ 10 → until_newline (b ∷ s) ≡ []
-unfolding until_newline if◌then◌else◌
+unfolding until_newline when◌then◌else◌
 front_newline b s e = rw (eq-eqb b 10 e)
 
 pub front_more : (b : ℕ) (s : List ℕ) → (b ≡ 10 → ⊥) → until_newline (b ∷ s) ≡ b ∷ until_newline s
-unfolding until_newline if◌then◌else◌
+unfolding until_newline when◌then◌else◌
 front_more b s h = rw (ne_eqb b 10 h)
 
 lines_newline : (b : ℕ) (s : List ℕ) → b ≡ 10 → lines (b ∷ s) ≡ [] ∷ lines s
-unfolding lines if◌then◌else◌
+unfolding lines when◌then◌else◌
 lines_newline b s e = rw (eq-eqb b 10 e)
 
 lines_more : (b : ℕ) (s : List ℕ) → (b ≡ 10 → ⊥) → lines (b ∷ s) ≡ onto b (lines s)
-unfolding lines if◌then◌else◌
+unfolding lines when◌then◌else◌
 lines_more b s h = rw (ne_eqb b 10 h)
 
 pub front_take : (s : List ℕ) → take (length (until_newline s)) s ≡ until_newline s

@@ -10,7 +10,7 @@ use Rattle.model.specs.declared.Operation.TheVariants.{Put, Take, Steal}
 use Rattle.model.specs.declared.Command.{Command}
 use Rattle.model.specs.declared.Command.TheVariants.{Open, BeginPut, BeginTake, BeginSteal, Steps, Who, End, Bad}
 use Rattle.model.specs.declared.Answer.TheVariants.{Accepted}
-use Rattle.model.specs.Tests.{if◌then◌else◌}
+use Rattle.model.specs.Tests.{when◌then◌else◌}
 use Rattle.model.specs.World.{World, Outcome}
 use Rattle.model.specs.Limits.{valid_of}
 use Rattle.model.specs.Calls.{fresh_of, setup, Call, call_of, begin, step, step_of}
@@ -52,10 +52,10 @@ pub live_valid : {W : World} → Live W → valid_of W ≡ true
 live_valid r = reached_valid r.reached
 
 opened_reach : (m l : List ℕ) (d : Outcome) → (is_refused d.answer ≡ false → Live d.world) → Reachable (opened (waiting m l) d).program
-unfolding if◌then◌else◌
+unfolding when◌then◌else◌
 opened_reach m l d h = go (is_refused d.answer) refl
   where
-    go : (b : Bool) → is_refused d.answer ≡ b → Reachable (if b then waiting m l else playing d.world)
+    go : (b : Bool) → is_refused d.answer ≡ b → Reachable (when b then waiting m l else playing d.world)
     go true e = tt
     go false e = h e
 

@@ -14,7 +14,7 @@ use Rattle.model.specs.declared.Command.{Command}
 use Rattle.model.specs.declared.Command.TheVariants.{Open, BeginPut, BeginTake, BeginSteal, Steps, Who, End, Bad}
 use Rattle.model.specs.declared.Answer.{Answer}
 use Rattle.model.specs.declared.Answer.TheVariants.{Refused}
-use Rattle.model.specs.Tests.{if◌then◌else◌}
+use Rattle.model.specs.Tests.{when◌then◌else◌}
 use Rattle.model.specs.Stores.{Shared}
 use Rattle.model.specs.Lines.{line_step}
 use Rattle.model.specs.World.{World, Outcome, room_alone, tag_bits, line_at}
@@ -63,7 +63,7 @@ pub standing_start : (s : Session) (buf m l out : List ℕ) → Reachable (progr
 standing_start s buf m l out r = record { within = omega arith; fits = omega arith; shows = λ z. refl; reach = r }
 
 pub reach_over : (s : Session) (m l : List ℕ) → Reachable (left_by true s m l)
-unfolding if◌then◌else◌
+unfolding when◌then◌else◌
 reach_over s m l = tt
 
 -- a line was played, and did not end the program, or did
@@ -102,7 +102,7 @@ refusal_room v r at n h = omega (arith, answer_most v (Refused r))
 
 -- a line that asks for steps
 asked_steps : (v : Bool) (c : Command) (i n : ℕ) → asked_of v c ≡ Step i n → (v ≡ true) × (c ≡ Steps i n)
-unfolding if◌then◌else◌
+unfolding when◌then◌else◌
 asked_steps v (Open k w z x s y) i n e = absurd (let z : ◌≡◌ {A = ℕ} 0 1 = cc in let b : ⊥ = omega arith in b)
 asked_steps v (BeginPut y p) i n e = absurd (let z : ◌≡◌ {A = ℕ} 0 1 = cc in let b : ⊥ = omega arith in b)
 asked_steps v BeginTake i n e = absurd (let z : ◌≡◌ {A = ℕ} 0 1 = cc in let b : ⊥ = omega arith in b)

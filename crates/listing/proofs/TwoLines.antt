@@ -13,7 +13,7 @@ use Rattle.model.specs.declared.Line.{Line}
 use Rattle.model.specs.declared.Worker.{Worker}
 use Rattle.model.specs.declared.Answer.{Answer}
 use Rattle.model.specs.declared.Answer.TheVariants.{Accepted, Numbered, GoesOn, Finished, HandedOut, Empty, Full, Grown, Refused}
-use Rattle.model.specs.Tests.{if◌then◌else◌}
+use Rattle.model.specs.Tests.{when◌then◌else◌}
 use Rattle.model.specs.Answers.{ends}
 use Rattle.model.specs.Lines.{Effect}
 use Rattle.model.specs.declared.Room.{Room}
@@ -81,21 +81,21 @@ abbrev Refuses : Outcome → Type 0
 Refuses d = is_refused d.answer ≡ true
 
 idle_refused : (W : World) (i : ℕ) → is_idle (line_at W.bench.workers i) ≡ true → Refuses (step_of W i)
-unfolding step_of if◌then◌else◌
+unfolding step_of when◌then◌else◌
 idle_refused W i e =
     either Refuses (valid_of W) _ _
     (either Refuses (ltb i W.bench.crew) _ _
-    (ap (λ (b : Bool). is_refused (if b then refuse W Rattle.model.specs.declared.Refusal.TheVariants.IdleWorker else commit (room_alone W) W i (next_effect (room_alone W) W i)).answer) e)
+    (ap (λ (b : Bool). is_refused (when b then refuse W Rattle.model.specs.declared.Refusal.TheVariants.IdleWorker else commit (room_alone W) W i (next_effect (room_alone W) W i)).answer) e)
     refl)
     refl
 
 pub steps_refused : (W : World) (i m : ℕ) → is_refused (step_of W i).answer ≡ true → steps_of W i (suc m) ≡ showing (step_of W i)
-unfolding steps_of if◌then◌else◌
+unfolding steps_of when◌then◌else◌
 steps_refused W i m e = rw e
 
 pub steps_made_lem : (W : World) (i m : ℕ) → is_refused (step_of W i).answer ≡ false →
     steps_of W i (suc m) ≡ response (steps_of (step_of W i).world i m).program (printed_by (step_of W i) ++ (steps_of (step_of W i).world i m).output)
-unfolding steps_of if◌then◌else◌
+unfolding steps_of when◌then◌else◌
 steps_made_lem W i m e = rw e
 
 -- Whatever is counted of what is printed: a `step` line prints at most twice what an answer can.

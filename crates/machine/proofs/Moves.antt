@@ -17,7 +17,7 @@ use Rattle.model.specs.declared.Waiting.{Waiting}
 use Rattle.model.specs.declared.Bench.{Bench}
 use Rattle.model.specs.declared.Answer.{Answer}
 use Rattle.model.specs.declared.Refusal.TheVariants.{LogFull}
-use Rattle.model.specs.Tests.{if◌then◌else◌, ◌and◌, ◌or◌}
+use Rattle.model.specs.Tests.{when◌then◌else◌, ◌and◌, ◌or◌}
 use Rattle.model.specs.Memory.{set_all}
 use Rattle.model.specs.Answers.{ends, entry_of, entry_length, entry_words, logged}
 use Rattle.model.specs.Stores.{Shared, shared, anchored, publishing, landed, landed_all, joined, claimed_by}
@@ -36,8 +36,8 @@ use Rattle.machine.specs.Steps.{bench_of, with_array, bench_after, answer_after,
 use Rattle.machine.proofs.Landing.{copies_leave, claims_land, anchor_lands}
 
 -- no bits or as many as the width
-pub few_bits : (x : Bool) (w : ℕ) {r : ℕ} → r ≡ (if x then 0 else w) → w ≤ 16 → r ≤ 16
-unfolding if◌then◌else◌
+pub few_bits : (x : Bool) (w : ℕ) {r : ℕ} → r ≡ (when x then 0 else w) → w ≤ 16 → r ≤ 16
+unfolding when◌then◌else◌
 few_bits true w e h = omega (arith, e)
 few_bits false w e h = omega (arith, e, h)
 
@@ -118,11 +118,11 @@ pub record Prompt (b : Bench) (i : ℕ) (E : Effect) : Type 0 where
 abbrev counted : World → ℕ → Line → Answer → List ℕ → Queue → Waiting → ℕ → List ℕ → Outcome
 counted W i x a n q s o m =
     let b = W.bench in
-    if ends a and log_full b.words W.log b.written then refuse W LogFull
+    when ends a and log_full b.words W.log b.written then refuse W LogFull
     else record {
       world =
           lent
-          (bench_of b.kind b.width b.words b.crew q (if ends a then b.written + entry_length b.words else b.written) b.delayed s o b.used n
+          (bench_of b.kind b.width b.words b.crew q (when ends a then b.written + entry_length b.words else b.written) b.delayed s o b.used n
           (set b.workers i (record { line = x }))) m
           (logged b.words W.log b.written a);
       answer = a;
@@ -135,7 +135,7 @@ module _ (ρ : Room) (b : Bench) (i : ℕ) (from to : Line) (m l : List ℕ) (at
 
   -- the words set aside are gone exactly if the line claims
   abbrev unclaimed : Bool → ℕ
-  unclaimed x = if x then 0 else b.aside
+  unclaimed x = when x then 0 else b.aside
 
   abbrev kept_aside : Action → ℕ
   kept_aside d = unclaimed (claims_by d)
@@ -170,12 +170,12 @@ module _ (ρ : Room) (b : Bench) (i : ℕ) (from to : Line) (m l : List ℕ) (at
   -- the action counts a restart exactly if the compare fails
   commits : (E : Effect) (d : Action) {p q : Queue} → Prompt b i E → Does ρ b.words E d → E.line ≡ to → fails_by d ≡ fails_compare b.kind b.queue i from
       → (left d).queue ≡ p → relinked p i from to ≡ q
-      → commit ρ (lent b m l) i E ≡ counted (lent b m l) i to (answer_by d) (if fails_by d then raised b.restarts i else b.restarts) q b.waiting (kept_aside d) (left d).store
+      → commit ρ (lent b m l) i E ≡ counted (lent b m l) i to (answer_by d) (when fails_by d then raised b.restarts i else b.restarts) q b.waiting (kept_aside d) (left d).store
   commits E d {q = q} P D e f p g =
       by_stores E d P D e
-      ∙ ap (λ (x : Bool). counted (lent b m l) i to (answer_by d) (if x then raised b.restarts i else b.restarts) (relinked (left d).queue i (line_at b.workers i) to) b.waiting (kept_aside d) (left d).store)
+      ∙ ap (λ (x : Bool). counted (lent b m l) i to (answer_by d) (when x then raised b.restarts i else b.restarts) (relinked (left d).queue i (line_at b.workers i) to) b.waiting (kept_aside d) (left d).store)
       (ap (fails_compare b.kind b.queue i) at ∙ sym f)
-      ∙ ap (λ (q : Queue). counted (lent b m l) i to (answer_by d) (if fails_by d then raised b.restarts i else b.restarts) q b.waiting (kept_aside d) (left d).store)
+      ∙ ap (λ (q : Queue). counted (lent b m l) i to (answer_by d) (when fails_by d then raised b.restarts i else b.restarts) q b.waiting (kept_aside d) (left d).store)
       (ap (λ (y : Line). relinked (left d).queue i y to) at ∙ ap (λ (x : Queue). relinked x i from to) p ∙ g)
 
   -- an action carried out is the line committed that it does
@@ -183,11 +183,11 @@ module _ (ρ : Room) (b : Bench) (i : ℕ) (from to : Line) (m l : List ℕ) (at
     -- a last line that stores the anchor
     ended : (s : Store) (y : Answer) → Does ρ b.words E (action.Ends s y) → of_anchor s ≡ true → ends y ≡ true
         → fails_by (action.Ends s y) ≡ fails_compare b.kind b.queue i from → Leads b.queue i from to (action.Ends s y)
-        → moved_by b i to (if log_full b.words l b.written then made.Refused LogFull else made.Ends (after_store b.queue.anchor s) y) (left (action.Ends s y)).store (log_after b.words b.written l (action.Ends s y))
+        → moved_by b i to (when log_full b.words l b.written then made.Refused LogFull else made.Ends (after_store b.queue.anchor s) y) (left (action.Ends s y)).store (log_after b.words b.written l (action.Ends s y))
         ≡ commit ρ (lent b m l) i E
-    unfolding log_after bench_after answer_after claims_by stores_by landed_all answer_by fails_by if◌then◌else◌ ◌and◌
+    unfolding log_after bench_after answer_after claims_by stores_by landed_all answer_by fails_by when◌then◌else◌ ◌and◌
     ended s y D o h f L =
-        ap (λ (x : List ℕ). moved_by b i to (if log_full b.words l b.written then made.Refused LogFull else made.Ends (after_store b.queue.anchor s) y) x (log_after b.words b.written l (action.Ends s y))) kept
+        ap (λ (x : List ℕ). moved_by b i to (when log_full b.words l b.written then made.Refused LogFull else made.Ends (after_store b.queue.anchor s) y) x (log_after b.words b.written l (action.Ends s y))) kept
         ∙ sym
         (commits E (action.Ends s y) P D e f (ap (λ (S : Shared). S.queue) lands)
         (unlink (anchored b.queue a) i from to (L.rests h) ∙ link_kept (anchored b.queue a) i false (none_held 8 i))
@@ -205,14 +205,14 @@ module _ (ρ : Room) (b : Bench) (i : ℕ) (from to : Line) (m l : List ℕ) (at
 
         full : (z : Bool) → log_full b.words l b.written ≡ z
             → counted (lent b m l) i to y b.restarts (anchored b.queue a) b.waiting b.aside m
-            ≡ moved_by b i to (if z then made.Refused LogFull else made.Ends a y) m (if z then l else set_all l b.written (entry_words b.words (entry_of y)))
+            ≡ moved_by b i to (when z then made.Refused LogFull else made.Ends a y) m (when z then l else set_all l b.written (entry_words b.words (entry_of y)))
         full true q = rw (h, q)
         full false q = rw (h, q)
 
     pub acted : (d : Action) (n : ℕ) → Does ρ b.words E d → Doable b.words b.queue n d
         → fails_by d ≡ fails_compare b.kind b.queue i from → Leads b.queue i from to d
         → moved_by b i to (acted_by b.words b.written l b.queue d) (left d).store (log_after b.words b.written l d) ≡ commit ρ (lent b m l) i E
-    unfolding acted_by made_by concluded_by log_after bench_after answer_after claims_by PlacedIn stores_by landed_all answer_by fails_by Doable Lands Concludes if◌then◌else◌ ◌and◌
+    unfolding acted_by made_by concluded_by log_after bench_after answer_after claims_by PlacedIn stores_by landed_all answer_by fails_by Doable Lands Concludes when◌then◌else◌ ◌and◌
     acted action.Nothing n D h f L = sym (commits E action.Nothing P D e f refl (relink b.queue i from to L.plain (λ e. L.stays (L.held e) refl refl)))
     acted action.Fails n D h f L = sym (commits E action.Fails P D e f refl (relink b.queue i from to L.plain (L.fails refl)))
     acted (action.Stores (StoreWord k t j x)) n D h f L =
@@ -237,7 +237,7 @@ module _ (ρ : Room) (b : Bench) (i : ℕ) (from to : Line) (m l : List ℕ) (at
       where
         full : (z : Bool) → log_full b.words l b.written ≡ z
             → counted (lent b m l) i to y b.restarts (link_set b.queue i false) b.waiting b.aside m
-            ≡ moved_by b i to (if z then made.Refused LogFull else made.Stops y) m (if z then l else set_all l b.written (entry_words b.words (entry_of y)))
+            ≡ moved_by b i to (when z then made.Refused LogFull else made.Stops y) m (when z then l else set_all l b.written (entry_words b.words (entry_of y)))
         full true q = rw (h, q)
         full false q = rw (h, q)
     acted (action.Ends (StoreWord k t j x) y) n D h f L = absurd h.0
@@ -249,7 +249,7 @@ module _ (ρ : Room) (b : Bench) (i : ℕ) (from to : Line) (m l : List ℕ) (at
       where
         full : (z : Bool) → log_full b.words l b.written ≡ z
             → counted (lent b m l) i to y b.restarts (link_set (publishing b.queue b.queue.published) i false) b.waiting b.aside m
-            ≡ moved_by b i to (if z then made.Refused LogFull else made.Grows y) m (if z then l else set_all l b.written (entry_words b.words (entry_of y)))
+            ≡ moved_by b i to (when z then made.Refused LogFull else made.Grows y) m (when z then l else set_all l b.written (entry_words b.words (entry_of y)))
         full true q = rw (h.1, q)
         full false q = rw (h.1, q)
     acted (action.Ends (StorePut a) y) n D h f L = ended (StorePut a) y D refl h.1 f L
@@ -260,15 +260,15 @@ module _ (ρ : Room) (b : Bench) (i : ℕ) (from to : Line) (m l : List ℕ) (at
   -- and the line that links
   pub linked_line : Prompt b i (goes to) → (b.queue.linked and is_steal1 from) ≡ true → fails_compare b.kind b.queue i from ≡ false → is_past1 to ≡ true
       → moved_by b i to made.Links m l ≡ commit ρ (lent b m l) i (goes to)
-  unfolding bench_after answer_after claims_by PlacedIn stores_by answer_by fails_by landed_all if◌then◌else◌ ◌and◌
+  unfolding bench_after answer_after claims_by PlacedIn stores_by answer_by fails_by landed_all when◌then◌else◌ ◌and◌
   linked_line P e f p = sym (commits (goes to) action.Nothing P (record { claims = refl; place = tt; stores = refl; answer = refl }) refl (sym f) refl (link b.queue i from to e p))
 
 -- what ends an operation fits where its entry is logged
-logged_fits : (v : ℕ) (q : Queue) (k : ℕ) (l : List ℕ) (d : Made) → (k + entry_length v ≤ 4294967295 → Fits v q k d) → Fits v q k (if log_full v l k then made.Refused LogFull else d)
-unfolding if◌then◌else◌ Fits
+logged_fits : (v : ℕ) (q : Queue) (k : ℕ) (l : List ℕ) (d : Made) → (k + entry_length v ≤ 4294967295 → Fits v q k d) → Fits v q k (when log_full v l k then made.Refused LogFull else d)
+unfolding when◌then◌else◌ Fits
 logged_fits v q k l d f = go (log_full v l k) refl
   where
-    go : (z : Bool) → log_full v l k ≡ z → Fits v q k (if z then made.Refused LogFull else d)
+    go : (z : Bool) → log_full v l k ≡ z → Fits v q k (when z then made.Refused LogFull else d)
     go true e = tt
     go false e = f (room_counts v k l e)
 

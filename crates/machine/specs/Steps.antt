@@ -13,7 +13,7 @@ use Rattle.model.specs.declared.Bench.{Bench}
 use Rattle.model.specs.declared.Refusal.TheVariants.{NoSuchWorker, IdleWorker, LogFull, WaitingFull}
 use Rattle.model.specs.declared.Answer.{Answer}
 use Rattle.model.specs.declared.Answer.TheVariants.{GoesOn, Refused}
-use Rattle.model.specs.Tests.{if◌then◌else◌}
+use Rattle.model.specs.Tests.{when◌then◌else◌}
 use Rattle.model.specs.Memory.{set_all}
 use Rattle.model.specs.Answers.{ends, entry_of, entry_length, entry_words}
 use Rattle.model.specs.Stores.{Shared, anchored, publishing, landed_all, claimed_by}
@@ -107,7 +107,7 @@ moved_by b i x d m l = record { world = lent (bench_after b i x d) m l; answer =
 
 -- an answer logged behind k written words, where the log l has room for its entry; a task has v payload words
 abbrev pub log_by : ℕ → ℕ → List ℕ → Answer → List ℕ
-log_by v k l a = if log_full v l k then l else set_all l k (entry_words v (entry_of a))
+log_by v k l a = when log_full v l k then l else set_all l k (entry_words v (entry_of a))
 
 -- what an action leaves of the shared words, once it has claimed in the room ρ and its stores have landed
 abbrev pub left_by : Room → ℕ → Shared → Action → Shared
@@ -138,9 +138,9 @@ acted_by v k l q action.Fails = made.Fails
 acted_by v k l q (action.Stores s) = made_by s
 acted_by v k l q (action.Copies p t u) = made.Nothing
 acted_by v k l q (action.Claims a z) = made.Claims a z
-acted_by v k l q (action.Stops y) = if log_full v l k then made.Refused LogFull else made.Stops y
+acted_by v k l q (action.Stops y) = when log_full v l k then made.Refused LogFull else made.Stops y
 acted_by v k l q (action.Ends s y) =
-    if log_full v l k then made.Refused LogFull else concluded_by q.anchor s y
+    when log_full v l k then made.Refused LogFull else concluded_by q.anchor s y
 
 unfoldable pub log_after : ℕ → ℕ → List ℕ → Action → List ℕ
 log_after v k l action.Nothing = l
@@ -176,7 +176,7 @@ pub record Steppable (ρ : Room) (κ : Kind) (w v n : ℕ) (q : Queue) (z i : �
 
 -- the effect of the line y of worker i, on the queue q and the store m, where the tag has w bits and X1 finds the room ρ
 abbrev pub effect_on : Room → Kind → ℕ → ℕ → Queue → List ℕ → ℕ → Line → Effect
-effect_on ρ κ w v q m i y = line_step ρ κ (if q.linked then 0 else w) v q m i y
+effect_on ρ κ w v q m i y = line_step ρ κ (when q.linked then 0 else w) v q m i y
 
 -- a step of worker i, at the line y of a queue q and a store m, of which nothing is done yet: refused 6 or 8, or its action
 -- waits; line 1 of a steal is never the owner's

@@ -9,7 +9,7 @@ use lib.Dec.{eqb}
 use lib.ListN.{length, get_or, set}
 use lib.Seq.{get_or-set_same, get_or-set_other}
 use borrow.Author.Tests.{eq-eqb, ne_eqb, eqb-true, eqb-false}
-use Rattle.model.specs.Tests.{if◌then◌else◌, ◌and◌, ◌or◌}
+use Rattle.model.specs.Tests.{when◌then◌else◌, ◌and◌, ◌or◌}
 use Rattle.model.specs.declared.Task.{Task}
 use Rattle.model.specs.Tasks.{same_task}
 use Rattle.model.specs.Counts.{entry_at, is_kind, some_below, count_below, out_as, out_whole, out_first}
@@ -130,11 +130,11 @@ module _ (v : ℕ) (l : List ℕ) (n : ℕ) (puts : List ℕ) (c : ℕ) (G : Gat
     was_out stored seen y false q M s = let m = M k b in sym (rw q at m) ∙ s
 
   count_same : (p : ℕ → Bool) (j m : ℕ) → m ≡ count_below p j → p j ≡ false → m ≡ count_below p (j + 1)
-  unfolding count_below if◌then◌else◌
+  unfolding count_below when◌then◌else◌
   count_same p j m e h = e ∙ rw (add-one j, h)
 
   count_more : (p : ℕ → Bool) (j m : ℕ) → m ≡ count_below p j → p j ≡ true → m + 1 ≡ count_below p (j + 1)
-  unfolding count_below if◌then◌else◌
+  unfolding count_below when◌then◌else◌
   count_more p j m e h = rw (add-one j, h, e)
 
   module _ (j outs firsts : ℕ) (seen : List ℕ) (T : Told v l puts c j outs firsts seen) where

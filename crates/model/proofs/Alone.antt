@@ -12,7 +12,7 @@ use Rattle.model.specs.declared.Region.{Region}
 use Rattle.model.specs.declared.Queue.{Queue}
 use Rattle.model.specs.declared.Bench.{Bench}
 use Rattle.model.specs.declared.Line.{Line}
-use Rattle.model.specs.Tests.{least, if◌then◌else◌}
+use Rattle.model.specs.Tests.{least, when◌then◌else◌}
 use Rattle.model.specs.Memory.{end_at, words_to, usable}
 use Rattle.model.specs.Stores.{taken, words_taken}
 use Rattle.model.specs.World.{World, owners_view, room_alone, is_expanding, line_at}
@@ -69,11 +69,11 @@ directory_of b q p h =
 pub tidy_of : (v : ℕ) (q : Queue) (p : ℕ) (o : Line) → directory_ok v q p o ≡ true → tidy v q.arrays q.claimed ≡ true
 tidy_of v q p o h =
     and_left _ _
-    (and_right (eqb q.claimed (if is_expanding o then p + 1 else p)) _
+    (and_right (eqb q.claimed (when is_expanding o then p + 1 else p)) _
     (and_right (leb q.claimed 11) _ (and_right (leb q.published p) _ (and_right (ltb 0 q.published) _ h))))
 
-at_least : (x : Bool) (p : ℕ) → 0 < p → (n : ℕ) → n ≡ (if x then p + 1 else p) → 0 < n
-unfolding if◌then◌else◌
+at_least : (x : Bool) (p : ℕ) → 0 < p → (n : ℕ) → n ≡ (when x then p + 1 else p) → 0 < n
+unfolding when◌then◌else◌
 at_least true p h n e = omega (arith, e)
 at_least false p h n e = omega (arith, e)
 

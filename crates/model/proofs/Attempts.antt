@@ -37,7 +37,7 @@ use Rattle.model.specs.declared.Line.TheVariants.{
 }
 use Rattle.model.specs.declared.Queue.{Queue}
 use Rattle.model.specs.declared.Room.{Room}
-use Rattle.model.specs.Tests.{if◌then◌else◌}
+use Rattle.model.specs.Tests.{when◌then◌else◌}
 use Rattle.model.specs.Figures.{is_empty, steal_read, steal_last}
 use Rattle.model.specs.Answers.{ends}
 use Rattle.model.specs.Lines.{Effect, fits, holds_link, succeeds, line_step, fails_compare}
@@ -46,8 +46,8 @@ use Rattle.model.specs.World.{stage, is_idle, is_steal1, is_past1}
 never : {A : Type 0} → false ≡ true → A
 never e = absurd (true≢false (sym e))
 
-either : (P : Effect → Type 0) (x : Bool) (E F : Effect) → P E → P F → P (if x then E else F)
-unfolding if◌then◌else◌
+either : (P : Effect → Type 0) (x : Bool) (E F : Effect) → P E → P F → P (when x then E else F)
+unfolding when◌then◌else◌
 either P true E F a b = a
 either P false E F a b = b
 
@@ -92,8 +92,8 @@ past_last Lifo r t = refl
 past_last Fifo r t = refl
 past_last Deque r t = refl
 
-past_word : (x : Bool) (y z : Line) → is_past1 y ≡ true → is_past1 z ≡ true → is_past1 (if x then y else z) ≡ true
-unfolding if◌then◌else◌
+past_word : (x : Bool) (y z : Line) → is_past1 y ≡ true → is_past1 z ≡ true → is_past1 (when x then y else z) ≡ true
+unfolding when◌then◌else◌
 past_word true y z e f = e
 past_word false y z e f = f
 
@@ -101,7 +101,7 @@ abbrev Stays : Bool → Effect → Type 0
 Stays f E = ends E.answer ≡ false → f ≡ false → is_past1 E.line ≡ true
 
 pub stays : (ρ : Room) (κ : Kind) (w v : ℕ) (q : Queue) (m : List ℕ) (i : ℕ) (l : Line) → is_past1 l ≡ true → Stays (fails_compare κ q i l) (line_step ρ κ w v q m i l)
-unfolding line_step if◌then◌else◌
+unfolding line_step when◌then◌else◌
 stays ρ κ w v q m i Idle p = never p
 stays ρ κ w v q m i (PutRead t) p = never p
 stays ρ κ w v q m i (PutTail t h) p = never p
@@ -167,7 +167,7 @@ idle_not l e = ap (λ (s : ℕ). eqb s 5) (eqb-true (stage l) 0 e)
 
 -- with its link held no compare fails
 pub wins : (κ : Kind) (q : Queue) (i : ℕ) (l : Line) → q.linked ≡ true → holds_link q i ≡ true → fails_compare κ q i l ≡ false
-unfolding if◌then◌else◌
+unfolding when◌then◌else◌
 wins κ q i Idle a e = refl
 wins κ q i (PutRead t) a e = refl
 wins κ q i (PutTail t h) a e = refl

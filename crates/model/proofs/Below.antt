@@ -6,7 +6,7 @@ use Prim.Native.Nat.{ℕ, zero, suc, ◌+◌, ◌≤◌, ◌<◌}
 use native.Mathlib.Omega.{arith}
 use native.Mathlib.Nat.{eq-or-lt_of_le}
 use native.Mathlib.Numerals.{add-one}
-use Rattle.model.specs.Tests.{if◌then◌else◌, ◌or◌}
+use Rattle.model.specs.Tests.{when◌then◌else◌, ◌or◌}
 use Rattle.model.specs.Counts.{some_below, count_below}
 use Rattle.model.proofs.Tests.{or_true, or_false}
 
@@ -45,15 +45,15 @@ module _ (p : ℕ → Bool) where
   unfolding count_below
   count_none = refl
 
-  pub count_next : {x : Bool} {count r : ℕ} (j : ℕ) → count ≡ count_below p j → x ≡ p j → r ≡ (if x then count + 1 else count) → r ≡ count_below p (j + 1)
+  pub count_next : {x : Bool} {count r : ℕ} (j : ℕ) → count ≡ count_below p j → x ≡ p j → r ≡ (when x then count + 1 else count) → r ≡ count_below p (j + 1)
   unfolding count_below
   count_next j i h e = e ∙ rw (i, h, add-one j)
 
   pub count_all : {count : ℕ} (n j : ℕ) → j ≤ n → n ≤ j → count ≡ count_below p j → count ≡ count_below p n
   count_all n j a b i = i ∙ ap (count_below p) (let e : j ≡ n = omega arith in e)
 
-  pick : (x : Bool) (a n : ℕ) → a ≤ n → (if x then a + 1 else a) ≤ suc n
-  unfolding if◌then◌else◌
+  pick : (x : Bool) (a n : ℕ) → a ≤ n → (when x then a + 1 else a) ≤ suc n
+  unfolding when◌then◌else◌
   pick true a n h = omega arith
   pick false a n h = omega arith
 
@@ -81,6 +81,6 @@ count_same p q (suc n) f = rw (f n (omega arith), count_same p q n (λ i h. f i 
 
 -- a test that none passes
 pub count_zero : (p : ℕ → Bool) (n : ℕ) → ((i : ℕ) → i < n → p i ≡ false) → count_below p n ≡ 0
-unfolding count_below if◌then◌else◌
+unfolding count_below when◌then◌else◌
 count_zero p zero f = refl
 count_zero p (suc n) f = rw (f n (omega arith)) (count_zero p n (λ i h. f i (omega (arith, h))))

@@ -39,7 +39,7 @@ use Rattle.model.specs.declared.Waiting.{Waiting}
 use Rattle.model.specs.declared.Region.{Region}
 use Rattle.model.specs.declared.Queue.{Queue}
 use Rattle.model.specs.declared.Worker.{Worker}
-use Rattle.model.specs.Tests.{if◌then◌else◌, ◌and◌, ◌or◌}
+use Rattle.model.specs.Tests.{when◌then◌else◌, ◌and◌, ◌or◌}
 use Rattle.model.specs.Memory.{nowhere, set_word, offset_at, length_at, size_at, words_to}
 use Rattle.model.specs.Tasks.{task, payload, no_task, word_in, gathered}
 use Rattle.model.specs.Figures.{anchor}
@@ -447,5 +447,5 @@ foreign =
     ∷ []
 
 pub limits : map valid_of (admitted ++ foreign) ≡ map (λ W. true) admitted ++ map (λ W. false) foreign
-unfolding valid_of words_to landed_all set_word offset_at length_at size_at if◌then◌else◌ ◌and◌ ◌or◌ gathered word_in
+unfolding valid_of words_to landed_all set_word offset_at length_at size_at when◌then◌else◌ ◌and◌ ◌or◌ gathered word_in
 limits = refl

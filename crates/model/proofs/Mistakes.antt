@@ -16,7 +16,7 @@ use Rattle.model.specs.declared.Refusal.TheVariants.{NoSuchWorker, LogFull, Fore
 use Rattle.model.specs.declared.Answer.TheVariants.{Accepted, Numbered, GoesOn, Finished, Refused}
 use Rattle.model.specs.declared.Tally.TheVariants as tally
 use Rattle.model.specs.declared.Command.TheVariants.{BeginTake, BeginSteal, Steps, End, Bad}
-use Rattle.model.specs.Tests.{if◌then◌else◌, ◌and◌, ◌or◌}
+use Rattle.model.specs.Tests.{when◌then◌else◌, ◌and◌, ◌or◌}
 use Rattle.model.specs.Memory.{zeros, word_at, set_word, offset_at, length_at, size_at, words_to}
 use Rattle.model.specs.Tasks.{task, word_in, with_word, gathered}
 use Rattle.model.specs.Figures.{anchor}
@@ -92,7 +92,7 @@ mistakes =
     ∷ []
 
 pub mistakes_shut_out : map (λ r. show r.run) mistakes ≡ map (λ r. r.shown) mistakes
-unfolding show played listing_from respond steps_of counts_of some_below count_below sum_below fresh_of begin_of step_of valid_of words_to line_step landed_all zeros word_at set_word offset_at length_at size_at if◌then◌else◌ ◌and◌ ◌or◌ gathered word_in with_word
+unfolding show played listing_from respond steps_of counts_of some_below count_below sum_below fresh_of begin_of step_of valid_of words_to line_step landed_all zeros word_at set_word offset_at length_at size_at when◌then◌else◌ ◌and◌ ◌or◌ gathered word_in with_word
 mistakes_shut_out = refl
 
 -- a queue, linked or not, with this anchor
@@ -111,7 +111,7 @@ counted =
     ++ map (λ (x : Bool). restarted Lifo (link_set (at true (anchor 0 1 0)) 1 x) 1 (StealCompare (anchor 0 1 0) 0 (task 1 (one 7))) (eight 4)) (false ∷ true ∷ [])
 
 pub counter : counted ≡ map eight (5 ∷ 4294967295 ∷ 4294967295 ∷ 4 ∷ 4 ∷ 5 ∷ 4 ∷ [])
-unfolding if◌then◌else◌ ◌and◌
+unfolding when◌then◌else◌ ◌and◌
 counter = refl
 
 -- a bench with these counts, in a crew of two
@@ -144,5 +144,5 @@ summed = refl
 -- a worker's own count; 6 outside the crew; 12 of no bench, before 6
 pub asked : map (who_of (tallied (eight 4))) (0 ∷ 1 ∷ 2 ∷ []) ++ map (who_of (lent no_bench [] [])) (0 ∷ 8 ∷ [])
     ≡ (tally.Counted 9 ∷ tally.Counted 4 ∷ tally.Refused NoSuchWorker ∷ tally.Refused ForeignState ∷ tally.Refused ForeignState ∷ [])
-unfolding who_of valid_of words_to landed_all offset_at length_at size_at if◌then◌else◌ ◌and◌ ◌or◌
+unfolding who_of valid_of words_to landed_all offset_at length_at size_at when◌then◌else◌ ◌and◌ ◌or◌
 asked = refl

@@ -21,7 +21,7 @@ use Rattle.model.specs.declared.Answer.{Answer}
 use Rattle.model.specs.declared.Answer.TheVariants.{Accepted, Numbered, GoesOn, Finished, HandedOut, Empty, Full, Grown, Refused}
 use Rattle.model.specs.declared.Command.{Command}
 use Rattle.model.specs.declared.Command.TheVariants.{Open, BeginPut, BeginTake, BeginSteal, Steps, Who, End}
-use Rattle.model.specs.Tests.{if◌then◌else◌, ◌and◌, ◌or◌}
+use Rattle.model.specs.Tests.{when◌then◌else◌, ◌and◌, ◌or◌}
 use Rattle.model.specs.Memory.{zeros, word_at, set_word, offset_at, length_at, size_at, words_to}
 use Rattle.model.specs.Tasks.{task, payload, word_in, with_word, gathered}
 use Rattle.model.specs.Answers.{entry_of, entry_words}
@@ -208,7 +208,7 @@ table =
     ∷ []
 
 pub p1_to_p9 : map (λ r. show r.run) table ≡ map (λ r. r.shown) table
-unfolding show played listing_from respond steps_of counts_of some_below count_below sum_below fresh_of begin_of step_of drop_link_of drain_of ask_of drop_ask_of who_of valid_of words_to line_step landed_all zeros word_at set_word offset_at length_at size_at if◌then◌else◌ ◌and◌ ◌or◌ gathered word_in with_word
+unfolding show played listing_from respond steps_of counts_of some_below count_below sum_below fresh_of begin_of step_of drop_link_of drain_of ask_of drop_ask_of who_of valid_of words_to line_step landed_all zeros word_at set_word offset_at length_at size_at when◌then◌else◌ ◌and◌ ◌or◌ gathered word_in with_word
 p1_to_p9 = refl
 
 -- the words of each kind of entry, with two payload words

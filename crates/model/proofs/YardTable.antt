@@ -25,7 +25,7 @@ use Rattle.model.specs.declared.Refusal.TheVariants.{
 use Rattle.model.specs.declared.Answer.{Answer}
 use Rattle.model.specs.declared.Answer.TheVariants.{Accepted, Numbered, GoesOn, Finished, HandedOut, Full, Grown, Refused}
 use Rattle.model.specs.declared.Tally.TheVariants as tally
-use Rattle.model.specs.Tests.{if◌then◌else◌, ◌and◌, ◌or◌}
+use Rattle.model.specs.Tests.{when◌then◌else◌, ◌and◌, ◌or◌}
 use Rattle.model.specs.Tasks.{task, word_in, with_word, gathered}
 use Rattle.model.specs.Memory.{zeros, word_at, set_word, nowhere, offset_at, length_at, size_at, words_to}
 use Rattle.model.specs.Figures.{anchor}
@@ -92,18 +92,18 @@ pub two_answers : answers_from (opened 12) two
     ++ Finished 0 (task 1 (one 5)) ∷ Numbered 2 ∷ replicate 10 GoesOn
     ++ Finished 0 (task 2 (one 6)) ∷ Accepted ∷ replicate 5 GoesOn
     ++ HandedOut 1 (task 2 (one 6)) ∷ []
-unfolding make_of on_of sound_yard all_below total_of words_to line_step landed_all zeros word_at set_word offset_at length_at size_at if◌then◌else◌ ◌and◌ ◌or◌ gathered word_in with_word
+unfolding make_of on_of sound_yard all_below total_of words_to line_step landed_all zeros word_at set_word offset_at length_at size_at when◌then◌else◌ ◌and◌ ◌or◌ gathered word_in with_word
 two_answers = refl
 
 pub two_places : ((queue_at (ground_after (opened 12) two).yard 0).arrays ≡ pair 0 2 ∷ pair 4 4 ∷ replicate 9 nowhere)
     × ((queue_at (ground_after (opened 12) two).yard 1).arrays ≡ pair 2 2 ∷ pair 8 4 ∷ replicate 9 nowhere)
     × ((ground_after (opened 12) two).store ≡ 1 ∷ 7 ∷ 1 ∷ 5 ∷ 1 ∷ 7 ∷ 2 ∷ 8 ∷ 1 ∷ 5 ∷ 2 ∷ 6 ∷ [])
-unfolding ground_after make_of on_of sound_yard all_below total_of words_to line_step landed_all zeros word_at set_word offset_at length_at size_at if◌then◌else◌ ◌and◌ ◌or◌ gathered word_in with_word
+unfolding ground_after make_of on_of sound_yard all_below total_of words_to line_step landed_all zeros word_at set_word offset_at length_at size_at when◌then◌else◌ ◌and◌ ◌or◌ gathered word_in with_word
 two_places = (refl, refl, refl)
 
 -- a making zeroes its first array and no other word
 pub zeroed : (ground_after (opened 9) (made 1 2 1 4 ∷ made 2 1 1 2 ∷ [])).store ≡ replicate 6 0 ++ replicate 3 9
-unfolding ground_after make_of sound_yard all_below total_of words_to landed_all zeros offset_at length_at size_at if◌then◌else◌ ◌and◌ ◌or◌
+unfolding ground_after make_of sound_yard all_below total_of words_to landed_all zeros offset_at length_at size_at when◌then◌else◌ ◌and◌ ◌or◌
 zeroed = refl
 
 -- the refusals of a making in their order; a call of a queue that there is not. 5 goes by the words left and comes before 23
@@ -125,14 +125,14 @@ pub refusals :
     ∷ [])
     ≡ Accepted ∷ Refused UnknownQueue ∷ Refused TagWidth ∷ Refused ArraySize ∷ Refused Crew ∷ Refused PayloadWords ∷ Refused ShortStore ∷ Refused ShortQuota ∷ Refused NoSuchQueue
     ∷ Accepted ∷ Refused NoSuchWorker ∷ Accepted ∷ Refused ShortStore ∷ []
-unfolding make_of on_of sound_yard all_below total_of words_to line_step landed_all zeros offset_at length_at size_at if◌then◌else◌ ◌and◌ ◌or◌
+unfolding make_of on_of sound_yard all_below total_of words_to line_step landed_all zeros offset_at length_at size_at when◌then◌else◌ ◌and◌ ◌or◌
 refusals = refl
 
 -- a fifth queue: 24, before 1
 pub fifth :
     answers_from (opened 8) (made 1 1 1 2 ∷ made 2 1 1 2 ∷ made 3 1 1 2 ∷ made 4 1 1 2 ∷ make (setup 9 1 1 1 1) 2 [] ∷ on 3 (step 8) ∷ on 4 (step 8) ∷ [])
     ≡ Accepted ∷ Accepted ∷ Accepted ∷ Accepted ∷ Refused NoSuchQueue ∷ Refused NoSuchWorker ∷ Refused NoSuchQueue ∷ []
-unfolding make_of on_of sound_yard all_below total_of words_to landed_all zeros offset_at length_at size_at if◌then◌else◌ ◌and◌ ◌or◌
+unfolding make_of on_of sound_yard all_below total_of words_to landed_all zeros offset_at length_at size_at when◌then◌else◌ ◌and◌ ◌or◌
 fifth = refl
 
 -- words that queue 1 has set aside: queue 0's ask is refused 20, its put is FULL, a making is refused 5; its own commit finds them
@@ -147,7 +147,7 @@ pub asks_answers : answers_from (opened 8) asks
     ++ Finished 0 (task 1 (one 7)) ∷ Numbered 2 ∷ replicate 2 GoesOn
     ++ Full 0 (task 2 (one 8)) ∷ Refused ShortStore ∷ Accepted ∷ Accepted ∷ Refused NoSpace ∷ Accepted ∷ replicate 3 GoesOn
     ++ Grown 0 ∷ []
-unfolding make_of on_of sound_yard all_below total_of words_to line_step landed_all zeros word_at set_word offset_at length_at size_at if◌then◌else◌ ◌and◌ ◌or◌ gathered word_in with_word
+unfolding make_of on_of sound_yard all_below total_of words_to line_step landed_all zeros word_at set_word offset_at length_at size_at when◌then◌else◌ ◌and◌ ◌or◌ gathered word_in with_word
 asks_answers = refl
 
 -- only 10,235 words are ever used; without a quota named the whole store is it
@@ -155,14 +155,14 @@ pub largest :
     answers_from (opened 10300)
     (make (setup 1 1 1024 1 4) (whole_store (replicate 10300 9)) [] ∷ make (setup 1 1 1024 1 4) 10300 [] ∷ make (setup 1 1 512 1 4) 2559 [] ∷ make (setup 1 1 512 1 4) 2560 [] ∷ [])
     ≡ Accepted ∷ Refused ShortStore ∷ Refused ShortQuota ∷ Accepted ∷ []
-unfolding make_of on_of sound_yard all_below total_of words_to landed_all zeros offset_at length_at size_at if◌then◌else◌ ◌and◌ ◌or◌
+unfolding make_of on_of sound_yard all_below total_of words_to landed_all zeros offset_at length_at size_at when◌then◌else◌ ◌and◌ ◌or◌
 largest = refl
 
 -- who and front: 24 of a queue that is not made, where front has nothing
 pub beside :
     let G = ground_after (opened 2) (made 1 1 1 2 ∷ on 0 (begin 0 Take) ∷ steps 0 0 2) in
     (who_at G 0 0 ≡ tally.Counted 0) × (who_at G 0 1 ≡ tally.Refused NoSuchWorker) × (who_at G 1 0 ≡ tally.Refused NoSuchQueue) × (front_at G 0 ≡ 3 ∷ 0 ∷ 0 ∷ 0 ∷ []) × (front_at G 1 ≡ [])
-unfolding ground_after make_of on_of who_at front_at front_of sound_yard all_below total_of words_to line_step landed_all zeros offset_at length_at size_at if◌then◌else◌ ◌and◌ ◌or◌
+unfolding ground_after make_of on_of who_at front_at front_of sound_yard all_below total_of words_to line_step landed_all zeros offset_at length_at size_at when◌then◌else◌ ◌and◌ ◌or◌
 beside = (refl, refl, refl, refl, refl)
 
 -- LIMITS. Two idle queues with these directories, and n words set aside by the first, with these quotas over a store of s words
@@ -243,12 +243,12 @@ foreign =
     ∷ []
 
 pub yard_limits : map sound_yard (within ++ foreign) ≡ map (λ G. true) within ++ map (λ G. false) foreign
-unfolding sound_yard all_below total_of words_to landed_all offset_at length_at size_at if◌then◌else◌ ◌and◌ ◌or◌
+unfolding sound_yard all_below total_of words_to landed_all offset_at length_at size_at when◌then◌else◌ ◌and◌ ◌or◌
 yard_limits = refl
 
 -- 12 before 24 and all others; only the log of the queue that is called is tested
 pub first_of_all :
     let G = both 2 grown 2 0 5 small 1 2 8 in
     (answers_from G (make (setup 9 1 1 1 1) 2 [] ∷ on 7 (step 0) ∷ on 0 (step 0) ∷ []) ≡ replicate 3 (Refused ForeignState)) × (who_at G 7 0 ≡ tally.Refused ForeignState)
-unfolding make_of on_of who_at sound_yard all_below total_of words_to landed_all offset_at length_at size_at if◌then◌else◌ ◌and◌ ◌or◌
+unfolding make_of on_of who_at sound_yard all_below total_of words_to landed_all offset_at length_at size_at when◌then◌else◌ ◌and◌ ◌or◌
 first_of_all = (refl, refl)

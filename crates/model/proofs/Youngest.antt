@@ -11,7 +11,7 @@ use borrow.Author.Tests.{eqb-true, eqb-false}
 use Rattle.model.specs.declared.Region.{Region}
 use Rattle.model.specs.declared.Store.{Store}
 use Rattle.model.specs.declared.Store.TheVariants.{StoreWord, StoreNote, StorePut, StoreOut, StoreHead, StoreTail}
-use Rattle.model.specs.Tests.{if◌then◌else◌}
+use Rattle.model.specs.Tests.{when◌then◌else◌}
 use Rattle.model.specs.Memory.{set_word, offset_at}
 use Rattle.model.specs.Stores.{Shared, landed, landed_all, in_line}
 use Rattle.model.specs.World.{World, owners_view}
@@ -20,15 +20,15 @@ use Rattle.model.specs.World.{World, owners_view}
 -- is none
 abbrev pub youngest : ℕ → List Region → List Store → ℕ → ℕ → ℕ
 youngest v l [] a d = d
-youngest v l (StoreWord k t j x ∷ ss) a d = youngest v l ss a (if eqb (offset_at l k + (v + 1) * t + j) a then x else d)
+youngest v l (StoreWord k t j x ∷ ss) a d = youngest v l ss a (when eqb (offset_at l k + (v + 1) * t + j) a then x else d)
 youngest v l (StoreNote k ∷ ss) a d = youngest v l ss a d
 youngest v l (StorePut r ∷ ss) a d = youngest v l ss a d
 youngest v l (StoreOut r ∷ ss) a d = youngest v l ss a d
 youngest v l (StoreHead h ∷ ss) a d = youngest v l ss a d
 youngest v l (StoreTail t ∷ ss) a d = youngest v l ss a d
 
-one_word : (m : List ℕ) (b x a : ℕ) → a < length m → (t : Bool) → eqb b a ≡ t → get_or (set m b x) a 0 ≡ (if t then x else get_or m a 0)
-unfolding if◌then◌else◌
+one_word : (m : List ℕ) (b x a : ℕ) → a < length m → (t : Bool) → eqb b a ≡ t → get_or (set m b x) a 0 ≡ (when t then x else get_or m a 0)
+unfolding when◌then◌else◌
 one_word m b x a h true e = let q : b ≡ a = eqb-true b a e in rw q (get_or-set_same m a x 0 h)
 one_word m b x a h false e = get_or-set_other m b a x 0 (λ q. eqb-false b a e (sym q))
 

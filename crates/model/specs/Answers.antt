@@ -38,7 +38,7 @@ use Rattle.model.specs.declared.Answer.TheVariants.{
   Grown,
   Refused,
 }
-use Rattle.model.specs.Tests.{if◌then◌else◌}
+use Rattle.model.specs.Tests.{when◌then◌else◌}
 use Rattle.model.specs.Tasks.{words_in, no_task}
 use Rattle.model.specs.Memory.{set_all}
 
@@ -101,4 +101,4 @@ entry_words v e = e.kind ∷ e.worker ∷ take (v + 1) (words_in e.task)
 
 -- written from word `at` of the log on
 abbrev pub logged : ℕ → List ℕ → ℕ → Answer → List ℕ
-logged v l at a = if ends a then set_all l at (entry_words v (entry_of a)) else l
+logged v l at a = when ends a then set_all l at (entry_words v (entry_of a)) else l

@@ -40,7 +40,7 @@ use Rattle.model.specs.declared.Answer.{Answer}
 use Rattle.model.specs.declared.Answer.TheVariants.{Accepted, Numbered}
 use Rattle.model.specs.declared.Tally.{Tally}
 use Rattle.model.specs.declared.Tally.TheVariants as tally
-use Rattle.model.specs.Tests.{if◌then◌else◌, unless◌then◌else◌, ◌and◌, ◌or◌}
+use Rattle.model.specs.Tests.{when◌then◌else◌, unless◌then◌else◌, ◌and◌, ◌or◌}
 use Rattle.model.specs.Tasks.{task, first_words}
 use Rattle.model.specs.Memory.{zeros, nowhere, usable}
 use Rattle.model.specs.Answers.{ends, logged, entry_length}
@@ -86,7 +86,7 @@ lent b m l = record { bench = b; store = m; log = l }
 
 -- kinds are 1, 2 and 3; 4 and 5 are 1 and 3, linked
 abbrev pub kind_of : ℕ → Kind
-kind_of k = if eqb k 1 or eqb k 4 then Lifo else if eqb k 2 then Fifo else Deque
+kind_of k = when eqb k 1 or eqb k 4 then Lifo else when eqb k 2 then Fifo else Deque
 
 abbrev pub linked_of : ℕ → Bool
 linked_of k = ltb 3 k
@@ -203,7 +203,7 @@ begin_of W i op = unless valid_of W then refuse W ForeignState else begin_in W i
 
 -- STEP. The restarts are compares that fail, and nothing else; each worker has a count, with a ceiling
 abbrev pub one_more : ℕ → ℕ
-one_more n = if eqb n 4294967295 then n else n + 1
+one_more n = when eqb n 4294967295 then n else n + 1
 
 -- of the counts ns worker i's, and the counts with one restart of worker i more
 abbrev pub restarts_of : List ℕ → ℕ → ℕ
@@ -214,7 +214,7 @@ raised ns i = set ns i (one_more (restarts_of ns i))
 
 -- the counts ns, after worker i has done its line l
 abbrev pub restarted : Kind → Queue → ℕ → Line → List ℕ → List ℕ
-restarted κ q i l ns = if fails_compare κ q i l then raised ns i else ns
+restarted κ q i l ns = when fails_compare κ q i l then raised ns i else ns
 
 -- LINKS. Worker i's is held or not
 abbrev pub link_set : Queue → ℕ → Bool → Queue
@@ -265,12 +265,12 @@ stepped ρ W i E =
                   crew = W.bench.crew;
                   queue = relinked (stored ρ W i E).queue i (line_at W.bench.workers i) E.line;
                   waiting = line_after W i E;
-                  aside = if E.claims then 0 else W.bench.aside;
+                  aside = when E.claims then 0 else W.bench.aside;
                   used = W.bench.used;
                   restarts =
                       restarted W.bench.kind W.bench.queue i (line_at W.bench.workers i)
                       W.bench.restarts;
-                  written = if ends E.answer then W.bench.written + entry_length W.bench.words else W.bench.written;
+                  written = when ends E.answer then W.bench.written + entry_length W.bench.words else W.bench.written;
                   workers = set W.bench.workers i (record { line = E.line });
                 };
             store = (stored ρ W i E).store;
@@ -293,8 +293,8 @@ crowded W i E = ltb 8 (line_after W i E).count
 
 abbrev pub commit : Room → World → ℕ → Effect → Outcome
 commit ρ W i E =
-    if crowded W i E then refuse W WaitingFull
-    else if no_room W E then refuse W LogFull
+    when crowded W i E then refuse W WaitingFull
+    else when no_room W E then refuse W LogFull
     else stepped ρ W i E
 
 abbrev pub next_effect : Room → World → ℕ → Effect
@@ -306,7 +306,7 @@ next_effect ρ W i =
 abbrev pub step_in : Room → World → ℕ → Outcome
 step_in ρ W i =
     unless ltb i W.bench.crew then refuse W NoSuchWorker
-    else if is_idle (line_at W.bench.workers i) then refuse W IdleWorker
+    else when is_idle (line_at W.bench.workers i) then refuse W IdleWorker
     else commit ρ W i (next_effect ρ W i)
 
 unfoldable pub step_of : World → ℕ → Outcome

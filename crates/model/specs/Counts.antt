@@ -3,7 +3,7 @@
 use Rattle.std.specs.Prelude.{Bool, false, not, List, ℕ, zero, suc, ◌+◌, ◌*◌, ◌/◌, eqb, get_or}
 use Rattle.model.specs.declared.Task.{Task}
 use Rattle.model.specs.declared.Counts.{Counts}
-use Rattle.model.specs.Tests.{if◌then◌else◌, ◌and◌, ◌or◌}
+use Rattle.model.specs.Tests.{when◌then◌else◌, ◌and◌, ◌or◌}
 use Rattle.model.specs.Tasks.{same_task, gathered}
 use Rattle.model.specs.Answers.{Entry, entry_length}
 use Rattle.model.specs.World.{World}
@@ -29,7 +29,7 @@ some_below p (suc j) = p j or some_below p j
 
 unfoldable pub count_below : (ℕ → Bool) → ℕ → ℕ
 count_below p zero = 0
-count_below p (suc j) = if p j then count_below p j + 1 else count_below p j
+count_below p (suc j) = when p j then count_below p j + 1 else count_below p j
 
 -- f 0 to f (n-1) added up
 unfoldable pub sum_below : (ℕ → ℕ) → ℕ → ℕ

@@ -21,7 +21,7 @@ use Rattle.model.specs.declared.Line.TheVariants.{
   StealNext,
   StealCompare,
 }
-use Rattle.model.specs.Tests.{if◌then◌else◌, ◌and◌}
+use Rattle.model.specs.Tests.{when◌then◌else◌, ◌and◌}
 
 abbrev pub anchor : ℕ → ℕ → ℕ → Anchor
 anchor h c g = record { head = h; count = c; tag = g }
@@ -103,7 +103,7 @@ steal_read Deque a = StealTest a
 
 -- X2 in an array of z tasks: k indices from h on are noted; with none, X4 is next
 abbrev pub note_all : Growth → ℕ → ℕ → Line
-note_all g h k = if eqb k 0 then Publish g else Copy g h k 0
+note_all g h k = when eqb k 0 then Publish g else Copy g h k 0
 
 abbrev pub note : Kind → ℕ → Anchor → Growth → Line
 note Lifo z a g = note_all g 0 z

@@ -39,7 +39,7 @@ use Rattle.model.specs.declared.Queue.{Queue}
 use Rattle.model.specs.declared.Room.{Room}
 use Rattle.model.specs.declared.Worker.{Worker}
 use Rattle.model.specs.declared.Bench.{Bench}
-use Rattle.model.specs.Tests.{if◌then◌else◌, ◌and◌, ◌or◌}
+use Rattle.model.specs.Tests.{when◌then◌else◌, ◌and◌, ◌or◌}
 use Rattle.model.specs.Tasks.{none_from}
 use Rattle.model.specs.Memory.{offset_at, length_at, size_at, end_at, usable}
 use Rattle.model.specs.Figures.{anchor, is_same}
@@ -83,7 +83,7 @@ directory_ok v q p o =
     ltb 0 q.published
     and leb q.published p
     and leb q.claimed 11
-    and eqb q.claimed (if is_expanding o then p + 1 else p)
+    and eqb q.claimed (when is_expanding o then p + 1 else p)
     and tidy v q.arrays q.claimed
     and eqb q.initial (size_at v q.arrays 0)
 
@@ -229,7 +229,7 @@ abbrev pub thieves_ok : Kind → ℕ → ℕ → Queue → ℕ → List Worker �
 thieves_ok κ w v q n l zero = true
 thieves_ok κ w v q n l (suc k) =
     thieves_ok κ w v q n l k
-    and (if ltb (suc k) n then thief_ok κ w v q (line_at l (suc k)) else is_idle (line_at l (suc k)))
+    and (when ltb (suc k) n then thief_ok κ w v q (line_at l (suc k)) else is_idle (line_at l (suc k)))
 
 -- a waiting store's place and value; q is the queue as the owner reads it
 abbrev pub has_anchor : Kind → Bool
@@ -252,12 +252,12 @@ stores_ok κ w v q (s ∷ l) = store_ok κ w v q s and stores_ok κ w v q l
 
 -- at most 8 wait, and none without the mode
 abbrev pub waiting_ok : Kind → ℕ → ℕ → Queue → Bool → Waiting → Bool
-waiting_ok κ w v q d l = leb l.count (if d then 8 else 0) and stores_ok κ w v q (in_line l)
+waiting_ok κ w v q d l = leb l.count (when d then 8 else 0) and stores_ok κ w v q (in_line l)
 
 -- n words set aside, with the owner at line o: what an ask would set aside; none at X2 to X4, and some at a commit's X1
 abbrev pub aside_ok : ℕ → Queue → Line → ℕ → Bool
 aside_ok v q o n =
-    if eqb n 0 then not (is_commit1 o) else eqb n (next_length q) and leb (2 * size v q) 1024 and not (is_expanding o)
+    when eqb n 0 then not (is_commit1 o) else eqb n (next_length q) and leb (2 * size v q) 1024 and not (is_expanding o)
 
 -- the limits on one queue, wherever its arrays lie; q is the queue in memory, p as the owner reads it
 abbrev pub bench_ok : Bench → Queue → Queue → Bool

@@ -36,7 +36,7 @@ use Rattle.model.specs.declared.Queue.{Queue}
 use Rattle.model.specs.declared.Room.{Room}
 use Rattle.model.specs.declared.Answer.{Answer}
 use Rattle.model.specs.declared.Answer.TheVariants.{GoesOn, Finished, HandedOut, Empty, Full, Grown}
-use Rattle.model.specs.Tests.{if◌then◌else◌, ◌and◌}
+use Rattle.model.specs.Tests.{when◌then◌else◌, ◌and◌}
 use Rattle.model.specs.Tasks.{no_task, word_in, with_word}
 use Rattle.model.specs.Memory.{word_at, offset_at, size_at}
 use Rattle.model.specs.Figures.{
@@ -91,13 +91,13 @@ write_word κ v q k i j x = StoreWord k (slot κ (size_at v q.arrays k) i) j x
 
 -- after word j of v payload words the next one, and after the last what follows
 abbrev pub put_on : ℕ → Task → Anchor → ℕ → Line
-put_on v t r j = if eqb j v then PutFinish t r else PutWord t r (j + 1)
+put_on v t r j = when eqb j v then PutFinish t r else PutWord t r (j + 1)
 
 abbrev pub take_on : ℕ → Anchor → Task → ℕ → Line
-take_on v r t j = if eqb j v then TakeFinish r t else TakeWord r t (j + 1)
+take_on v r t j = when eqb j v then TakeFinish r t else TakeWord r t (j + 1)
 
 abbrev pub steal_on : Kind → ℕ → Anchor → ℕ → Task → ℕ → Line
-steal_on κ v r k t j = if eqb j v then steal_last κ r t else StealWord r k t (j + 1)
+steal_on κ v r k t j = when eqb j v then steal_last κ r t else StealWord r k t (j + 1)
 
 -- X1: an array of twice the current size is claimed, where that is at most 1,024 and the words left are enough; else FULL
 abbrev pub fits : Room → ℕ → Queue → Bool
@@ -110,7 +110,7 @@ task_for ForCommit = no_task
 
 abbrev pub grows : Room → ℕ → Queue → ℕ → Growth → Effect
 grows ρ v q i g =
-    if fits ρ v q
+    when fits ρ v q
     then record { claims = true; stores = []; line = Note g; answer = GoesOn }
     else eff [] Idle (Full i (task_for g))
 
@@ -121,7 +121,7 @@ copy_words κ v q m i (suc j) =
     copy_words κ v q m i j ++ write_word κ v q q.published i j (word_of κ v q m (q.published - 1) i j) ∷ []
 
 abbrev pub copy_on : Growth → ℕ → ℕ → ℕ → Line
-copy_on g h n k = if eqb (k + 1) n then Publish g else Copy g h n (k + 1)
+copy_on g h n k = when eqb (k + 1) n then Publish g else Copy g h n (k + 1)
 
 -- X4, with its store s: back to line 1 of put, or the commit ends
 abbrev pub publishes : List Store → ℕ → Growth → Effect
@@ -130,7 +130,7 @@ publishes s i ForCommit = eff s Idle (Grown i)
 
 -- the test for EMPTY, at worker i; the line l follows it
 abbrev pub unless_empty : Kind → ℕ → Anchor → Line → Effect
-unless_empty κ i r l = if is_empty κ r then eff [] Idle (Empty i) else goes l
+unless_empty κ i r l = when is_empty κ r then eff [] Idle (Empty i) else goes l
 
 -- worker i holds a link
 abbrev pub holds_link : Queue → ℕ → Bool
@@ -138,12 +138,12 @@ holds_link q i = get_or q.links i false
 
 -- worker i's compare finds the anchor as it was read; of a linked kind it is a store that succeeds exactly if its link is held
 abbrev pub succeeds : Kind → Queue → ℕ → Anchor → Bool
-succeeds κ q i r = if q.linked then holds_link q i else is_same κ q.anchor r
+succeeds κ q i r = when q.linked then holds_link q i else is_same κ q.anchor r
 
 -- the compare: the task is handed out, or back to line 1
 abbrev pub compares : Kind → Queue → ℕ → Anchor → ℕ → Task → Effect
 compares κ q i r e t =
-    if succeeds κ q i r then eff (steal_store κ r e ∷ []) Idle (HandedOut i t) else goes StealRead
+    when succeeds κ q i r then eff (steal_store κ r e ∷ []) Idle (HandedOut i t) else goes StealRead
 
 -- worker i does the line l of a queue of kind κ with a tag of w bits (a linked one has none) and v payload words; X1 finds the room ρ
 unfoldable pub line_step : Room → Kind → ℕ → ℕ → Queue → List ℕ → ℕ → Line → Effect
@@ -152,7 +152,7 @@ line_step ρ κ w v q m i Idle = goes Idle
 -- put: figure 1 and 3's lines 1, 2, 3 word by word, 4; figure 2's 1, 2, 3, 4 word by word, 5
 line_step ρ κ w v q m i (PutRead t) = goes (put_read κ q.anchor t)
 line_step ρ κ w v q m i (PutTail t h) = goes (PutTest t (anchor h q.anchor.count q.anchor.tag))
-line_step ρ κ w v q m i (PutTest t r) = goes (if is_full κ (size v q) r then Claim (ForPut t) else PutWord t r 0)
+line_step ρ κ w v q m i (PutTest t r) = goes (when is_full κ (size v q) r then Claim (ForPut t) else PutWord t r 0)
 line_step ρ κ w v q m i (PutWord t r j) =
     eff (write_word κ v q (q.published - 1) (put_index κ r) j (word_in t j) ∷ []) (put_on v t r j) GoesOn
 line_step ρ κ w v q m i (PutFinish t r) = eff (put_store κ w r ∷ []) Idle (Finished i t)

@@ -20,7 +20,7 @@ use Rattle.model.specs.declared.Tally.TheVariants as tally
 use Rattle.model.specs.declared.Counts.{Counts}
 use Rattle.model.specs.declared.Command.{Command}
 use Rattle.model.specs.declared.Command.TheVariants.{Open, BeginPut, BeginTake, BeginSteal, Steps, Who, End, Bad}
-use Rattle.model.specs.Tests.{if◌then◌else◌}
+use Rattle.model.specs.Tests.{when◌then◌else◌}
 use Rattle.model.specs.Tasks.{words_in}
 use Rattle.model.specs.Answers.{number_of}
 use Rattle.model.specs.World.{World, Outcome}
@@ -88,7 +88,7 @@ response s o = record { program = s; output = o }
 
 -- `queue`: a bench on the first s words of the store m and on the log l; refused, it leaves the program waiting
 abbrev pub opened : Program → Outcome → Response
-opened P d = response (if is_refused d.answer then P else playing d.world) (printed_by d)
+opened P d = response (when is_refused d.answer then P else playing d.world) (printed_by d)
 
 abbrev pub showing : Outcome → Response
 showing d = response (playing d.world) (printed_by d)
@@ -99,14 +99,14 @@ steps_of W i zero = response (playing W) []
 steps_of W i (suc m) =
     let d = step_of W i in
     let rest = steps_of d.world i m in
-    if is_refused d.answer then showing d else response rest.program (printed_by d ++ rest.output)
+    when is_refused d.answer then showing d else response rest.program (printed_by d ++ rest.output)
 
 abbrev pub bad : Program → Response
 bad s = response s (R (number_of BadLine) ∷ [])
 
 -- `put` with as many words as a payload has; with another count it is no line of the form
 abbrev pub putting : World → ℕ → Payload → Response
-putting W v p = if eqb v W.bench.words then showing (begin_of W 0 (Put p)) else bad (playing W)
+putting W v p = when eqb v W.bench.words then showing (begin_of W 0 (Put p)) else bad (playing W)
 
 unfoldable pub respond : Program → Command → Response
 respond (waiting m l) (Open k w c n s v) = opened (waiting m l) (fresh_of (setup k w c n v) (take s m) l)

@@ -34,7 +34,7 @@ use Rattle.model.specs.declared.Bench.{Bench}
 use Rattle.model.specs.declared.Refusal.{Refusal}
 use Rattle.model.specs.declared.Answer.{Answer}
 use Rattle.model.specs.declared.Answer.TheVariants.{Refused}
-use Rattle.model.specs.Tests.{if◌then◌else◌, ◌or◌}
+use Rattle.model.specs.Tests.{when◌then◌else◌, ◌or◌}
 use Rattle.model.specs.Memory.{usable}
 use Rattle.model.specs.Stores.{Shared, shared, landed_all, in_line, words_taken, room_in}
 
@@ -91,7 +91,7 @@ room_alone W = let n = words_taken W.bench.queue in room_in (usable W.store) n 0
 
 -- the tag's bits: kinds 4 and 5 have no tag, and theirs stays 0
 abbrev pub tag_bits : Bench → ℕ
-tag_bits b = if b.queue.linked then 0 else b.width
+tag_bits b = when b.queue.linked then 0 else b.width
 
 -- the line of worker i
 abbrev pub resting : Worker

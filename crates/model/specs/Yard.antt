@@ -12,7 +12,7 @@ use Rattle.model.specs.declared.Answer.{Answer}
 use Rattle.model.specs.declared.Answer.TheVariants.{Accepted, Refused}
 use Rattle.model.specs.declared.Tally.{Tally}
 use Rattle.model.specs.declared.Tally.TheVariants as tally
-use Rattle.model.specs.Tests.{if◌then◌else◌, unless◌then◌else◌, ◌and◌, ◌or◌}
+use Rattle.model.specs.Tests.{when◌then◌else◌, unless◌then◌else◌, ◌and◌, ◌or◌}
 use Rattle.model.specs.Memory.{zeros, offset_at, end_at, usable}
 use Rattle.model.specs.Stores.{taken, words_taken, room_in}
 use Rattle.model.specs.World.{World, Outcome, owners_view}
@@ -105,7 +105,7 @@ sound_yard G = yard_ok G.yard G.store
 
 -- of a call of queue q also the log that it is lent
 abbrev pub sound_for : Ground → ℕ → Bool
-sound_for G q = sound_yard G and (if ltb q G.yard.made then log_ok (bench_at G.yard q) (log_at G q) else true)
+sound_for G q = sound_yard G and (when ltb q G.yard.made then log_ok (bench_at G.yard q) (log_at G q) else true)
 
 -- CALLS
 pub record Yields : Type 0 where
@@ -171,7 +171,7 @@ who_at G q i =
 
 -- front, which never refuses: of a queue that is not made, nothing
 unfoldable pub front_at : Ground → ℕ → List ℕ
-front_at G q = if ltb q G.yard.made then front_of (bench_at G.yard q) (log_at G q) else []
+front_at G q = when ltb q G.yard.made then front_of (bench_at G.yard q) (log_at G q) else []
 
 -- LISTS. A yard without queues, and the calls
 abbrev pub bare : Yard
@@ -192,7 +192,7 @@ ground_after G (c ∷ cs) = ground_after (yields G c).the_ground cs
 -- queue q's part in a call, and in a list: its own calls, each with the state, store and log that it got, and its answer
 abbrev pub part_in : ℕ → Ground → YardCall → List Played → List Played
 part_in q G (make s quota l) T = T
-part_in q G (on r c) T = if eqb r q then record { before = world_of G q; call = c; answer = (on_of G r c).answer } ∷ T else T
+part_in q G (on r c) T = when eqb r q then record { before = world_of G q; call = c; answer = (on_of G r c).answer } ∷ T else T
 
 unfoldable pub part : ℕ → Ground → List YardCall → List Played
 part q G [] = []

@@ -6,7 +6,7 @@ use lib.Dec.{ltb, leb}
 use borrow.Author.Tests.{leb-true}
 use Rattle.model.specs.declared.Setup.{Setup}
 use Rattle.model.specs.declared.Refusal.{Refusal}
-use Rattle.model.specs.Tests.{if◌then◌else◌, unless◌then◌else◌, ◌and◌}
+use Rattle.model.specs.Tests.{when◌then◌else◌, unless◌then◌else◌, ◌and◌}
 use Rattle.model.specs.Limits.{is_size, width_ok, crew_ok, words_ok}
 use Rattle.model.specs.Calls.{first_length, admitted}
 use Rattle.model.proofs.Tests.{and_right}
@@ -25,7 +25,7 @@ stopped s n = admitted s n (λ w. Why w) No
 -- a refusal more in front
 pub one : {A : Type 0} (R : Refusal → A) (x : A) (t : Bool) (r : Refusal) (S : Stop) {y : A} → y ≡ decided R x S
     → (unless t then R r else y) ≡ decided R x (unless t then Why r else S)
-unfolding if◌then◌else◌
+unfolding when◌then◌else◌
 one R x true r S e = e
 one R x false r S e = refl
 
@@ -39,7 +39,7 @@ outcome_of R x s {n} {k} t e f g = outcome R x s n ∙ ap (λ (S : Stop). decide
 
 -- where it goes on, the tests have been passed
 pub past : (t : Bool) (r : Refusal) (S : Stop) → (unless t then Why r else S) ≡ No → (t ≡ true) × (S ≡ No)
-unfolding if◌then◌else◌
+unfolding when◌then◌else◌
 past true r S e = (refl, e)
 past false r S e = (cc, cc)
 

@@ -12,7 +12,7 @@ use Rattle.model.specs.declared.Line.TheVariants.{Idle, PutRead, PutTail, PutTes
 use Rattle.model.specs.declared.Queue.{Queue}
 use Rattle.model.specs.declared.Operation.{Operation}
 use Rattle.model.specs.declared.Operation.TheVariants.{Put, Take, Steal, Commit}
-use Rattle.model.specs.Tests.{if◌then◌else◌}
+use Rattle.model.specs.Tests.{when◌then◌else◌}
 use Rattle.model.specs.Tasks.{no_task, word_in, gathered, first_words}
 use Rattle.model.specs.Figures.{is_empty}
 use Rattle.model.specs.Lines.{Effect, fits, succeeds, line_step}
@@ -39,8 +39,8 @@ none_cut (suc (suc (suc zero))) = refl
 none_cut (suc (suc (suc (suc zero)))) = refl
 none_cut (suc (suc (suc (suc (suc n))))) = refl
 
-either : (ω : ℕ) (x : Bool) (E E' : Effect) → Cut ω E.answer → Cut ω E'.answer → Cut ω (if x then E else E').answer
-unfolding if◌then◌else◌
+either : (ω : ℕ) (x : Bool) (E E' : Effect) → Cut ω E.answer → Cut ω E'.answer → Cut ω (when x then E else E').answer
+unfolding when◌then◌else◌
 either ω true E E' p q = p
 either ω false E E' p q = q
 

@@ -22,7 +22,7 @@ use Rattle.model.specs.declared.Operation.{Operation}
 use Rattle.model.specs.declared.Operation.TheVariants.{Put, Take, Steal, Commit}
 use Rattle.model.specs.declared.Answer.{Answer}
 use Rattle.model.specs.declared.Answer.TheVariants.{Accepted, Numbered, GoesOn, Finished, HandedOut, Empty, Full, Refused, Grown}
-use Rattle.model.specs.Tests.{if◌then◌else◌}
+use Rattle.model.specs.Tests.{when◌then◌else◌}
 use Rattle.model.specs.Tasks.{task}
 use Rattle.model.proofs.Tasks.{first_number}
 use Rattle.model.specs.Answers.{entry_of}
@@ -102,13 +102,13 @@ module _ (u : ℕ) where
   same_put : (o o' : Line) → Within u o → ((d : ℕ) → open_put o' d ≡ open_put o d) → Goes u o u o' GoesOn
   same_put o o' l e = omega (arith, e u, e (suc u))
 
-  either : (o : Line) (x : Bool) (E E' : Effect) → Leaves o E → Leaves o E' → Leaves o (if x then E else E')
-  unfolding if◌then◌else◌
+  either : (o : Line) (x : Bool) (E E' : Effect) → Leaves o E → Leaves o E' → Leaves o (when x then E else E')
+  unfolding when◌then◌else◌
   either o true E E' a b = a
   either o false E E' a b = b
 
-either_line : (d n : ℕ) (x : Bool) (l l' : Line) → open_put l d ≡ n → open_put l' d ≡ n → open_put (if x then l else l') d ≡ n
-unfolding if◌then◌else◌
+either_line : (d n : ℕ) (x : Bool) (l l' : Line) → open_put l d ≡ n → open_put l' d ≡ n → open_put (when x then l else l') d ≡ n
+unfolding when◌then◌else◌
 either_line d n true l l' a b = a
 either_line d n false l l' a b = b
 
@@ -138,8 +138,8 @@ steal_lasts Fifo r t d = refl
 steal_lasts Deque r t d = refl
 
 -- a commit's X1 is left by a claim
-fit_leaves : (u : ℕ) (o : Line) (x : Bool) (E E' : Effect) → x ≡ true → Leaves u o E → Leaves u o (if x then E else E')
-unfolding if◌then◌else◌
+fit_leaves : (u : ℕ) (o : Line) (x : Bool) (E E' : Effect) → x ≡ true → Leaves u o E → Leaves u o (when x then E else E')
+unfolding when◌then◌else◌
 fit_leaves u o true E E' e a = a
 fit_leaves u o false E E' e a = absurd (true≢false (sym e))
 
@@ -148,7 +148,7 @@ unfolding line_step
 line_leaves ρ u κ w ω q m i Idle F l = omega arith
 line_leaves ρ u κ w ω q m i (PutRead t) F l = same_put u (PutRead t) (put_read κ q.anchor t) l (put_reads κ q.anchor t)
 line_leaves ρ u κ w ω q m i (PutTail t h) F l = omega arith
-line_leaves ρ u κ w ω q m i (PutTest t r) F l = same_put u (PutTest t r) (if is_full κ (size ω q) r then Claim (ForPut t) else PutWord t r 0) l (λ d. either_line d t.number (is_full κ (size ω q) r) (Claim (ForPut t)) (PutWord t r 0) refl refl)
+line_leaves ρ u κ w ω q m i (PutTest t r) F l = same_put u (PutTest t r) (when is_full κ (size ω q) r then Claim (ForPut t) else PutWord t r 0) l (λ d. either_line d t.number (is_full κ (size ω q) r) (Claim (ForPut t)) (PutWord t r 0) refl refl)
 line_leaves ρ u κ w ω q m i (PutWord t r j) F l = same_put u (PutWord t r j) (put_on ω t r j) l (λ d. either_line d t.number (eqb j ω) (PutFinish t r) (PutWord t r (j + 1)) refl refl)
 line_leaves ρ u κ w ω q m i (PutFinish t r) F l = omega arith
 line_leaves ρ u κ w ω q m i (Claim (ForPut t)) F l = either u (Claim (ForPut t)) (fits ρ ω q) _ _ (omega arith) (omega arith)

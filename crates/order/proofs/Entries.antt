@@ -12,7 +12,7 @@ use borrow.Author.Tests.{ltb-true}
 use Rattle.model.specs.declared.Task.{Task}
 use Rattle.model.specs.declared.Answer.{Answer}
 use Rattle.model.specs.declared.Answer.TheVariants.{Accepted, Numbered, GoesOn, Finished, HandedOut, Empty, Full, Refused, Grown}
-use Rattle.model.specs.Tests.{if◌then◌else◌}
+use Rattle.model.specs.Tests.{when◌then◌else◌}
 use Rattle.model.specs.Tasks.{words_in, word_in, first_words}
 use Rattle.model.proofs.Tasks.{same_words}
 use Rattle.model.specs.Answers.{Entry, entry, entry_of, ends, entry_length, entry_words}
@@ -109,7 +109,7 @@ entry_behind ω e l j h =
 
 -- the words of the entries behind an answer
 abbrev behind : ℕ → Bool → Answer → List ℕ → List ℕ
-behind ω x a l = (if x then entry_words ω (entry_of a) else []) ++ l
+behind ω x a l = (when x then entry_words ω (entry_of a) else []) ++ l
 
 -- of a list whose answers' tasks have no other words
 abbrev pub AllCut : ℕ → List Played → Type 0
@@ -122,7 +122,7 @@ Placed ω T f l = (j : ℕ) → 0 < (entry_at ω l j).kind → At T (f j) (λ s.
 
 placed_behind : (ω : ℕ) (s : Played) (T : List Played) (f : ℕ → ℕ) (l : List ℕ) (x : Bool) → ω ≤ 4 → Cut ω s.answer → Placed ω T f l
     → Placed ω (s ∷ T) (place_behind x f) (behind ω x s.answer l)
-unfolding if◌then◌else◌
+unfolding when◌then◌else◌
 placed_behind ω s T f l true g c r zero h = sym (entry_here ω s.answer l g c)
 placed_behind ω s T f l true g c r (suc j) h =
     let e = entry_behind ω (entry_of s.answer) l j g in
@@ -143,7 +143,7 @@ Entered ω T f l =
 
 entered_behind : (ω : ℕ) (s : Played) (T : List Played) (f : ℕ → ℕ) (l : List ℕ) (x : Bool) → ends s.answer ≡ x → ω ≤ 4 → Cut ω s.answer → Entered ω T f l
     → Entered ω (s ∷ T) (place_behind x f) (behind ω x s.answer l)
-unfolding if◌then◌else◌
+unfolding when◌then◌else◌
 entered_behind ω s T f l true q h c r zero P E a = (0, refl, (s, a, entry_here ω s.answer l h c))
 entered_behind ω s T f l true q h c r (suc p) P E a =
     let (i, g, (u, b, e)) = r p P E a in (suc i, ap suc g, (u, b, entry_behind ω (entry_of s.answer) l i h ∙ e))
@@ -174,7 +174,7 @@ count [] = 0
 count (s ∷ T) = count_behind (ends s.answer) (count T)
 
 long_behind : (ω : ℕ) (a : Answer) (l : List ℕ) (n : ℕ) (x : Bool) → ω ≤ 4 → length l ≡ entry_length ω * n → length (behind ω x a l) ≡ entry_length ω * count_behind x n
-unfolding if◌then◌else◌
+unfolding when◌then◌else◌
 long_behind ω a l n true h e = omega (arith, length-append (entry_words ω (entry_of a)) l, words_long ω (entry_of a) h, e)
 long_behind ω a l n false h e = e
 
@@ -200,7 +200,7 @@ abbrev Known : ℕ → List ℕ → ℕ → Type 0
 Known ω l n = (j : ℕ) → j < n → (0 < (entry_at ω l j).kind) × ((entry_at ω l j).kind ≤ 5)
 
 known_behind : (ω : ℕ) (a : Answer) (l : List ℕ) (n : ℕ) (x : Bool) → ends a ≡ x → ω ≤ 4 → Known ω l n → Known ω (behind ω x a l) (count_behind x n)
-unfolding if◌then◌else◌
+unfolding when◌then◌else◌
 known_behind ω a l n true q g r zero h = rw (kind_here ω a l) (ltb-true 0 _ q, kind_le a)
 known_behind ω a l n true q g r (suc j) h = omega (arith, r j (omega arith), ap (λ (e : Entry). e.kind) (entry_behind ω (entry_of a) l j g))
 known_behind ω a l n false q g r j h = r j h
@@ -213,7 +213,7 @@ abbrev Inside : ℕ → List ℕ → ℕ → Type 0
 Inside ω l n = (j : ℕ) → 0 < (entry_at ω l j).kind → j < n
 
 inside_behind : (ω : ℕ) (a : Answer) (l : List ℕ) (n : ℕ) (x : Bool) → ω ≤ 4 → Inside ω l n → Inside ω (behind ω x a l) (count_behind x n)
-unfolding if◌then◌else◌
+unfolding when◌then◌else◌
 inside_behind ω a l n true g r zero h = omega arith
 inside_behind ω a l n true g r (suc j) h = omega (arith, r j (omega (arith, h, ap (λ (e : Entry). e.kind) (entry_behind ω (entry_of a) l j g))))
 inside_behind ω a l n false g r j h = r j h

@@ -12,7 +12,7 @@ use Rattle.model.specs.declared.Kind.{Kind}
 use Rattle.model.specs.declared.Kind.TheVariants.{Fifo}
 use Rattle.model.specs.declared.Task.{Task}
 use Rattle.model.specs.declared.Store.{Store}
-use Rattle.model.specs.Tests.{if◌then◌else◌, ◌or◌}
+use Rattle.model.specs.Tests.{when◌then◌else◌, ◌or◌}
 use Rattle.model.specs.World.{World, tag_bits}
 use Rattle.model.specs.declared.Answer.TheVariants.{Accepted}
 use Rattle.model.specs.Calls.{fresh_of, kind_of, call_in}
@@ -122,7 +122,7 @@ fifo_log_in ts U F fifo C =
 
 -- and alone
 fresh_fifo : (s : Setup) (m l : List ℕ) → s.kind ≡ 2 → (fresh_of s m l).answer ≡ Accepted → (fresh_of s m l).world.bench.kind ≡ Fifo
-unfolding if◌then◌else◌ ◌or◌
+unfolding when◌then◌else◌ ◌or◌
 fresh_fifo s m l is e = ap (λ (W : World). W.bench.kind) (fresh_is s m l e).0 ∙ ap kind_of is
 
 pub fifo_in_order : FifoInOrder

@@ -27,7 +27,7 @@ use Rattle.model.specs.declared.Tally.{Tally}
 use Rattle.model.specs.declared.Tally.TheVariants as tally
 use Rattle.model.specs.declared.Command.{Command}
 use Rattle.model.specs.declared.Command.TheVariants.{Open, BeginPut, BeginTake, BeginSteal, Steps, Who, End, Bad}
-use Rattle.model.specs.Tests.{if◌then◌else◌, unless◌then◌else◌}
+use Rattle.model.specs.Tests.{when◌then◌else◌, unless◌then◌else◌}
 use Rattle.model.specs.Answers.{number_of}
 use Rattle.model.specs.World.{World, Outcome, refuse}
 use Rattle.model.specs.Calls.{fresh_of, setup, begin_of, step_of, who_of, Call, begin, call_of}
@@ -85,7 +85,7 @@ use Rattle.order.proofs.NoneLost.{none_lost}
 -- `step I M`, and then what the lines after it come to
 steps_play : (m : ℕ) (W : World) (i : ℕ) (is : List Item)
     → shows W (step_items W i m ++ is) ≡ (steps_of W i m).output ++ shows (after W (calls_in (step_items W i m))) is
-unfolding steps_of step_items after calls_in shows if◌then◌else◌
+unfolding steps_of step_items after calls_in shows when◌then◌else◌
 steps_play zero W i is = refl
 steps_play (suc m) W i is = go (steps_play m (step_of W i).world i is) (is_refused (step_of W i).answer)
   where
@@ -99,15 +99,15 @@ steps_play (suc m) W i is = go (steps_play m (step_of W i).world i is) (is_refus
     out = printed_by (step_of W i)
 
     go : shows U (step_items U i m ++ is) ≡ r.output ++ shows (after U (calls_in (step_items U i m))) is → (b : Bool)
-        → out ++ shows U ((if b then [] else step_items U i m) ++ is)
-        ≡ (if b then showing (step_of W i) else response r.program (out ++ r.output)).output
-        ++ shows (after U (calls_in (if b then [] else step_items U i m))) is
+        → out ++ shows U ((when b then [] else step_items U i m) ++ is)
+        ≡ (when b then showing (step_of W i) else response r.program (out ++ r.output)).output
+        ++ shows (after U (calls_in (when b then [] else step_items U i m))) is
     go e true = refl
     go e false = ap (λ (l : List Print). out ++ l) e ∙ sym (append_assoc out r.output _)
 
 -- and where it leads
 steps_stand : (m : ℕ) (W : World) (i : ℕ) → (steps_of W i m).program ≡ playing (after W (calls_in (step_items W i m)))
-unfolding steps_of step_items after calls_in if◌then◌else◌
+unfolding steps_of step_items after calls_in when◌then◌else◌
 steps_stand zero W i = refl
 steps_stand (suc m) W i = go (steps_stand m (step_of W i).world i) (is_refused (step_of W i).answer)
   where
@@ -118,8 +118,8 @@ steps_stand (suc m) W i = go (steps_stand m (step_of W i).world i) (is_refused (
     r = steps_of U i m
 
     go : r.program ≡ playing (after U (calls_in (step_items U i m))) → (b : Bool)
-        → (if b then showing (step_of W i) else response r.program (printed_by (step_of W i) ++ r.output)).program
-        ≡ playing (after U (calls_in (if b then [] else step_items U i m)))
+        → (when b then showing (step_of W i) else response r.program (printed_by (step_of W i) ++ r.output)).program
+        ≡ playing (after U (calls_in (when b then [] else step_items U i m)))
     go e true = refl
     go e false = e
 
@@ -158,10 +158,10 @@ who_line W i cs e = ap (λ (l : List Print). printed_tally i (who_of W i) ++ l) 
 put_line : (W : World) (x : Bool) (p : Payload) (cs : List Command)
     → let U : World = (begin_of W 0 (Put p)).world in
     listing_from (playing U) cs ≡ shows U (items_of U cs) → listing_from (playing W) cs ≡ shows W (items_of W cs)
-    → let r : Response = (if x then showing (begin_of W 0 (Put p)) else bad (playing W)) in
-    let is : List Item = (if x then plays (begin 0 (Put p)) ∷ [] else bad_line ∷ []) in
+    → let r : Response = (when x then showing (begin_of W 0 (Put p)) else bad (playing W)) in
+    let is : List Item = (when x then plays (begin 0 (Put p)) ∷ [] else bad_line ∷ []) in
     r.output ++ listing_from r.program cs ≡ shows W (is ++ items_of (after W (calls_in is)) cs)
-unfolding calls_in after if◌then◌else◌
+unfolding calls_in after when◌then◌else◌
 put_line W true p cs e f = one_call W (begin 0 (Put p)) cs e
 put_line W false p cs e f = bad_line_lem W cs f
 
@@ -187,7 +187,7 @@ start : Program
 start = waiting program_store program_log
 
 first_line_lem : (c : Command) → respond start c ≡ opened start (before_queue c)
-unfolding respond if◌then◌else◌ start
+unfolding respond when◌then◌else◌ start
 first_line_lem (Open k w c n s v) = refl
 first_line_lem (BeginPut v p) = refl
 first_line_lem BeginTake = refl
@@ -199,17 +199,17 @@ first_line_lem Bad = refl
 
 first_refused : (c : Command) (cs : List Command) → is_refused (before_queue c).answer ≡ true
     → listing (c ∷ cs) ≡ printed_by (before_queue c) ++ listing cs
-unfolding listing_from if◌then◌else◌ start
+unfolding listing_from when◌then◌else◌ start
 first_refused c cs e =
     ap (λ (r : Response). r.output ++ listing_from r.program cs) (first_line_lem c)
-    ∙ ap (λ (b : Bool). printed_by (before_queue c) ++ listing_from (if b then start else playing (before_queue c).world) cs) e
+    ∙ ap (λ (b : Bool). printed_by (before_queue c) ++ listing_from (when b then start else playing (before_queue c).world) cs) e
 
 first_accepted : (c : Command) (cs : List Command) → (before_queue c).answer ≡ Accepted
     → listing (c ∷ cs) ≡ listing_from (playing (before_queue c).world) cs
-unfolding listing_from if◌then◌else◌ start
+unfolding listing_from when◌then◌else◌ start
 first_accepted c cs e =
     ap (λ (r : Response). r.output ++ listing_from r.program cs) (first_line_lem c)
-    ∙ ap (λ (a : Answer). printed (before_queue c).world.bench.words a ++ listing_from (if is_refused a then start else playing (before_queue c).world) cs) e
+    ∙ ap (λ (a : Answer). printed (before_queue c).world.bench.words a ++ listing_from (when is_refused a then start else playing (before_queue c).world) cs) e
 
 all_refused : (cs rest : List Command) → AllRefused cs → listing (cs ++ rest) ≡ refusals cs ++ listing rest
 all_refused [] rest h = refl
@@ -230,7 +230,7 @@ abbrev Opens : Outcome → Type 0
 Opens d = (is_refused d.answer ≡ true) ⊎ (d.answer ≡ Accepted)
 
 unless_refused_lem : (x : Bool) (d : Outcome) (U : World) (r : Refusal) → Opens d → Opens (unless x then refuse U r else d)
-unfolding if◌then◌else◌
+unfolding when◌then◌else◌
 unless_refused_lem true d U r h = h
 unless_refused_lem false d U r h = inl refl
 

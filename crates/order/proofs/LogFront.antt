@@ -14,7 +14,7 @@ use Rattle.model.specs.declared.Operation.{Operation}
 use Rattle.model.specs.declared.Operation.TheVariants.{Put, Take, Steal, Commit}
 use Rattle.model.specs.declared.Answer.{Answer}
 use Rattle.model.specs.declared.Answer.TheVariants.{Accepted, Refused}
-use Rattle.model.specs.Tests.{if◌then◌else◌, ◌and◌}
+use Rattle.model.specs.Tests.{when◌then◌else◌, ◌and◌}
 use Rattle.model.specs.Memory.{set_all}
 use Rattle.model.specs.Answers.{entry_of, ends, entry_length, entry_words}
 use Rattle.model.specs.World.{World, Outcome}
@@ -50,7 +50,7 @@ all_written (x ∷ xs) l n h =
 
 -- the words that an answer adds to the front
 abbrev words : ℕ → Answer → List ℕ
-words ω a = if ends a then entry_words ω (entry_of a) else []
+words ω a = when ends a then entry_words ω (entry_of a) else []
 
 -- a call adds its answer's words, and the front still lies in the log: a refusal and a begin have none, and a step that ends an
 -- operation had room
@@ -66,13 +66,13 @@ begin_ends_none Steal u = refl
 begin_ends_none Commit u = refl
 
 adds_none : (ω : ℕ) (l : List ℕ) (a : Answer) → ends a ≡ false → l ≡ l ++ words ω a
-unfolding if◌then◌else◌
+unfolding when◌then◌else◌
 adds_none ω l a e = rw e (sym (append-nil l))
 
 step_adds : (ω : ℕ) (l : List ℕ) (n : ℕ) (a : Answer) (x : Bool) → ω ≤ 4 → n ≤ length l → (x and log_full ω l n) ≡ false
-    → ((if x then n + entry_length ω else n) ≤ length (if x then set_all l n (entry_words ω (entry_of a)) else l))
-    × (take (if x then n + entry_length ω else n) (if x then set_all l n (entry_words ω (entry_of a)) else l) ≡ take n l ++ (if x then entry_words ω (entry_of a) else []))
-unfolding if◌then◌else◌ ◌and◌
+    → ((when x then n + entry_length ω else n) ≤ length (when x then set_all l n (entry_words ω (entry_of a)) else l))
+    × (take (when x then n + entry_length ω else n) (when x then set_all l n (entry_words ω (entry_of a)) else l) ≡ take n l ++ (when x then entry_words ω (entry_of a) else []))
+unfolding when◌then◌else◌ ◌and◌
 step_adds ω l n a true g h r =
     let f : n + entry_length ω ≤ length l = ltb-false (length l) (n + entry_length ω) (or_false (ltb (length l) (n + entry_length ω)) _ r).0 in
     let e = words_long ω (entry_of a) g in

@@ -5,7 +5,7 @@ use Rattle.model.specs.declared.Refusal.TheVariants.{BadLine}
 use Rattle.model.specs.declared.Answer.TheVariants.{Accepted}
 use Rattle.model.specs.declared.Command.{Command}
 use Rattle.model.specs.declared.Command.TheVariants.{Open, BeginPut, BeginTake, BeginSteal, Steps, Who, End, Bad}
-use Rattle.model.specs.Tests.{if◌then◌else◌}
+use Rattle.model.specs.Tests.{when◌then◌else◌}
 use Rattle.model.specs.Answers.{number_of}
 use Rattle.model.specs.World.{World, Outcome, refuse}
 use Rattle.model.specs.Calls.{no_bench, lent, fresh_of, setup, step_of, who_of, Call, begin, step, call_of}
@@ -43,12 +43,12 @@ pub data Item : Type 0 where
 unfoldable pub step_items : World → ℕ → ℕ → List Item
 step_items W i zero = []
 step_items W i (suc m) =
-    plays (step i) ∷ (if is_refused (step_of W i).answer then [] else step_items (step_of W i).world i m)
+    plays (step i) ∷ (when is_refused (step_of W i).answer then [] else step_items (step_of W i).world i m)
 
 -- a `put` with another count of words than the queue's is a bad line; no line drops a link, asks or commits
 abbrev pub line_items : World → Command → List Item
 line_items W (Open k w c n s v) = bad_line ∷ []
-line_items W (BeginPut v p) = if eqb v W.bench.words then plays (begin 0 (Put p)) ∷ [] else bad_line ∷ []
+line_items W (BeginPut v p) = when eqb v W.bench.words then plays (begin 0 (Put p)) ∷ [] else bad_line ∷ []
 line_items W BeginTake = plays (begin 0 Take) ∷ []
 line_items W (BeginSteal i) = plays (begin i Steal) ∷ []
 line_items W (Steps i m) = step_items W i m

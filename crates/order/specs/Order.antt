@@ -4,7 +4,7 @@ use Rattle.std.specs.Prelude.{◌≡◌, true, List, [], ◌∷◌, ◌++◌, �
 use Rattle.model.specs.declared.Setup.{Setup}
 use Rattle.model.specs.declared.Task.{Task}
 use Rattle.model.specs.declared.Answer.TheVariants.{Accepted, HandedOut}
-use Rattle.model.specs.Tests.{if◌then◌else◌}
+use Rattle.model.specs.Tests.{when◌then◌else◌}
 use Rattle.model.specs.Answers.{entry_of, entry_words, ends}
 use Rattle.model.specs.World.{World}
 use Rattle.model.specs.Calls.{fresh_of, front_of, Call}
@@ -41,7 +41,7 @@ log_front W = front_of W.bench W.log
 
 abbrev pub entries : ℕ → List Played → List ℕ
 entries v [] = []
-entries v (s ∷ T) = (if ends s.answer then entry_words v (entry_of s.answer) else []) ++ entries v T
+entries v (s ∷ T) = (when ends s.answer then entry_words v (entry_of s.answer) else []) ++ entries v T
 
 -- the log's written front is the entries that the steps answered, in order: of every kind
 abbrev pub LogIsAnswers : Type 0

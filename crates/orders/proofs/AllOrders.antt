@@ -6,7 +6,7 @@ use mathlib.Core.List.{List, [], ◌∷◌, ◌++◌, map}
 use Prim.Native.Nat.{ℕ, zero, suc, ◌+◌, ◌≤◌, ◌<◌}
 use native.Mathlib.Omega.{arith}
 use lib.ListN.{length, take, get_or}
-use Rattle.model.specs.Tests.{if◌then◌else◌, ◌or◌}
+use Rattle.model.specs.Tests.{when◌then◌else◌, ◌or◌}
 use Rattle.model.proofs.Tests.{or_either, or_false, if_true, if_false}
 use Rattle.orders.specs.Orders.{Play, Order, may_step, move, after_order, everyone, some_may, starting_with, orders_of}
 use Rattle.orders.specs.Claims.{Complete, Has, Before, WalkIsWhole}
@@ -110,7 +110,7 @@ none_among S (j ∷ is) i (inr a) m = none_among S is i a (or_false (may_step S 
 
 -- one worker's share of the orders
 abbrev share : (Play → List Order) → Play → ℕ → Bool → List Order
-share on S i x = if x then behind i (on (move S i)) else []
+share on S i x = when x then behind i (on (move S i)) else []
 
 pub record Starts (on : Play → List Order) (S : Play) (is : List ℕ) (o : Order) : Type 0 where
   pub first : ℕ
@@ -122,7 +122,7 @@ pub record Starts (on : Play → List Order) (S : Play) (is : List ℕ) (o : Ord
 
 share_in : (on : Play → List Order) (S : Play) (i : ℕ) (o : Order) (x : Bool) → In (share on S i x) o
     → (x ≡ true) × ((p : Order) × (i ∷ p ≡ o) × In (on (move S i)) p)
-unfolding if◌then◌else◌
+unfolding when◌then◌else◌
 share_in on S i o true m = (refl, behind_in i (on (move S i)) o m)
 share_in on S i o false m = absurd m
 
@@ -180,11 +180,11 @@ step_complete n S i p h m c =
 
 -- the orders behind one that is not at its last step
 abbrev further : ℕ → Play → Bool → List Order
-further n S x = if x then starting_with (λ T. orders_of n T) S everyone else [] ∷ []
+further n S x = when x then starting_with (λ T. orders_of n T) S everyone else [] ∷ []
 
 sound_next : (n : ℕ) (S : Play) (o : Order) → ((T : Play) (p : Order) → In (orders_of n T) p → Complete n T p)
     → (x : Bool) → some_may S everyone ≡ x → In (further n S x) o → Complete (suc n) S o
-unfolding if◌then◌else◌
+unfolding when◌then◌else◌
 sound_next n S o f true q m =
     let r = starts (λ T. orders_of n T) S everyone o m in
     subst (Complete (suc n) S) r.is_so
@@ -246,7 +246,7 @@ rises_behind i (o ∷ os) r =
     (λ p m. let (q, e, x) = behind_in i os p m in subst (Before (i ∷ o)) e (inr (refl, r.0 q x)), rises_behind i os r.1)
 
 rises_share : (on : Play → List Order) (S : Play) (i : ℕ) (x : Bool) → ((T : Play) → Rises (on T)) → Rises (share on S i x)
-unfolding if◌then◌else◌
+unfolding when◌then◌else◌
 rises_share on S i true f = rises_behind i (on (move S i)) (f (move S i))
 rises_share on S i false f = tt
 
@@ -263,7 +263,7 @@ rises_starting on S (i ∷ is) t f =
         subst (λ (a : Order). Before a p) g (subst (Before (i ∷ q)) r.is_so (inl (t.0 r.first r.among)))
 
 further_rises : (n : ℕ) (S : Play) (x : Bool) → ((T : Play) → Rises (orders_of n T)) → Rises (further n S x)
-unfolding if◌then◌else◌
+unfolding when◌then◌else◌
 further_rises n S true f = rises_starting (λ T. orders_of n T) S everyone everyone_sorted f
 further_rises n S false f = (λ p m. absurd m, tt)
 

@@ -8,7 +8,7 @@ use native.Mathlib.Omega.{arith}
 use lib.Dec.{leb, ltb}
 use lib.ListN.{length, take}
 use borrow.Author.Tests.{ltb-true, ltb-false, leb-true, leb-false, le-leb}
-use Rattle.model.specs.Tests.{if◌then◌else◌}
+use Rattle.model.specs.Tests.{when◌then◌else◌}
 use Rattle.orders.specs.Orders.{Play, Order}
 use Rattle.orders.specs.Hunt.{repeats_of, played_out, steps_made, all_out, best}
 use Rattle.orders.specs.Claims.{Before, Cut, CutIsRight}
@@ -32,9 +32,9 @@ cut_off b o os h = record { many = 0; front = refl; paid = omega arith; told = i
 
 cut_next : (b : ℕ) (o : Order) (os : List Order) (x : Bool) → leb (length o) b ≡ x
     → Cut (b - length o) os (played_out (b - length o) os) (steps_made (b - length o) os) (all_out (b - length o) os)
-    → Cut b (o ∷ os) (if x then o ∷ played_out (b - length o) os else []) (if x then length o + steps_made (b - length o) os else b)
-    (if x then all_out (b - length o) os else false)
-unfolding if◌then◌else◌
+    → Cut b (o ∷ os) (when x then o ∷ played_out (b - length o) os else []) (when x then length o + steps_made (b - length o) os else b)
+    (when x then all_out (b - length o) os else false)
+unfolding when◌then◌else◌
 cut_next b o os true e c = cut_on b o os (leb-true (length o) b e) c
 cut_next b o os false e c = cut_off b o os (leb-false (length o) b e)
 
@@ -59,21 +59,21 @@ pub out_rises : (b : ℕ) (os : List Order) → Rises os → Rises (played_out b
 out_rises b os r = let c = cut_is_right b os in subst Rises (sym c.front) (rises_take c.many os r)
 
 pub all_out_lem : (b : ℕ) (os : List Order) → all_out b os ≡ true → played_out b os ≡ os
-unfolding played_out all_out if◌then◌else◌
+unfolding played_out all_out when◌then◌else◌
 all_out_lem b [] e = refl
 all_out_lem b (o ∷ os) e = go (leb (length o) b) (all_out_lem (b - length o) os) e
   where
-    go : (x : Bool) → (all_out (b - length o) os ≡ true → played_out (b - length o) os ≡ os) → (if x then all_out (b - length o) os else false) ≡ true
-        → (if x then o ∷ played_out (b - length o) os else []) ≡ o ∷ os
+    go : (x : Bool) → (all_out (b - length o) os ≡ true → played_out (b - length o) os ≡ os) → (when x then all_out (b - length o) os else false) ≡ true
+        → (when x then o ∷ played_out (b - length o) os else []) ≡ o ∷ os
     go true f e = ap (λ (l : List Order). o ∷ l) (f e)
     go false f e = absurd (true≢false (sym e))
 
 -- a larger budget plays out all that a smaller one does
 more_next : (b b' : ℕ) (o p : Order) (os : List Order) (x : Bool) → leb (length o) b ≡ x → b ≤ b'
     → (In (played_out (b - length o) os) p → In (played_out (b' - length o) os) p)
-    → In (if x then o ∷ played_out (b - length o) os else []) p
-    → In (if leb (length o) b' then o ∷ played_out (b' - length o) os else []) p
-unfolding if◌then◌else◌
+    → In (when x then o ∷ played_out (b - length o) os else []) p
+    → In (when leb (length o) b' then o ∷ played_out (b' - length o) os else []) p
+unfolding when◌then◌else◌
 more_next b b' o p os true e h f m =
     rw (le-leb (length o) b' (omega (arith, leb-true (length o) b e))) (⊎_elim (λ q. inl q) (λ q. inr (f q)) m)
 more_next b b' o p os false e h f m = absurd m
@@ -95,11 +95,11 @@ before_once (i ∷ o) (j ∷ p) (inr x) (inr y) = before_once o p x.1 y.1
 
 module _ (S : Play) where
   abbrev better : Order → Order → Bool → Order
-  better o later x = if x then later else o
+  better o later x = when x then later else o
 
   most_next : (o later p : Order) (x : Bool) → ltb (repeats_of S o) (repeats_of S later) ≡ x → (o ≡ p) ⊎ (repeats_of S p ≤ repeats_of S later)
       → repeats_of S p ≤ repeats_of S (better o later x)
-  unfolding if◌then◌else◌
+  unfolding when◌then◌else◌
   most_next o later p true e (inl q) = omega (arith, ltb-true (repeats_of S o) (repeats_of S later) e, ap (repeats_of S) q)
   most_next o later p true e (inr h) = h
   most_next o later p false e (inl q) = omega (arith, ap (repeats_of S) q)
@@ -114,7 +114,7 @@ module _ (S : Play) where
   -- it is one of them; of none it is the empty one. Nothing is repeated before the first step
   in_next : (o later : Order) (os : List Order) (x : Bool) → ltb (repeats_of S o) (repeats_of S later) ≡ x → repeats_of S [] ≡ 0
       → ((os ≡ []) × (later ≡ [])) ⊎ In os later → In (o ∷ os) (better o later x)
-  unfolding if◌then◌else◌
+  unfolding when◌then◌else◌
   in_next o later os true e z (inl (a, b)) = absurd (omega (arith, z, ltb-true (repeats_of S o) (repeats_of S later) e, ap (repeats_of S) b))
   in_next o later os true e z (inr m) = inr m
   in_next o later os false e z m = inl refl
@@ -128,7 +128,7 @@ module _ (S : Play) where
   earliest_next : (o later p : Order) (x : Bool) → ltb (repeats_of S o) (repeats_of S later) ≡ x
       → (o ≡ p) ⊎ (Before o p × (Before p later → repeats_of S p < repeats_of S later))
       → Before p (better o later x) → repeats_of S p < repeats_of S (better o later x)
-  unfolding if◌then◌else◌
+  unfolding when◌then◌else◌
   earliest_next o later p true e (inl q) b = omega (arith, ltb-true (repeats_of S o) (repeats_of S later) e, ap (repeats_of S) q)
   earliest_next o later p true e (inr (a, f)) b = f b
   earliest_next o later p false e (inl q) b = absurd (let d = subst (λ (r : Order). Before r o) (sym q) b in before_once o o d d)

@@ -16,7 +16,7 @@ use Rattle.model.specs.declared.Operation.{Operation}
 use Rattle.model.specs.declared.Operation.TheVariants.{Put, Take, Steal, Commit}
 use Rattle.model.specs.declared.Answer.{Answer}
 use Rattle.model.specs.declared.Answer.TheVariants.{Accepted, Numbered, GoesOn, Finished, HandedOut, Empty, Full, Grown, Refused}
-use Rattle.model.specs.Tests.{if◌then◌else◌, ◌and◌, ◌or◌}
+use Rattle.model.specs.Tests.{when◌then◌else◌, ◌and◌, ◌or◌}
 use Rattle.model.specs.Tasks.{words_in}
 use Rattle.model.specs.Memory.{set_all}
 use Rattle.model.specs.Answers.{entry_of, ends, entry_length, entry_words}
@@ -61,8 +61,8 @@ new_kind v l n a h = front_kept ((entry_of a).worker ∷ take (v + 1) (words_in 
 abbrev outs : ℕ → List ℕ → ℕ → ℕ
 outs v l m = count_below (is_kind v l 2) m
 
-one_more_lem : (x : Bool) (n h : ℕ) → (x ≡ true → h ≡ 1) → (if x then n + 1 else n) ≤ n + h
-unfolding if◌then◌else◌
+one_more_lem : (x : Bool) (n h : ℕ) → (x ≡ true → h ≡ 1) → (when x then n + 1 else n) ≤ n + h
+unfolding when◌then◌else◌
 one_more_lem true n h f = omega (arith, f refl)
 one_more_lem false n h f = omega arith
 
@@ -92,8 +92,8 @@ pub record Fair (W : World) (r H : ℕ) : Type 0 where
 
 -- a step's log and log length, by whether it ends an operation
 step_log : (v : ℕ) (l : List ℕ) (n m : ℕ) (a : Answer) (x : Bool) → n ≡ entry_length v * m → (x and log_full v l n) ≡ false
-    → (k : ℕ) × ((if x then n + entry_length v else n) ≡ entry_length v * k) × (outs v (if x then written v l n a else l) k ≤ outs v l m + hands a)
-unfolding if◌then◌else◌ ◌and◌
+    → (k : ℕ) × ((when x then n + entry_length v else n) ≡ entry_length v * k) × (outs v (when x then written v l n a else l) k ≤ outs v l m + hands a)
+unfolding when◌then◌else◌ ◌and◌
 step_log v l n m a true e r =
     let f : n + entry_length v ≤ length l = ltb-false (length l) (n + entry_length v) (or_false (ltb (length l) (n + entry_length v)) _ r).0 in
     (suc m, omega (arith, e), outs_written v l n m a e (omega arith))
@@ -144,8 +144,8 @@ begin_next_fair S i H (op ∷ ops) e F =
     record { entries = F.entries; aligned = F.aligned; few = omega (arith, F.few, d, z) } in
     step_fair (begin_of S.world i op).world i _ H (begin_fair S.world i op _ H F')
 
-either_play : (P : Play → Type 0) (x : Bool) (S T : Play) → P S → P T → P (if x then S else T)
-unfolding if◌then◌else◌
+either_play : (P : Play → Type 0) (x : Bool) (S T : Play) → P S → P T → P (when x then S else T)
+unfolding when◌then◌else◌
 either_play P true S T s t = s
 either_play P false S T s t = t
 
@@ -160,9 +160,9 @@ order_fair [] S H F = F
 order_fair (i ∷ o) S H F = order_fair o (move S i) H (move_fair S i H F)
 
 -- REPEATS are fewer than hand-outs: the first of all hand-outs repeats none
-none_out_next : (v : ℕ) (l : List ℕ) (x n : ℕ) (y : Bool) → (outs v l n ≡ 0 → some_below (out_as v l x) n ≡ false) → (if y then outs v l n + 1 else outs v l n) ≡ 0
+none_out_next : (v : ℕ) (l : List ℕ) (x n : ℕ) (y : Bool) → (outs v l n ≡ 0 → some_below (out_as v l x) n ≡ false) → (when y then outs v l n + 1 else outs v l n) ≡ 0
     → ((y and eqb (entry_at v l n).task.number x) or some_below (out_as v l x) n) ≡ false
-unfolding if◌then◌else◌ ◌and◌ ◌or◌
+unfolding when◌then◌else◌ ◌and◌ ◌or◌
 none_out_next v l x n true f e = absurd (omega arith)
 none_out_next v l x n false f e = f e
 
@@ -176,13 +176,13 @@ abbrev OneFirst : ℕ → List ℕ → ℕ → Type 0
 OneFirst v l n = (outs v l n ≡ 0) ⊎ (0 < count_below (out_first v l) n)
 
 one_first_next : (v : ℕ) (l : List ℕ) (n : ℕ) (y : Bool) → OneFirst v l n
-    → ((if y then outs v l n + 1 else outs v l n) ≡ 0)
-    ⊎ (0 < (if y and not (some_below (out_as v l (entry_at v l n).task.number) n) then count_below (out_first v l) n + 1 else count_below (out_first v l) n))
-unfolding if◌then◌else◌ ◌and◌
+    → ((when y then outs v l n + 1 else outs v l n) ≡ 0)
+    ⊎ (0 < (when y and not (some_below (out_as v l (entry_at v l n).task.number) n) then count_below (out_first v l) n + 1 else count_below (out_first v l) n))
+unfolding when◌then◌else◌ ◌and◌
 one_first_next v l n true (inl e) = inr (rw (none_out v l (entry_at v l n).task.number n e) (omega arith))
 one_first_next v l n true (inr h) = inr (at_least (not (some_below (out_as v l (entry_at v l n).task.number) n)) (count_below (out_first v l) n) h)
   where
-    at_least : (z : Bool) (c : ℕ) → 0 < c → 0 < (if z then c + 1 else c)
+    at_least : (z : Bool) (c : ℕ) → 0 < c → 0 < (when z then c + 1 else c)
     at_least true c h = omega arith
     at_least false c h = h
 one_first_next v l n false f = f

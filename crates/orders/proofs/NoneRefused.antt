@@ -16,7 +16,7 @@ use Rattle.model.specs.declared.Operation.{Operation}
 use Rattle.model.specs.declared.Operation.TheVariants.{Put, Take, Steal, Commit}
 use Rattle.model.specs.declared.Answer.{Answer}
 use Rattle.model.specs.declared.Answer.TheVariants.{Accepted, Numbered, GoesOn, Finished, HandedOut, Empty, Full, Grown, Refused}
-use Rattle.model.specs.Tests.{if◌then◌else◌, ◌and◌, ◌or◌}
+use Rattle.model.specs.Tests.{when◌then◌else◌, ◌and◌, ◌or◌}
 use Rattle.model.specs.Answers.{entry_of, ends, entry_length, entry_words}
 use Rattle.model.specs.Memory.{set_all, usable}
 use Rattle.model.specs.Lines.{Effect}
@@ -118,8 +118,8 @@ pub record Good (S : Play) : Type 0 where
   pub aligned : S.world.bench.written ≡ entry_length S.world.bench.words * entries
   pub room : entries + busy_in S.world.bench.workers + operations S.left ≤ 64
 
-written_by : (d n m : ℕ) (a : Answer) → n ≡ d * m → (if ends a then n + d else n) ≡ d * (m + ended a)
-unfolding if◌then◌else◌
+written_by : (d n m : ℕ) (a : Answer) → n ≡ d * m → (when ends a then n + d else n) ≡ d * (m + ended a)
+unfolding when◌then◌else◌
 written_by d n m Accepted e = omega (arith, e)
 written_by d n m (Numbered x) e = omega (arith, e)
 written_by d n m GoesOn e = omega (arith, e)
@@ -130,8 +130,8 @@ written_by d n m (Full i t) e = omega (arith, e)
 written_by d n m (Grown i) e = omega (arith, e)
 written_by d n m (Refused r) e = omega (arith, e)
 
-logged_long : (v : ℕ) (l : List ℕ) (n : ℕ) (a : Answer) (x : Bool) → length (if x then set_all l n (entry_words v (entry_of a)) else l) ≡ length l
-unfolding if◌then◌else◌
+logged_long : (v : ℕ) (l : List ℕ) (n : ℕ) (a : Answer) (x : Bool) → length (when x then set_all l n (entry_words v (entry_of a)) else l) ≡ length l
+unfolding when◌then◌else◌
 logged_long v l n a true = set_all_length l n (entry_words v (entry_of a))
 logged_long v l n a false = refl
 
@@ -281,7 +281,7 @@ idle_left true (op ∷ ops) e m = (op, ops, refl)
 idle_left false l e m = absurd (true≢false (sym e))
 
 pub move_good : (S : Play) (i : ℕ) → Good S → may_step S i ≡ true → Made S i × Good (move S i)
-unfolding move if◌then◌else◌
+unfolding move when◌then◌else◌
 move_good S i G m = (made, good (idle S i) refl)
   where
     h : i < S.world.bench.crew
@@ -294,7 +294,7 @@ move_good S i G m = (made, good (idle S i) refl)
           goes_on = λ b. (step_good S i G h b).0;
         }
 
-    good : (x : Bool) → idle S i ≡ x → Good (if x then begin_next S i (left_of S i) else play (step_of S.world i).world S.left)
+    good : (x : Bool) → idle S i ≡ x → Good (when x then begin_next S i (left_of S i) else play (step_of S.world i).world S.left)
     good true b =
         let (op, ops, e) = idle_left (idle S i) (left_of S i) b m in
         subst (λ (l : List Operation). Good (begin_next S i l)) (sym e) (begin_good S i op ops G h b e).2

@@ -14,7 +14,7 @@ use Rattle.model.specs.declared.Refusal.{Refusal}
 use Rattle.model.specs.declared.Refusal.TheVariants.{UnknownQueue, TagWidth, ArraySize, Crew, ShortStore, NoSuchWorker, PayloadWords}
 use Rattle.model.specs.declared.Answer.{Answer}
 use Rattle.model.specs.declared.Answer.TheVariants.{Accepted, Refused}
-use Rattle.model.specs.Tests.{if◌then◌else◌, ◌and◌}
+use Rattle.model.specs.Tests.{when◌then◌else◌, ◌and◌}
 use Rattle.model.specs.World.{World, Outcome}
 use Rattle.model.specs.Memory.{usable}
 use Rattle.model.specs.Limits.{width_ok, is_size, crew_ok, words_ok}
@@ -60,8 +60,8 @@ begin_calls S i (op ∷ ops) = (begin i op ∷ step i ∷ [], refl)
 abbrev Called : Play → Play → Type 0
 Called S T = (cs : List Call) × (after S.world cs ≡ T.world)
 
-either_called : (S T U : Play) (x : Bool) → Called S T → Called S U → Called S (if x then T else U)
-unfolding if◌then◌else◌
+either_called : (S T U : Play) (x : Bool) → Called S T → Called S U → Called S (when x then T else U)
+unfolding when◌then◌else◌
 either_called S T U true a b = a
 either_called S T U false a b = b
 
@@ -92,7 +92,7 @@ module _ (S : Play) (F : Fair S.world (takes_and_steals S.left) (takes_and_steal
 
   far_enough : (x : Bool) → all_out b (orders_of 256 S) ≡ x → (o : Order) → Complete 256 S o
       → repeats_of S o ≤ repeats_of S (found S b) + distance_of x (takes_and_steals S.left) (repeats_of S (found S b))
-  unfolding if◌then◌else◌
+  unfolding when◌then◌else◌
   far_enough true e o c =
       let m : In (played_out b (orders_of 256 S)) o = subst (λ (os : List Order). In os o) (sym (all_out_lem b (orders_of 256 S) e)) (whole 256 S o c) in
       omega (arith, best_most S (played_out b (orders_of 256 S)) o m)
@@ -100,7 +100,7 @@ module _ (S : Play) (F : Fair S.world (takes_and_steals S.left) (takes_and_steal
 
   not_below : (x : Bool) → x ≡ false
       → repeats_of S (found S b) + distance_of x (takes_and_steals S.left) (repeats_of S (found S b)) ≡ takes_and_steals S.left - 1
-  unfolding if◌then◌else◌
+  unfolding when◌then◌else◌
   not_below true e = absurd (true≢false e)
   not_below false e = omega (arith, few (found S b))
 
@@ -155,8 +155,8 @@ pub record Passed (u : Setup) (s : ℕ) (l : List (List Operation)) (b : ℕ) : 
   pub some : leb (operations l) 64 ≡ true
   pub budget : leb b 1000000 ≡ true
 
-made : (x : Bool) (v : Verdict) (R : Report) → (v ≡ Hunted → ⊥) → (if x then R else refusal v).verdict ≡ Hunted → (x ≡ true) × (R.verdict ≡ Hunted)
-unfolding if◌then◌else◌
+made : (x : Bool) (v : Verdict) (R : Report) → (v ≡ Hunted → ⊥) → (when x then R else refusal v).verdict ≡ Hunted → (x ≡ true) × (R.verdict ≡ Hunted)
+unfolding when◌then◌else◌
 made true v R f e = (refl, e)
 made false v R f e = absurd (f e)
 
@@ -179,13 +179,13 @@ passed u s l b e =
     S = start_of u s l
 
     last : Report
-    last = if leb b 1000000 then report_of S b (orders_of 256 S) else refusal LargeBudget
+    last = when leb b 1000000 then report_of S b (orders_of 256 S) else refusal LargeBudget
 
     third : Report
-    third = if leb (operations l) 64 then last else refusal ManyOperations
+    third = when leb (operations l) 64 then last else refusal ManyOperations
 
     rest : Report
-    rest = if eqb (operations (drop u.crew l)) 0 then third else refusal (Barred NoSuchWorker)
+    rest = when eqb (operations (drop u.crew l)) 0 then third else refusal (Barred NoSuchWorker)
 
     go : (opening u s).answer ≡ Accepted → rest.verdict ≡ Hunted → Passed u s l b
     go a e =
@@ -197,13 +197,13 @@ passed u s l b e =
 hunt_is : (u : Setup) (s : ℕ) (l : List (List Operation)) (b : ℕ) → Passed u s l b
     → hunt_plan u s l b ≡ report_of (start_of u s l) b (orders_of 256 (start_of u s l))
 hunt_is u s l b P =
-    ap (λ (x : Answer). unless_refused x (if eqb (operations (drop u.crew l)) 0 then third else refusal (Barred NoSuchWorker))) P.accepted
+    ap (λ (x : Answer). unless_refused x (when eqb (operations (drop u.crew l)) 0 then third else refusal (Barred NoSuchWorker))) P.accepted
     ∙ if_true (refusal (Barred NoSuchWorker)) P.crew ∙ if_true (refusal ManyOperations) P.some ∙ if_true (refusal LargeBudget) P.budget
   where
     third : Report
     third =
-        if leb (operations l) 64
-        then (if leb b 1000000 then report_of (start_of u s l) b (orders_of 256 (start_of u s l)) else refusal LargeBudget)
+        when leb (operations l) 64
+        then (when leb b 1000000 then report_of (start_of u s l) b (orders_of 256 (start_of u s l)) else refusal LargeBudget)
         else refusal ManyOperations
 
 module _ (u : Setup) (s : ℕ) (l : List (List Operation)) (b : ℕ) (P : Passed u s l b) where

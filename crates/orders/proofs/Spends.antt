@@ -37,7 +37,7 @@ use Rattle.model.specs.declared.Line.TheVariants.{
 }
 use Rattle.model.specs.declared.Answer.{Answer}
 use Rattle.model.specs.declared.Answer.TheVariants.{Accepted, Numbered, GoesOn, Finished, HandedOut, Empty, Full, Grown, Refused}
-use Rattle.model.specs.Tests.{if◌then◌else◌}
+use Rattle.model.specs.Tests.{when◌then◌else◌}
 use Rattle.model.specs.Lines.{Effect, goes, line_step}
 use Rattle.model.specs.World.{World, line_at, stage, is_idle}
 use Rattle.model.specs.Calls.{next_effect}
@@ -104,8 +104,8 @@ hands (Refused r) = 0
 abbrev pub Spends : Line → Effect → Type 0
 Spends l E = (ended E.answer + busy E.line ≤ busy l) × (hands E.answer + opens E.line ≤ opens l)
 
-either : (l : Line) (x : Bool) (E F : Effect) → Spends l E → Spends l F → Spends l (if x then E else F)
-unfolding if◌then◌else◌
+either : (l : Line) (x : Bool) (E F : Effect) → Spends l E → Spends l F → Spends l (when x then E else F)
+unfolding when◌then◌else◌
 either l true E F e f = e
 either l false E F e f = f
 
@@ -113,8 +113,8 @@ either l false E F e f = f
 abbrev Keeps : Line → Line → Type 0
 Keeps l k = (busy k ≤ busy l) × (opens k ≤ opens l)
 
-next : (l : Line) (x : Bool) (k k' : Line) → Keeps l k → Keeps l k' → Spends l (goes (if x then k else k'))
-unfolding if◌then◌else◌
+next : (l : Line) (x : Bool) (k k' : Line) → Keeps l k → Keeps l k' → Spends l (goes (when x then k else k'))
+unfolding when◌then◌else◌
 next l true k k' e f = (omega (arith, e), omega (arith, e))
 next l false k k' e f = (omega (arith, f), omega (arith, f))
 

@@ -5,7 +5,7 @@ use mathlib.Core.List.{List, [], ◌∷◌}
 use Prim.Native.Nat.{ℕ, zero, suc, ◌≤◌, ◌<◌}
 use native.Mathlib.Omega.{arith}
 use lib.ListN.{length, take, set, get_or, length-take, length-set}
-use Rattle.model.specs.Tests.{if◌then◌else◌, ◌or◌}
+use Rattle.model.specs.Tests.{when◌then◌else◌, ◌or◌}
 use Rattle.model.proofs.Tests.{if_true, if_false}
 use Rattle.orders.specs.Orders.{Play, Order, may_step, move, after_order, everyone, some_may}
 use Rattle.orders.specs.Next.{lowest, above, turned, next_of}
@@ -19,11 +19,11 @@ given_by o h (suc m) = take (suc m) (set o m (h m))
 
 -- 8 stands for none
 lowest_none : (S : Play) (is : List ℕ) → some_may S is ≡ false → lowest S is ≡ 8
-unfolding some_may lowest if◌then◌else◌ ◌or◌
+unfolding some_may lowest when◌then◌else◌ ◌or◌
 lowest_none S [] e = refl
 lowest_none S (i ∷ is) e = go (may_step S i) (lowest_none S is) e
   where
-    go : (x : Bool) → (some_may S is ≡ false → lowest S is ≡ 8) → (x or some_may S is) ≡ false → (if x then i else lowest S is) ≡ 8
+    go : (x : Bool) → (some_may S is ≡ false → lowest S is ≡ 8) → (x or some_may S is) ≡ false → (when x then i else lowest S is) ≡ 8
     go true f e = absurd (true≢false e)
     go false f e = f e
 

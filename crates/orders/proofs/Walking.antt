@@ -7,7 +7,7 @@ use native.Mathlib.Omega.{arith}
 use lib.Dec.{ltb, leb}
 use lib.ListN.{length}
 use borrow.Author.Tests.{ltb-true, ltb-false, lt-ltb, le-ltb, le-leb, lt-leb}
-use Rattle.model.specs.Tests.{if◌then◌else◌}
+use Rattle.model.specs.Tests.{when◌then◌else◌}
 use Rattle.model.proofs.Tests.{if_true, if_false}
 use Rattle.orders.specs.Orders.{Play, Order}
 use Rattle.orders.specs.Hunt.{repeats_of, played_out, steps_made, all_out, best}
@@ -15,7 +15,7 @@ use Rattle.orders.specs.Hunt.{repeats_of, played_out, steps_made, all_out, best}
 module _ (S : Play) where
   -- of two orders one after the other
   abbrev pub better_of : Order → Order → Order
-  better_of a o = if ltb (repeats_of S a) (repeats_of S o) then o else a
+  better_of a o = when ltb (repeats_of S a) (repeats_of S o) then o else a
 
   -- the best so far, none before the first order, with one order more
   abbrev pub kept : List Order → Order → List Order
@@ -23,8 +23,8 @@ module _ (S : Play) where
   kept (a ∷ l) o = better_of a o ∷ l
 
   merge_cases : (a o l : Order) (x y : Bool) → ltb (repeats_of S o) (repeats_of S l) ≡ x → ltb (repeats_of S a) (repeats_of S o) ≡ y
-      → better_of a (if x then l else o) ≡ better_of (if y then o else a) l
-  unfolding if◌then◌else◌
+      → better_of a (when x then l else o) ≡ better_of (when y then o else a) l
+  unfolding when◌then◌else◌
   merge_cases a o l true true e f =
       rw (e, lt-ltb (repeats_of S a) (repeats_of S l) (omega (arith, ltb-true (repeats_of S o) (repeats_of S l) e, ltb-true (repeats_of S a) (repeats_of S o) f)))
   merge_cases a o l true false e f = refl
@@ -57,7 +57,7 @@ module _ (S : Play) where
   unfolding played_out steps_made all_out
   walking_on B all l b o os h g w =
       let t = le-leb (length o) b g in
-      let m : (if leb (length o) b then length o + steps_made (b - length o) os else b) ≡ length o + steps_made (b - length o) os = if_true b t in
+      let m : (when leb (length o) b then length o + steps_made (b - length o) os else b) ≡ length o + steps_made (b - length o) os = if_true b t in
       record {
         within = omega (arith, w.within);
         found = w.found ∙ ap (λ (x : List Order). best S (l ++ x)) (if_true [] t) ∙ kept_best l o (played_out (b - length o) os) h;
@@ -83,7 +83,7 @@ module _ (S : Play) where
   unfolding played_out steps_made all_out
   walking_cut B all l b o os g w =
       let f = lt-leb (length o) b g in
-      let m : (if leb (length o) b then length o + steps_made (b - length o) os else b) ≡ b = if_false _ f in
+      let m : (when leb (length o) b then length o + steps_made (b - length o) os else b) ≡ b = if_false _ f in
       record {
         found = w.found ∙ ap (λ (x : List Order). best S (l ++ x)) (if_false _ f) ∙ ap (best S) (append_none l);
         made = omega (arith, w.made, w.within, m);

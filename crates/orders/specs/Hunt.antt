@@ -6,7 +6,7 @@ use Rattle.model.specs.declared.Operation.TheVariants.{Put, Take, Steal, Commit}
 use Rattle.model.specs.declared.Refusal.TheVariants.{NoSuchWorker}
 use Rattle.model.specs.declared.Answer.{Answer}
 use Rattle.model.specs.declared.Answer.TheVariants.{Accepted, Numbered, GoesOn, Finished, HandedOut, Empty, Full, Grown, Refused}
-use Rattle.model.specs.Tests.{if◌then◌else◌, unless◌then◌else◌, least}
+use Rattle.model.specs.Tests.{when◌then◌else◌, unless◌then◌else◌, least}
 use Rattle.model.specs.Tasks.{payload}
 use Rattle.model.specs.World.{World, Outcome}
 use Rattle.model.specs.Answers.{number_of as refusal_number}
@@ -27,22 +27,22 @@ repeats_of S o = repeats_in (after_order S o).world
 -- THE WALK, with a budget of b steps. The orders that are played out: one that the budget cuts off isn't, and none after it
 unfoldable pub played_out : ℕ → List Order → List Order
 played_out b [] = []
-played_out b (o ∷ os) = if leb (length o) b then o ∷ played_out (b - length o) os else []
+played_out b (o ∷ os) = when leb (length o) b then o ∷ played_out (b - length o) os else []
 
 -- the steps made, those of an order that the budget cuts off included
 unfoldable pub steps_made : ℕ → List Order → ℕ
 steps_made b [] = 0
-steps_made b (o ∷ os) = if leb (length o) b then length o + steps_made (b - length o) os else b
+steps_made b (o ∷ os) = when leb (length o) b then length o + steps_made (b - length o) os else b
 
 -- whether all are played out
 unfoldable pub all_out : ℕ → List Order → Bool
 all_out b [] = true
-all_out b (o ∷ os) = if leb (length o) b then all_out (b - length o) os else false
+all_out b (o ∷ os) = when leb (length o) b then all_out (b - length o) os else false
 
 -- the earliest with the most repeats; of none, the empty order
 unfoldable pub best : Play → List Order → Order
 best S [] = []
-best S (o ∷ os) = let later = best S os in if ltb (repeats_of S o) (repeats_of S later) then later else o
+best S (o ∷ os) = let later = best S os in when ltb (repeats_of S o) (repeats_of S later) then later else o
 
 -- TAKES AND STEALS: the operations that can hand out
 abbrev pub can_hand_out : Operation → ℕ
@@ -68,7 +68,7 @@ pub record Report : Type 0 where
   pub distance : ℕ
 
 abbrev pub distance_of : Bool → ℕ → ℕ → ℕ
-distance_of all h r = if all then 0 else h - 1 - r
+distance_of all h r = when all then 0 else h - 1 - r
 
 abbrev pub report_of : Play → ℕ → List Order → Report
 report_of S b os =

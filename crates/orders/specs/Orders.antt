@@ -1,7 +1,7 @@
 -- Orders of steps for a fixed list of operations of each worker.
 use Rattle.std.specs.Prelude.{Bool, true, false, not, List, [], ◌∷◌, ◌++◌, map, ℕ, zero, suc, get_or, set}
 use Rattle.model.specs.declared.Operation.{Operation}
-use Rattle.model.specs.Tests.{if◌then◌else◌, ◌or◌}
+use Rattle.model.specs.Tests.{when◌then◌else◌, ◌or◌}
 use Rattle.model.specs.World.{World, line_at, is_idle}
 use Rattle.model.specs.Calls.{begin_of, step_of}
 
@@ -34,7 +34,7 @@ begin_next S i (op ∷ ops) = play (step_of (begin_of S.world i op).world i).wor
 
 -- ONE STEP: worker i does its next line; one whose operation has ended begins its next one with it
 unfoldable pub move : Play → ℕ → Play
-move S i = if idle S i then begin_next S i (left_of S i) else play (step_of S.world i).world S.left
+move S i = when idle S i then begin_next S i (left_of S i) else play (step_of S.world i).world S.left
 
 -- an order: the workers that step, one after the other. What playing it leaves
 abbrev pub Order : Type 0
@@ -55,9 +55,9 @@ some_may S (i ∷ is) = may_step S i or some_may S is
 -- those that start with a step of one of these workers, in their order; `on` are the orders behind such a step
 unfoldable pub starting_with : (Play → List Order) → Play → List ℕ → List Order
 starting_with on S [] = []
-starting_with on S (i ∷ is) = (if may_step S i then map (λ o. i ∷ o) (on (move S i)) else []) ++ starting_with on S is
+starting_with on S (i ∷ is) = (when may_step S i then map (λ o. i ∷ o) (on (move S i)) else []) ++ starting_with on S is
 
 -- with at most n steps: an order ends when nobody has anything left, or after n steps
 unfoldable pub orders_of : ℕ → Play → List Order
 orders_of zero S = [] ∷ []
-orders_of (suc n) S = if some_may S everyone then starting_with (λ T. orders_of n T) S everyone else [] ∷ []
+orders_of (suc n) S = when some_may S everyone then starting_with (λ T. orders_of n T) S everyone else [] ∷ []

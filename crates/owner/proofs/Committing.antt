@@ -41,7 +41,7 @@ use Rattle.model.specs.declared.Room.{Room}
 use Rattle.model.specs.declared.Waiting.{Waiting}
 use Rattle.model.specs.declared.Bench.{Bench}
 use Rattle.model.specs.declared.Refusal.TheVariants.{WaitingFull, LogFull}
-use Rattle.model.specs.Tests.{if◌then◌else◌, ◌and◌}
+use Rattle.model.specs.Tests.{when◌then◌else◌, ◌and◌}
 use Rattle.model.specs.Answers.{ends, entry_length, logged}
 use Rattle.model.specs.Stores.{Shared, shared, landed_all, joined, claimed_by}
 use Rattle.model.specs.Lines.{Effect, holds_link, fails_compare}
@@ -171,10 +171,10 @@ module _ (ρ : Room) (b : Bench) (m l : List ℕ) (mode : b.delayed ≡ true) wh
                     crew = b.crew;
                     queue = relinked S.queue 0 (line_at b.workers 0) E.line;
                     waiting = s;
-                    aside = if E.claims then 0 else b.aside;
+                    aside = when E.claims then 0 else b.aside;
                     used = b.used;
                     restarts = restarted b.kind b.queue 0 (line_at b.workers 0) b.restarts;
-                    written = if ends E.answer then b.written + entry_length b.words else b.written;
+                    written = when ends E.answer then b.written + entry_length b.words else b.written;
                     workers = set b.workers 0 (record { line = E.line });
                   };
               store = S.store;

@@ -19,7 +19,7 @@ use Rattle.model.specs.declared.Answer.{Answer}
 use Rattle.model.specs.declared.Answer.TheVariants.{GoesOn, Refused}
 use Rattle.model.specs.declared.Refusal.{Refusal}
 use Rattle.model.specs.declared.Refusal.TheVariants.{IdleWorker, LogFull, WaitingFull}
-use Rattle.model.specs.Tests.{if◌then◌else◌, ◌and◌}
+use Rattle.model.specs.Tests.{when◌then◌else◌, ◌and◌}
 use Rattle.model.specs.Memory.{zeros}
 use Rattle.model.specs.Answers.{ends, entry_length}
 use Rattle.model.specs.Stores.{Shared, shared, landed_all, joined, in_line}
@@ -105,7 +105,7 @@ module _ {ρ : Room} (b : Bench) (m l : List ℕ) (v : Within ρ (lent b m l)) w
       (plan : PlannedBy ρ b.kind b.width b.words b.crew p z 0 y (record { line = x; made = c })) where
     effect : effect_on ρ b.kind b.width b.words p z 0 y ≡ next_effect ρ (lent b m l) 0
     effect =
-        ap (λ (t : Bool). line_step ρ b.kind (if t then 0 else b.width) b.words p z 0 y) same.linked
+        ap (λ (t : Bool). line_step ρ b.kind (when t then 0 else b.width) b.words p z 0 y) same.linked
         ∙ ap (λ (s : List ℕ). line_step ρ b.kind (tag_bits b) b.words p s 0 y) back
 
     pub planned : (d : Action) → c ≡ made.Waits d → Planned ρ b m l x d

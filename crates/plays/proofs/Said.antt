@@ -5,7 +5,7 @@ use lib.Dec.{eqb}
 use borrow.Author.Tests.{eq-eqb, ne_eqb}
 use Rattle.model.specs.declared.Payload.{Payload}
 use Rattle.model.specs.declared.Operation.TheVariants.{Put, Take, Steal, Commit}
-use Rattle.model.specs.Tests.{if◌then◌else◌}
+use Rattle.model.specs.Tests.{when◌then◌else◌}
 use Rattle.model.specs.Calls.{Call, begin, step, drop_link, drain, ask, drop_ask}
 use Rattle.model.proofs.Tests.{if_true, if_false}
 use Rattle.plays.specs.Words.{call_by}
@@ -29,7 +29,7 @@ module _ (o i : ℕ) (p : Payload) where
         if_false _ (ne_eqb o 1 n) ∙ if_false _ (ne_eqb o 2 m) ∙ if_false _ (ne_eqb o 3 k) ∙ if_false _ (ne_eqb o 4 j) ∙ if_true _ (eq-eqb o 5 e)
 
     module _ (h : o ≡ 5 → ⊥) where
-      past_drain : call_by o i p ≡ (if eqb o 6 then begin i Commit else if eqb o 7 then ask i else if eqb o 8 then drop_ask i else step i)
+      past_drain : call_by o i p ≡ (when eqb o 6 then begin i Commit else when eqb o 7 then ask i else when eqb o 8 then drop_ask i else step i)
       past_drain =
           if_false _ (ne_eqb o 1 n) ∙ if_false _ (ne_eqb o 2 m) ∙ if_false _ (ne_eqb o 3 k) ∙ if_false _ (ne_eqb o 4 j) ∙ if_false _ (ne_eqb o 5 h)
 

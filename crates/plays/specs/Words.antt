@@ -4,7 +4,7 @@ use Rattle.model.specs.declared.Payload.{Payload}
 use Rattle.model.specs.declared.Operation.TheVariants.{Put, Take, Steal, Commit}
 use Rattle.model.specs.declared.Answer.{Answer}
 use Rattle.model.specs.declared.Answer.TheVariants.{Accepted, Numbered, GoesOn, Finished, HandedOut, Empty, Full, Grown, Refused}
-use Rattle.model.specs.Tests.{if◌then◌else◌}
+use Rattle.model.specs.Tests.{when◌then◌else◌}
 use Rattle.model.specs.Tasks.{payload}
 use Rattle.model.specs.Answers.{number_of, entry_of, entry_words}
 use Rattle.model.specs.Calls.{Call, begin, step, drop_link, drain, ask, drop_ask}
@@ -18,14 +18,14 @@ call_words = 6
 -- step; the payload is a put's
 abbrev pub call_by : ℕ → ℕ → Payload → Call
 call_by o i p =
-    if eqb o 1 then begin i (Put p)
-    else if eqb o 2 then begin i Take
-    else if eqb o 3 then begin i Steal
-    else if eqb o 4 then drop_link i
-    else if eqb o 5 then drain
-    else if eqb o 6 then begin i Commit
-    else if eqb o 7 then ask i
-    else if eqb o 8 then drop_ask i
+    when eqb o 1 then begin i (Put p)
+    else when eqb o 2 then begin i Take
+    else when eqb o 3 then begin i Steal
+    else when eqb o 4 then drop_link i
+    else when eqb o 5 then drain
+    else when eqb o 6 then begin i Commit
+    else when eqb o 7 then ask i
+    else when eqb o 8 then drop_ask i
     else step i
 
 -- call k of the words s; the first n calls

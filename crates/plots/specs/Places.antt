@@ -6,7 +6,7 @@ use Rattle.model.specs.declared.Bench.{Bench}
 use Rattle.model.specs.declared.Yard.{Yard}
 use Rattle.model.specs.declared.Refusal.{Refusal}
 use Rattle.model.specs.declared.Refusal.TheVariants.{ForeignState, NoSuchQueue}
-use Rattle.model.specs.Tests.{if◌then◌else◌, unless◌then◌else◌, ◌and◌, ◌or◌}
+use Rattle.model.specs.Tests.{when◌then◌else◌, unless◌then◌else◌, ◌and◌, ◌or◌}
 use Rattle.model.specs.Memory.{nowhere}
 use Rattle.model.specs.Stores.{taken, words_taken}
 use Rattle.model.specs.Limits.{bench_ok, log_ok}
@@ -47,7 +47,7 @@ the_ground Y m ls = record { yard = Y; store = m; logs = ls }
 
 -- refusals 12 and 24 of a call of queue q, with the store m and the log l: each is answered by R; else x
 abbrev pub fit_for : Yard → ℕ → List ℕ → List ℕ → Bool
-fit_for Y q m l = yard_ok Y m and (if ltb q Y.made then log_ok (bench_at Y q) l else true)
+fit_for Y q m l = yard_ok Y m and (when ltb q Y.made then log_ok (bench_at Y q) l else true)
 
 abbrev pub called : {A : Type 0} → Yard → ℕ → List ℕ → List ℕ → (Refusal → A) → A → A
 called Y q m l R x =

@@ -10,7 +10,7 @@ use Rattle.model.specs.declared.Bench.{Bench}
 use Rattle.model.specs.declared.Kind.{Kind}
 use Rattle.model.specs.declared.Kind.TheVariants.{Lifo, Fifo, Deque}
 use Rattle.model.specs.declared.Answer.TheVariants.{Accepted}
-use Rattle.model.specs.Tests.{if◌then◌else◌}
+use Rattle.model.specs.Tests.{when◌then◌else◌}
 use Rattle.model.specs.World.{World, tag_bits}
 use Rattle.model.specs.Run.{Played, played}
 use Rattle.model.specs.Calls.{linked_of, fresh_of, Call}
@@ -21,8 +21,8 @@ use Rattle.theorems.proofs.NothingLost.{sound_in, demand3}
 use Rattle.theorems.proofs.Company.{Turn, played_in, after_in, InCompany}
 
 -- x: the queue is linked, and nothing is asked of it
-pub few_linked : (κ : Kind) (x : Bool) (w d : ℕ) → (x ≡ false → Few κ w d) → Few κ (if x then 0 else w) d
-unfolding if◌then◌else◌
+pub few_linked : (κ : Kind) (x : Bool) (w d : ℕ) → (x ≡ false → Few κ w d) → Few κ (when x then 0 else w) d
+unfolding when◌then◌else◌
 few_linked Lifo true w d f = λ some. absurd (omega arith)
 few_linked Fifo true w d f = tt
 few_linked Deque true w d f = λ some. absurd (omega arith)

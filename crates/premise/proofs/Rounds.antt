@@ -18,7 +18,7 @@ use Rattle.model.specs.declared.Operation.TheVariants.{Put, Take, Steal}
 use Rattle.model.specs.declared.Answer.{Answer}
 use Rattle.model.specs.declared.Answer.TheVariants.{Accepted, Numbered, GoesOn, Finished, HandedOut}
 use Rattle.model.specs.declared.Refusal.TheVariants.{NumbersSpent, LogFull}
-use Rattle.model.specs.Tests.{if◌then◌else◌, ◌and◌, ◌or◌}
+use Rattle.model.specs.Tests.{when◌then◌else◌, ◌and◌, ◌or◌}
 use Rattle.model.specs.Stores.{none_pending, landed_all}
 use Rattle.model.specs.Lines.{Effect, eff, goes, line_step}
 use Rattle.model.specs.World.{World, Outcome, refuse, tag_bits, resting, line_at, room_alone}
@@ -174,10 +174,10 @@ past (suc n) U = not (is_line_1 (line_at U.bench.workers 1)) and past n (raw_of 
 
 -- the last step of an operation, with room in the log or without
 abbrev ending : World → ℕ → Line → Bool → Outcome
-ending S i l b = if b then refuse S LogFull else stepped (room_alone S) S i (line_step (room_alone S) S.bench.kind (tag_bits S.bench) S.bench.words S.bench.queue S.store i l)
+ending S i l b = when b then refuse S LogFull else stepped (room_alone S) S i (line_step (room_alone S) S.bench.kind (tag_bits S.bench) S.bench.words S.bench.queue S.store i l)
 
 abbrev begun_or : World → Payload → Bool → Outcome
-begun_or U p b = if b then begun U 0 (Put p) else refuse U NumbersSpent
+begun_or U p b = when b then begun U 0 (Put p) else refuse U NumbersSpent
 
 -- calls from the world U lead to the world U' with these answers
 abbrev pub Runs : World → List Call → World → List Answer → Type 0
@@ -212,7 +212,7 @@ module _ (w n g wr : ℕ) (θ : Line) (x : ℕ) (rest lg : List ℕ) where
   put_leads κ v y b = raw_after (put_begun κ v y b).world (own_steps v)
 
   put_runs' : (κ : Tagged) (v : Wide) (y : ℕ) → ltb n 65535 ≡ true → Room v → PutRuns κ v y (n + 1)
-  unfolding line_step landed_all word_at set_word offset_at length_at size_at gathered word_in with_word if◌then◌else◌ ◌and◌ ◌or◌
+  unfolding line_step landed_all word_at set_word offset_at length_at size_at gathered word_in with_word when◌then◌else◌ ◌and◌ ◌or◌
   put_runs' lifo one y u r = (ap (put_leads lifo one y) u ∙ ap (λ (b : Bool). (put_end lifo one b).world) r, ap (put_says lifo one y) u ∙ ap (put_ends lifo one) r)
   put_runs' lifo two y u r = (ap (put_leads lifo two y) u ∙ ap (λ (b : Bool). (put_end lifo two b).world) r, ap (put_says lifo two y) u ∙ ap (put_ends lifo two) r)
   put_runs' lifo three y u r = (ap (put_leads lifo three y) u ∙ ap (λ (b : Bool). (put_end lifo three b).world) r, ap (put_says lifo three y) u ∙ ap (put_ends lifo three) r)
@@ -239,7 +239,7 @@ module _ (w n g wr : ℕ) (θ : Line) (x : ℕ) (rest lg : List ℕ) where
       → Runs (full κ v Idle θ) (taking v)
       (here κ v w (anchor 0 0 g) n (wr + entry_length (many v)) Idle θ (holding v x 7 rest) (write_entry v lg wr (entry 2 0 (short x 7))))
       (take_answers v x)
-  unfolding line_step landed_all word_at set_word offset_at length_at size_at gathered word_in with_word if◌then◌else◌ ◌and◌ ◌or◌
+  unfolding line_step landed_all word_at set_word offset_at length_at size_at gathered word_in with_word when◌then◌else◌ ◌and◌ ◌or◌
   take_runs lifo one r = (ap (λ (b : Bool). (take_end lifo one b).world) r, ap (take_ends lifo one) r)
   take_runs lifo two r = (ap (λ (b : Bool). (take_end lifo two b).world) r, ap (take_ends lifo two) r)
   take_runs lifo three r = (ap (λ (b : Bool). (take_end lifo three b).world) r, ap (take_ends lifo three) r)
@@ -251,7 +251,7 @@ module _ (w n g wr : ℕ) (θ : Line) (x : ℕ) (rest lg : List ℕ) where
 
   -- the thief's lines before its compare; none of them but the first is a line 1
   pub steal_runs : (κ : Tagged) (v : Wide) → Runs (full κ v Idle Idle) (stealing κ v) (full κ v Idle (StealCompare (anchor 0 1 g) (h2 κ) (short x 7))) (steal_answers κ v)
-  unfolding line_step landed_all word_at set_word offset_at length_at size_at gathered word_in with_word if◌then◌else◌ ◌and◌ ◌or◌
+  unfolding line_step landed_all word_at set_word offset_at length_at size_at gathered word_in with_word when◌then◌else◌ ◌and◌ ◌or◌
   steal_runs lifo one = (refl, refl)
   steal_runs lifo two = (refl, refl)
   steal_runs lifo three = (refl, refl)
@@ -262,7 +262,7 @@ module _ (w n g wr : ℕ) (θ : Line) (x : ℕ) (rest lg : List ℕ) where
   steal_runs deque four = (refl, refl)
 
   pub steal_past : (κ : Tagged) (v : Wide) → past (waits κ v) (raw_after (full κ v Idle Idle) (begin 1 Steal ∷ step 1 ∷ [])) ≡ true
-  unfolding line_step landed_all word_at set_word offset_at length_at size_at gathered word_in with_word if◌then◌else◌ ◌and◌ ◌or◌
+  unfolding line_step landed_all word_at set_word offset_at length_at size_at gathered word_in with_word when◌then◌else◌ ◌and◌ ◌or◌
   steal_past lifo one = refl
   steal_past lifo two = refl
   steal_past lifo three = refl
@@ -280,7 +280,7 @@ module _ (w n g wr : ℕ) (θ : Line) (x : ℕ) (rest lg : List ℕ) where
   found κ v g' t = eff (StoreOut (anchor (h2 κ) 0 g') ∷ []) Idle (HandedOut 1 t)
 
   abbrev compared : Tagged → Wide → ℕ → Task → Bool → Effect
-  compared κ v g' t b = if b then found κ v g' t else goes StealRead
+  compared κ v g' t b = when b then found κ v g' t else goes StealRead
 
   -- what the step leaves, b if it finds the anchor as read
   abbrev won : Tagged → Wide → ℕ → Task → Bool → Outcome
@@ -288,7 +288,7 @@ module _ (w n g wr : ℕ) (θ : Line) (x : ℕ) (rest lg : List ℕ) where
       let W = comparing κ v g' t in
       let E = compared κ v g' t b in
       let D = stepped (room_alone W) W 1 E in
-      if no_room W E then refuse W LogFull
+      when no_room W E then refuse W LogFull
       else record {
         world =
             record {
@@ -303,7 +303,7 @@ module _ (w n g wr : ℕ) (θ : Line) (x : ℕ) (rest lg : List ℕ) where
                     waiting = D.world.bench.waiting;
                     aside = D.world.bench.aside;
                     used = D.world.bench.used;
-                    restarts = if not b then raised W.bench.restarts 1 else W.bench.restarts;
+                    restarts = when not b then raised W.bench.restarts 1 else W.bench.restarts;
                     written = D.world.bench.written;
                     workers = D.world.bench.workers;
                   };
@@ -315,12 +315,12 @@ module _ (w n g wr : ℕ) (θ : Line) (x : ℕ) (rest lg : List ℕ) where
 
   abbrev won_end : Tagged → Wide → ℕ → Task → Bool → Outcome
   won_end κ v g' t b =
-      if b then refuse (comparing κ v g' t) LogFull
+      when b then refuse (comparing κ v g' t) LogFull
       else record { world = here κ v w (anchor (h2 κ) 0 g') n (wr + entry_length (many v)) Idle Idle (holding v x 7 rest) (write_entry v lg wr (entry 2 1 t)); answer = HandedOut 1 t }
 
   pub win_run : (κ : Tagged) (v : Wide) (g' : ℕ) (t : Task) → eqb g g' ≡ true → Room v
       → raw_of (full κ v Idle (StealCompare (anchor 0 1 g') (h2 κ) t)) (step 1)
       ≡ record { world = here κ v w (anchor (h2 κ) 0 g') n (wr + entry_length (many v)) Idle Idle (holding v x 7 rest) (write_entry v lg wr (entry 2 1 t)); answer = HandedOut 1 t }
-  unfolding line_step landed_all if◌then◌else◌ ◌and◌ ◌or◌
+  unfolding line_step landed_all when◌then◌else◌ ◌and◌ ◌or◌
   win_run lifo v g' t e r = ap (won lifo v g' t) e ∙ ap (won_end lifo v g' t) r
   win_run deque v g' t e r = ap (won deque v g' t) e ∙ ap (won_end deque v g' t) r

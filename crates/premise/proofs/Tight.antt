@@ -19,7 +19,7 @@ use Rattle.model.specs.declared.Operation.TheVariants.{Put, Steal}
 use Rattle.model.specs.declared.Answer.{Answer}
 use Rattle.model.specs.declared.Answer.TheVariants.{Accepted, Numbered, GoesOn, Finished, HandedOut, Refused}
 use Rattle.model.specs.declared.Refusal.{Refusal}
-use Rattle.model.specs.Tests.{if◌then◌else◌, ◌and◌, ◌or◌}
+use Rattle.model.specs.Tests.{when◌then◌else◌, ◌and◌, ◌or◌}
 use Rattle.model.specs.Lines.{line_step}
 use Rattle.model.specs.Stores.{landed_all}
 use Rattle.model.specs.World.{World, Outcome, line_at}
@@ -179,7 +179,7 @@ module _ (κ : Tagged) (v : Wide) (w : ℕ) (m l : List ℕ) (low : 0 < w) (high
   d = entry_length (many v)
 
   H : Lone (start 0 (the_kind κ) false w 1 2 (many v) false m l)
-  unfolding if◌then◌else◌ ◌or◌ words_to offset_at length_at
+  unfolding when◌then◌else◌ ◌or◌ words_to offset_at length_at
   H =
       record {
         whole = fresh_whole 0 (the_kind κ) false w 1 2 (many v) false m l (record { width = (low, omega arith); test = refl; crew = (omega arith, omega arith); words = many_in v; room = omega (arith, slot) }) (tagged_kind κ);
@@ -392,7 +392,7 @@ module _ (κ : Tagged) (v : Wide) (w : ℕ) (m l : List ℕ) (low : 0 < w) (high
   line1_done = ap (λ (U : World). call_of U (step 1)) begun1_after ∙ raw_is _ (step 1) (lone_at begun1 _ begun1_after)
 
   goes : (call_of (after B begun1) (step 1)).answer ≡ GoesOn
-  unfolding line_step ◌and◌ if◌then◌else◌
+  unfolding line_step ◌and◌ when◌then◌else◌
   goes = ap (λ (D : Outcome). D.answer) line1_done
 
   goes_not : (a : Answer) → a ≡ GoesOn → (r : Refusal) → a ≡ Refused r → ⊥
@@ -402,7 +402,7 @@ module _ (κ : Tagged) (v : Wide) (w : ℕ) (m l : List ℕ) (low : 0 < w) (high
   out_not a e r q = let z : ◌≡◌ {A = ℕ} 0 1 = cc in omega arith
 
   line1_at : At T (length begun1) (Line1 1)
-  unfolding if◌then◌else◌
+  unfolding when◌then◌else◌
   line1_at =
       subst (λ (cs : List Call). At (played B cs) (length begun1) (Line1 1)) (sym list_splits)
       (at_split begun1 (step 1) more B (Line1 1) (inr (refl, ap (λ (U : World). line_at U.bench.workers 1) begun1_after, goes_not _ goes)))
@@ -567,7 +567,7 @@ tagged k (inr e) = (deque, e)
 
 accepted : (κ : Tagged) (v : Wide) (w : ℕ) (m l : List ℕ) → 0 < w → w ≤ 15 → many v + 1 ≤ length m
     → fresh_of (setup (number κ) w 1 2 (many v)) m l ≡ record { world = start 0 (the_kind κ) false w 1 2 (many v) false m l; answer = Accepted }
-unfolding fresh_of ◌and◌ if◌then◌else◌ ◌or◌
+unfolding fresh_of ◌and◌ when◌then◌else◌ ◌or◌
 accepted lifo v w m l a b c =
     rw (lt-ltb 0 w a, le-leb w 16 (omega arith), lt-ltb 0 (many v) (many_in v).0, le-leb (many v) 4 (many_in v).1, le-leb ((many v + 1) * 1) (usable m) (roomy v m c))
 accepted deque v w m l a b c =

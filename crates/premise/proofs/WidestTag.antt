@@ -10,7 +10,7 @@ use lib.ListN.{take, drop}
 use Rattle.model.specs.declared.Kind.{Kind}
 use Rattle.model.specs.declared.Kind.TheVariants.{Lifo, Fifo, Deque}
 use Rattle.model.specs.declared.Line.{Line}
-use Rattle.model.specs.Tests.{if◌then◌else◌}
+use Rattle.model.specs.Tests.{when◌then◌else◌}
 use Rattle.model.specs.World.{World, tag_bits}
 use Rattle.model.specs.Calls.{call_in}
 use Rattle.model.specs.Run.{Played}
@@ -48,11 +48,11 @@ puts_take (s ∷ T) (suc n) = omega (arith, puts_take T n)
 
 -- those that come to memory have finished
 landed_finished : (T : List Played) → landed T ≤ finished T
-unfolding if◌then◌else◌
+unfolding when◌then◌else◌
 landed_finished [] = omega arith
 landed_finished (s ∷ T) = omega (arith, landed_finished T, part (leb (waits s) (drains T)) (finishes s.answer))
   where
-    part : (x : Bool) (n : ℕ) → (if x then n else 0) ≤ n
+    part : (x : Bool) (n : ℕ) → (when x then n else 0) ≤ n
     part true n = omega arith
     part false n = omega arith
 

@@ -18,7 +18,7 @@ use Rattle.model.specs.declared.Command.{Command}
 use Rattle.model.specs.declared.Command.TheVariants.{Steps, Who}
 use Rattle.model.specs.declared.Tally.{Tally}
 use Rattle.model.specs.declared.Counts.{Counts}
-use Rattle.model.specs.Tests.{if◌then◌else◌}
+use Rattle.model.specs.Tests.{when◌then◌else◌}
 use Rattle.model.specs.World.{World, Outcome}
 use Rattle.model.specs.Limits.{valid_of}
 use Rattle.model.specs.Calls.{lent, fresh_of, begin_of, who_of}
@@ -48,15 +48,15 @@ abbrev pub played : Session → ℕ → Answered
 played s e = record { session = s; end = e; stops = false }
 
 pub program_live : (s : Session) (m l : List ℕ) → s.live ≡ true → program_of s m l ≡ playing (world_of s m l)
-unfolding if◌then◌else◌
-program_live s m l e = ap (λ (b : Bool). if b then playing (world_of s m l) else waiting m l) e
+unfolding when◌then◌else◌
+program_live s m l e = ap (λ (b : Bool). when b then playing (world_of s m l) else waiting m l) e
 
 pub program_waits : (s : Session) (m l : List ℕ) → s.live ≡ false → program_of s m l ≡ waiting m l
-unfolding if◌then◌else◌
-program_waits s m l e = ap (λ (b : Bool). if b then playing (world_of s m l) else waiting m l) e
+unfolding when◌then◌else◌
+program_waits s m l e = ap (λ (b : Bool). when b then playing (world_of s m l) else waiting m l) e
 
 pub left_on : (b : Bool) (s : Session) (m l : List ℕ) → b ≡ false → left_by b s m l ≡ program_of s m l
-unfolding if◌then◌else◌
+unfolding when◌then◌else◌
 left_on b s m l e = ap (λ (x : Bool). left_by x s m l) e
 
 -- a begin or a step: the bench and its memory as the outcome has them, and the answer's text
@@ -93,7 +93,7 @@ put_wrong W v p e = if_false _ (ne_eqb v W.bench.words e)
 
 -- a `step` while a bench is played asks for steps
 pub asks_steps : (c : Command) (i n : ℕ) → c ≡ Steps i n → asked_of true c ≡ Other → ⊥
-unfolding if◌then◌else◌
+unfolding when◌then◌else◌
 asks_steps c i n e h = let z : Step i n ≡ Other = ap (asked_of true) (sym e) ∙ h in let y : ◌≡◌ {A = ℕ} 0 1 = cc in omega arith
 
 -- a refused fresh leaves the store as it was
@@ -146,11 +146,11 @@ module _ (u : Setup) (w n : ℕ) (m l p : List ℕ) (b : Bench) (a : Answer) (e 
   verdict : (x : Bool) → is_refused a ≡ x → is_refused (fresh_of u (take w m) l).answer ≡ x
   verdict x h = ap (λ (d : Outcome). is_refused d.answer) (sym made_on) ∙ h
 
-  choose : (x : Bool) (P Q : Program) → is_refused (fresh_of u (take w m) l).answer ≡ x → (if is_refused (fresh_of u (take w m) l).answer then P else Q) ≡ (if x then P else Q)
-  choose x P Q h = ap (λ (y : Bool). if y then P else Q) h
+  choose : (x : Bool) (P Q : Program) → is_refused (fresh_of u (take w m) l).answer ≡ x → (when is_refused (fresh_of u (take w m) l).answer then P else Q) ≡ (when x then P else Q)
+  choose x P Q h = ap (λ (y : Bool). when y then P else Q) h
 
   pub opened_by : is_refused a ≡ false → AnsweredBy (opened (waiting m l) (fresh_of u (take w m) l)) (played (live w b) e) (p ++ drop n m) l before at after
-  unfolding if◌then◌else◌
+  unfolding when◌then◌else◌
   opened_by h = record {
     program =
         left_on false (live w b) (p ++ drop n m) l refl ∙ program_live (live w b) (p ++ drop n m) l refl
@@ -160,7 +160,7 @@ module _ (u : Setup) (w n : ℕ) (m l p : List ℕ) (b : Bench) (a : Answer) (e 
   }
 
   pub refused_by : (s : Session) → s.live ≡ false → is_refused a ≡ true → AnsweredBy (opened (waiting m l) (fresh_of u (take w m) l)) (played s e) (p ++ drop n m) l before at after
-  unfolding if◌then◌else◌
+  unfolding when◌then◌else◌
   refused_by s q h =
       let same : p ≡ take n m = ap (λ (x : Outcome). x.world.store) made ∙ fresh_leaves u (take n m) l (ap (λ (d : Outcome). is_refused d.answer) (sym made) ∙ h) in record {
         program =
@@ -183,7 +183,7 @@ who_by s i n m l t e before at after v h f p = record {
 pub total_by : (s : Session) (n : ℕ) (m l : List ℕ) (c : Counts) (e : ℕ) (before : List ℕ) (at : ℕ) (after : List ℕ) → n ≡ min s.long (length m) → c ≡ counts_of (lent s.bench (take n m) l) →
     Placed before at (line_of 84 (c.finished ∷ c.handouts ∷ c.different ∷ c.restarts ∷ c.window ∷ c.lost ∷ [])) e after →
     AnsweredBy (response ended (totals (counts_of (world_of s m l)) ∷ [])) (record { session = s; end = e; stops = true }) m l before at after
-unfolding if◌then◌else◌ shown
+unfolding when◌then◌else◌ shown
 total_by s n m l c e before at after h f t = record {
   program = refl;
   text = shows_one 84 (totals (counts_of (world_of s m l))) _ (refl) before at e after

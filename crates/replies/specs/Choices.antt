@@ -4,7 +4,7 @@ use Rattle.model.specs.declared.Command.{Command}
 use Rattle.model.specs.declared.Command.TheVariants.{Open, BeginPut, BeginTake, BeginSteal, Steps, Who, End, Bad}
 use Rattle.model.specs.declared.Answer.{Answer}
 use Rattle.model.specs.declared.Answer.TheVariants.{Accepted, Numbered, GoesOn, Finished, HandedOut, Empty, Full, Grown, Refused}
-use Rattle.model.specs.Tests.{if◌then◌else◌}
+use Rattle.model.specs.Tests.{when◌then◌else◌}
 use Rattle.model.specs.World.{World}
 use Rattle.model.specs.Listing.{playing, response, printed, respond}
 use Rattle.state.specs.declared.Stop.{Stop}
@@ -32,7 +32,7 @@ asked_of v (Open k w c n s p) = Other
 asked_of v (BeginPut n p) = Other
 asked_of v BeginTake = Other
 asked_of v (BeginSteal i) = Other
-asked_of v (Steps i n) = if v then Step i n else Other
+asked_of v (Steps i n) = when v then Step i n else Other
 asked_of v (Who i) = Other
 asked_of v End = Other
 asked_of v Bad = Other

@@ -13,7 +13,7 @@ use Rattle.model.specs.declared.Line.{Line}
 use Rattle.model.specs.declared.Line.TheVariants.{Idle, PutRead, PutTail, PutTest, PutWord, PutFinish, Claim, Note, Copy, Publish, TakeRead, TakeTail, TakeTest, TakeWord, TakeFinish, StealRead, StealTail, StealTest, StealNote, StealWord, StealNext, StealCompare}
 use Rattle.model.specs.declared.Queue.{Queue}
 use Rattle.model.specs.declared.Room.{Room}
-use Rattle.model.specs.Tests.{if◌then◌else◌, unless◌then◌else◌}
+use Rattle.model.specs.Tests.{when◌then◌else◌, unless◌then◌else◌}
 use Rattle.model.specs.Memory.{usable}
 use Rattle.model.specs.Stores.{taken}
 use Rattle.model.specs.Lines.{Effect, line_step}
@@ -52,8 +52,8 @@ same_effect ρ σ κ w v q m i (StealWord r k t j) = refl
 same_effect ρ σ κ w v q m i (StealNext r t) = refl
 same_effect ρ σ κ w v q m i (StealCompare r e t) = refl
 
-neither : (x : Bool) (E F : Effect) → E.claims ≡ false → F.claims ≡ false → (if x then E else F).claims ≡ false
-unfolding if◌then◌else◌
+neither : (x : Bool) (E F : Effect) → E.claims ≡ false → F.claims ≡ false → (when x then E else F).claims ≡ false
+unfolding when◌then◌else◌
 neither true E F e f = e
 neither false E F e f = f
 
@@ -122,7 +122,7 @@ module _ (W : World) (valid : valid_of W ≡ true) (fits : taken W.bench.queue �
       by true e =
           let h = ltb-true i W.bench.crew e in
           ap (λ (j : ℕ). step_in (handed W (line_at W.bench.workers j)) W i) (at (omega (arith, h, crew)))
-          ∙ ap (λ (O : Outcome). unless ltb i W.bench.crew then refuse W NoSuchWorker else if is_idle (line_at W.bench.workers i) then refuse W IdleWorker else O)
+          ∙ ap (λ (O : Outcome). unless ltb i W.bench.crew then refuse W NoSuchWorker else when is_idle (line_at W.bench.workers i) then refuse W IdleWorker else O)
           (done i (line_at W.bench.workers i))
       by false e = if_false _ e ∙ sym (if_false _ e)
 

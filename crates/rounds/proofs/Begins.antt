@@ -7,7 +7,7 @@ use native.Mathlib.Omega.{arith}
 use lib.ListN.{length, get_or}
 use Rattle.model.specs.declared.Operation.{Operation}
 use Rattle.model.specs.declared.Operation.TheVariants.{Put, Take, Steal}
-use Rattle.model.specs.Tests.{if◌then◌else◌}
+use Rattle.model.specs.Tests.{when◌then◌else◌}
 use Rattle.model.specs.Calls.{first_line, used_by}
 use Rattle.orders.specs.Hunt.{owners_next}
 use Rattle.rounds.specs.declared.Begun.{Begun}
@@ -26,7 +26,7 @@ pub first_owner : (i : ℕ) (puts : List Bool) (n v u : ℕ) (b : Bool) → i �
 first_owner zero puts n v u b h e = ap (λ (x : Bool). first (owners_next x) v u) (sym e)
 first_owner (suc i) puts n v u b h e = absurd (omega arith)
 
-pub none_still : (b : Bool) (t : ℕ) → t ≡ 0 → 0 ≡ (if b then t - 1 else t)
-unfolding if◌then◌else◌
+pub none_still : (b : Bool) (t : ℕ) → t ≡ 0 → 0 ≡ (when b then t - 1 else t)
+unfolding when◌then◌else◌
 none_still true t e = omega arith
 none_still false t e = sym e

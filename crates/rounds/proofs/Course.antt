@@ -6,7 +6,7 @@ use Prim.Native.Nat.{ℕ, zero, suc, ◌+◌, ◌-◌, ◌≤◌, ◌<◌}
 use native.Mathlib.Omega.{arith}
 use lib.ListN.{length, take, drop, get_or, length-drop, drop_of_length-le}
 use lib.Seq.{drop-cons, drop-nil}
-use Rattle.model.specs.Tests.{if◌then◌else◌, ◌or◌}
+use Rattle.model.specs.Tests.{when◌then◌else◌, ◌or◌}
 use Rattle.model.proofs.Tests.{if_true, if_false}
 use Rattle.orders.specs.Orders.{Play, Order, may_step, move, after_order, everyone, some_may}
 use Rattle.orders.specs.Next.{lowest, first_of}
@@ -43,7 +43,7 @@ first_given (suc m) S (i ∷ p) (suc n) h g =
 -- behind them it goes on from where it stands
 pub first_rest : (m : ℕ) (S : Play) (p : Order) (n : ℕ) → n ≤ length (first_of m S p)
     → drop n (first_of m S p) ≡ first_of (m - n) (after_order S (take n (first_of m S p))) (drop n p)
-unfolding first_of after_order if◌then◌else◌
+unfolding first_of after_order when◌then◌else◌
 first_rest m S p zero h = ap (λ (k : ℕ). first_of k S p) (let e : m ≡ m - 0 = omega arith in e)
 first_rest zero S p (suc n) h = absurd (omega arith)
 first_rest (suc m) S (i ∷ p) (suc n) h =
@@ -53,10 +53,10 @@ first_rest (suc m) S [] (suc n) h = go (some_may S everyone) h (first_rest m (mo
     i : ℕ
     i = lowest S everyone
 
-    go : (x : Bool) → suc n ≤ length (if x then i ∷ first_of m (move S i) [] else [])
+    go : (x : Bool) → suc n ≤ length (when x then i ∷ first_of m (move S i) [] else [])
         → (n ≤ length (first_of m (move S i) []) → drop n (first_of m (move S i) []) ≡ first_of (m - n) (after_order (move S i) (take n (first_of m (move S i) []))) (drop n []))
-        → drop (suc n) (if x then i ∷ first_of m (move S i) [] else [])
-        ≡ first_of (suc m - suc n) (after_order S (take (suc n) (if x then i ∷ first_of m (move S i) [] else []))) (drop (suc n) [])
+        → drop (suc n) (when x then i ∷ first_of m (move S i) [] else [])
+        ≡ first_of (suc m - suc n) (after_order S (take (suc n) (when x then i ∷ first_of m (move S i) [] else []))) (drop (suc n) [])
     go true g f =
         f (omega arith) ∙ ap (λ (p : Order). first_of (m - n) (after_order (move S i) (take n (first_of m (move S i) []))) p) (drop-nil n)
         ∙ ap (λ (k : ℕ). first_of k (after_order (move S i) (take n (first_of m (move S i) []))) []) (let e : m - n ≡ suc m - suc n = omega arith in e)
@@ -64,11 +64,11 @@ first_rest (suc m) S [] (suc n) h = go (some_may S everyone) h (first_rest m (mo
 
 -- where nothing is given, the lowest that may step makes the next step; nobody, if none may
 none_lowest : (S : Play) (is : List ℕ) → some_may S is ≡ false → lowest S is ≡ 8
-unfolding some_may lowest if◌then◌else◌ ◌or◌
+unfolding some_may lowest when◌then◌else◌ ◌or◌
 none_lowest S [] e = refl
 none_lowest S (i ∷ is) e = go (may_step S i) (none_lowest S is) e
   where
-    go : (x : Bool) → (some_may S is ≡ false → lowest S is ≡ 8) → (x or some_may S is) ≡ false → (if x then i else lowest S is) ≡ 8
+    go : (x : Bool) → (some_may S is ≡ false → lowest S is ≡ 8) → (x or some_may S is) ≡ false → (when x then i else lowest S is) ≡ 8
     go true f e = absurd (true≢false e)
     go false f e = f e
 
@@ -78,8 +78,8 @@ unfolding first_of
 lowest_next k T w e = go (some_may T everyone) refl
   where
     go : (x : Bool) → some_may T everyone ≡ x
-        → (w ≡ 8 → (if some_may T everyone then lowest T everyone ∷ first_of k (move T (lowest T everyone)) [] else []) ≡ [])
-        × ((w ≡ 8 → ⊥) → (o : Order) × ((if some_may T everyone then lowest T everyone ∷ first_of k (move T (lowest T everyone)) [] else []) ≡ w ∷ o))
+        → (w ≡ 8 → (when some_may T everyone then lowest T everyone ∷ first_of k (move T (lowest T everyone)) [] else []) ≡ [])
+        × ((w ≡ 8 → ⊥) → (o : Order) × ((when some_may T everyone then lowest T everyone ∷ first_of k (move T (lowest T everyone)) [] else []) ≡ w ∷ o))
     go true f = (
       λ g. absurd (omega (arith, e, g, everyone_below (lowest T everyone) (lowest_is T everyone f).0)),
       λ g. (first_of k (move T (lowest T everyone)) [], if_true [] f ∙ ap (λ (i : ℕ). i ∷ first_of k (move T (lowest T everyone)) []) (sym e)),

@@ -13,7 +13,7 @@ use Rattle.model.specs.declared.Room.{Room}
 use Rattle.model.specs.declared.Worker.{Worker}
 use Rattle.model.specs.declared.Operation.{Operation}
 use Rattle.model.specs.declared.Operation.TheVariants.{Put, Take, Steal, Commit}
-use Rattle.model.specs.Tests.{if◌then◌else◌, ◌or◌}
+use Rattle.model.specs.Tests.{when◌then◌else◌, ◌or◌}
 use Rattle.model.specs.Lines.{Effect}
 use Rattle.model.specs.Limits.{valid_of, Within}
 use Rattle.model.specs.World.{World, Outcome, resting, line_at, is_idle, room_alone}

@@ -11,7 +11,7 @@ use lib.Seq.{take-suc, take-suc-set, take-length, take_all, get_or-take, get_or-
 use borrow.Author.Tests.{eqb-true, eqb-false}
 use Rattle.model.specs.declared.Line.{Line}
 use Rattle.model.specs.declared.Bench.{Bench}
-use Rattle.model.specs.Tests.{if◌then◌else◌}
+use Rattle.model.specs.Tests.{when◌then◌else◌}
 use Rattle.model.specs.World.{World, line_at, is_idle, room_alone}
 use Rattle.model.specs.declared.Room.{Room}
 use Rattle.model.specs.Limits.{valid_of}
@@ -71,8 +71,8 @@ playing_start S p puts most b m l t order others w f o e g h =
     }
 
 -- the code takes one off where the operation ended
-pub told_set : (t : List ℕ) (i : ℕ) (b : Bool) → set t i (if b then get_or t i 0 - 1 else get_or t i 0) ≡ (if b then set t i (get_or t i 0 - 1) else t)
-unfolding if◌then◌else◌
+pub told_set : (t : List ℕ) (i : ℕ) (b : Bool) → set t i (when b then get_or t i 0 - 1 else get_or t i 0) ≡ (when b then set t i (get_or t i 0 - 1) else t)
+unfolding when◌then◌else◌
 told_set t i true = refl
 told_set t i false = set-get_or t i 0
 
@@ -209,7 +209,7 @@ module _ {S : Play} {p : Order} {puts : List Bool} {order₀ : List ℕ} {most :
     module _ (spare : n < most) (more : n < 256) (r : Begun) (O : Opens b m l T.left t puts w r.line r.used) (ρ : Room)
         (q : ρ ≡ room_alone (lent (ready b w r.line r.used) m l)) (x : Line) (d : Made) (m' l' : List ℕ)
         (by : moved_by (ready b w r.line r.used) w x d m' l' ≡ step_in ρ (lent (ready b w r.line r.used) m l) w) (higher left : ℕ)
-        (above_is : higher ≡ first_busy t (from (w + 1) (8 - (w + 1)))) (left_is : left ≡ (if is_idle x then get_or t w 0 - 1 else get_or t w 0)) where
+        (above_is : higher ≡ first_busy t (from (w + 1) (8 - (w + 1)))) (left_is : left ≡ (when is_idle x then get_or t w 0 - 1 else get_or t w 0)) where
       told_is : told t w x ≡ set t w left
       told_is = sym (ap (set t w) left_is ∙ told_set t w (is_idle x))
 

@@ -5,7 +5,7 @@
 #![tactic(auto)]
 
 ghost use Rattle.std.specs.Prelude.{◌≡◌, true, false, List, [], ◌∷◌, ℕ, ◌+◌, ◌-◌, ◌≤◌, ◌<◌, length, take, get_or};
-ghost use Rattle.model.specs.Tests.{if◌then◌else◌};
+ghost use Rattle.model.specs.Tests.{when◌then◌else◌};
 ghost use Rattle.model.specs.World.{is_idle};
 ghost use Rattle.model.specs.Calls.{first_line, used_by};
 ghost use Rattle.turns.specs.Turns.{from, first_busy};
@@ -77,7 +77,7 @@ fn opened(worker: u32, line: Line, puts: &[bool], left: u32, words: u32, used: u
 
 // What a worker has open or left, once its step has left it at `line`.
 fn still(todo: u32, line: Line) -> u32
-    ensures { result ≡ if◌then◌else◌ (is_idle line) (todo - 1) todo }
+    ensures { result ≡ when◌then◌else◌ (is_idle line) (todo - 1) todo }
 {
     if todo == 0 {
         return 0;

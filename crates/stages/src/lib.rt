@@ -4,7 +4,7 @@
 #![tactic(auto)]
 
 ghost use Rattle.std.specs.Prelude.{◌≡◌};
-ghost use Rattle.model.specs.Tests.{if◌then◌else◌};
+ghost use Rattle.model.specs.Tests.{when◌then◌else◌};
 ghost use Rattle.model.specs.World.{claim_stage, stage, is_idle};
 ghost use Rattle.model.specs.Limits.{read_by};
 ghost use Rattle.model.specs.Calls.{one_more};
@@ -107,7 +107,7 @@ pub fn read_by(line: Line) -> Anchor
 
 // The tag's bits: a linked queue has no tag.
 pub fn tag_bits(linked: bool, width: u32) -> u32
-    ensures { result ≡ if◌then◌else◌ linked 0 width }
+    ensures { result ≡ when◌then◌else◌ linked 0 width }
 {
     if linked { 0 } else { width }
 }

@@ -17,7 +17,7 @@ use Rattle.model.specs.declared.Store.TheVariants.{StoreWord}
 use Rattle.model.specs.declared.Operation.{Operation}
 use Rattle.model.specs.declared.Operation.TheVariants.{Put, Take, Steal}
 use Rattle.model.specs.declared.Answer.TheVariants.{GoesOn}
-use Rattle.model.specs.Tests.{if◌then◌else◌, ◌and◌, ◌or◌}
+use Rattle.model.specs.Tests.{when◌then◌else◌, ◌and◌, ◌or◌}
 use Rattle.model.specs.Memory.{nowhere, zeros, word_at, set_word, offset_at, length_at, size_at, words_to}
 use Rattle.model.specs.Tasks.{task, word_in, with_word, gathered}
 use Rattle.model.specs.Answers.{entry_of, ends}
@@ -94,7 +94,7 @@ pub failed_compare :
     × Alike beaten 1 2
     (stands false false (anchor 0 0 1) (first ∷ []) unlinked [] 1 (0 ∷ 1 ∷ 0 ∷ []) Idle StealRead (StealTest (anchor 0 0 1)) (1 ∷ 65 ∷ 0 ∷ 0 ∷ [])
     (1 ∷ 0 ∷ 1 ∷ 65 ∷ 2 ∷ 0 ∷ 1 ∷ 65 ∷ []))
-unfolding beaten bench does after fresh_of begin_of step_of valid_of words_to line_step landed_all zeros word_at set_word offset_at length_at size_at gathered word_in with_word if◌then◌else◌ ◌and◌ ◌or◌
+unfolding beaten bench does after fresh_of begin_of step_of valid_of words_to line_step landed_all zeros word_at set_word offset_at length_at size_at gathered word_in with_word when◌then◌else◌ ◌and◌ ◌or◌
 failed_compare = (record { accepted = refl; ends_none = refl; claims_none = refl; lands_none = refl }, record { accepted = refl; ends_none = refl; claims_none = refl; lands_none = refl }, record { this = refl; other = refl })
 
 -- LINE 1 OF A STEAL THAT LINKS is quiet: the link is its worker's own. Both thieves are at it
@@ -107,7 +107,7 @@ pub first_line_lem :
     × Alike linking 1 2
     (stands true false (anchor 0 1 0) (first ∷ []) (false ∷ true ∷ true ∷ []) [] 1 (0 ∷ 0 ∷ 0 ∷ []) Idle (StealTest (anchor 0 1 0)) (StealTest (anchor 0 1 0))
     (1 ∷ 65 ∷ 0 ∷ 0 ∷ []) (1 ∷ 0 ∷ 1 ∷ 65 ∷ []))
-unfolding linking bench does after fresh_of begin_of step_of valid_of words_to line_step landed_all zeros word_at set_word offset_at length_at size_at gathered word_in with_word if◌then◌else◌ ◌and◌ ◌or◌
+unfolding linking bench does after fresh_of begin_of step_of valid_of words_to line_step landed_all zeros word_at set_word offset_at length_at size_at gathered word_in with_word when◌then◌else◌ ◌and◌ ◌or◌
 first_line_lem = (record { accepted = refl; ends_none = refl; claims_none = refl; lands_none = refl }, record { accepted = refl; ends_none = refl; claims_none = refl; lands_none = refl }, record { this = refl; other = refl })
 
 -- A PUT'S WORD WITH DELAYED STORES is quiet: it joins the line. The owner is at the put's first word, thief 1 at line 1
@@ -120,7 +120,7 @@ pub waiting_word :
     × Alike joining 0 1
     (stands false true (anchor 0 0 0) (first ∷ []) unlinked (StoreWord 0 0 0 1 ∷ []) 1 (0 ∷ 0 ∷ 0 ∷ []) (PutWord (task 1 (one 65)) (anchor 0 0 0) 1)
     (StealTest (anchor 0 0 0)) Idle (0 ∷ 0 ∷ 0 ∷ 0 ∷ []) [])
-unfolding joining bench does after fresh_of begin_of step_of valid_of words_to line_step landed_all zeros word_at set_word offset_at length_at size_at gathered word_in with_word if◌then◌else◌ ◌and◌ ◌or◌
+unfolding joining bench does after fresh_of begin_of step_of valid_of words_to line_step landed_all zeros word_at set_word offset_at length_at size_at gathered word_in with_word when◌then◌else◌ ◌and◌ ◌or◌
 waiting_word = (record { accepted = refl; ends_none = refl; claims_none = refl; lands_none = refl }, record { accepted = refl; ends_none = refl; claims_none = refl; lands_none = refl }, record { this = refl; other = refl })
 
 -- WHAT IS NOT QUIET, and what a reader would see: both orders, told apart by f
@@ -135,11 +135,11 @@ unfoldable pub handing : World
 handing = after (bench 1 2 false 4) (does 0 (Put (one 65)) 5 ++ does 1 Steal 5 ++ begin 2 Steal ∷ [])
 
 pub compare_is_not_quiet : Quiet handing 1 → ⊥
-unfolding handing bench does after fresh_of begin_of step_of valid_of words_to line_step landed_all zeros word_at set_word offset_at length_at size_at gathered word_in with_word if◌then◌else◌ ◌and◌ ◌or◌
+unfolding handing bench does after fresh_of begin_of step_of valid_of words_to line_step landed_all zeros word_at set_word offset_at length_at size_at gathered word_in with_word when◌then◌else◌ ◌and◌ ◌or◌
 compare_is_not_quiet Q = absurd (true≢false Q.ends_none)
 
 pub compare_does_not_swap : Swapped handing 1 2 → ⊥
-unfolding handing bench does after fresh_of begin_of step_of valid_of words_to line_step landed_all zeros word_at set_word offset_at length_at size_at gathered word_in with_word if◌then◌else◌ ◌and◌ ◌or◌
+unfolding handing bench does after fresh_of begin_of step_of valid_of words_to line_step landed_all zeros word_at set_word offset_at length_at size_at gathered word_in with_word when◌then◌else◌ ◌and◌ ◌or◌
 compare_does_not_swap = differ handing 1 2 (λ X. ends (step_of X 2).answer) false true refl refl (λ e. true≢false (sym e))
 
 -- a put's word at once. The tag, of one bit, has come round, so thief 1's compare will succeed: it reads the payload of put 2 if it
@@ -154,11 +154,11 @@ abbrev handed : World → ℕ
 handed X = word_in (entry_of (step_of (step_of X 0).world 1).answer).task 1
 
 pub word_is_not_quiet : Quiet writing 0 → ⊥
-unfolding writing bench does after fresh_of begin_of step_of valid_of words_to line_step landed_all zeros word_at set_word offset_at length_at size_at gathered word_in with_word if◌then◌else◌ ◌and◌ ◌or◌
+unfolding writing bench does after fresh_of begin_of step_of valid_of words_to line_step landed_all zeros word_at set_word offset_at length_at size_at gathered word_in with_word when◌then◌else◌ ◌and◌ ◌or◌
 word_is_not_quiet Q = lands_some Q.lands_none
 
 pub word_does_not_swap : Swapped writing 0 1 → ⊥
-unfolding writing bench does after fresh_of begin_of step_of valid_of words_to line_step landed_all zeros word_at set_word offset_at length_at size_at gathered word_in with_word if◌then◌else◌ ◌and◌ ◌or◌
+unfolding writing bench does after fresh_of begin_of step_of valid_of words_to line_step landed_all zeros word_at set_word offset_at length_at size_at gathered word_in with_word when◌then◌else◌ ◌and◌ ◌or◌
 word_does_not_swap = differ writing 0 1 handed 66 67 refl refl (omega arith)
 
 -- an ending test for EMPTY, with another's: the log has them in their order. Both thieves have read an empty queue
@@ -166,11 +166,11 @@ unfoldable pub testing : World
 testing = after (bench 1 2 false 4) (does 1 Steal 1 ++ does 2 Steal 1)
 
 pub empty_is_not_quiet : Quiet testing 1 → ⊥
-unfolding testing bench does after fresh_of begin_of step_of valid_of words_to line_step landed_all zeros word_at set_word offset_at length_at size_at gathered word_in with_word if◌then◌else◌ ◌and◌ ◌or◌
+unfolding testing bench does after fresh_of begin_of step_of valid_of words_to line_step landed_all zeros word_at set_word offset_at length_at size_at gathered word_in with_word when◌then◌else◌ ◌and◌ ◌or◌
 empty_is_not_quiet Q = absurd (true≢false Q.ends_none)
 
 pub empty_does_not_swap : Swapped testing 1 2 → ⊥
-unfolding testing bench does after fresh_of begin_of step_of valid_of words_to line_step landed_all zeros word_at set_word offset_at length_at size_at gathered word_in with_word if◌then◌else◌ ◌and◌ ◌or◌
+unfolding testing bench does after fresh_of begin_of step_of valid_of words_to line_step landed_all zeros word_at set_word offset_at length_at size_at gathered word_in with_word when◌then◌else◌ ◌and◌ ◌or◌
 empty_does_not_swap = differ testing 1 2 (λ X. get_or X.log 1 0) 2 1 refl refl (omega arith)
 
 -- X1. Two puts fill the array, and the owner is at X1 of a third; thief 1 is at line 1, or at its compare
@@ -190,16 +190,16 @@ pub claim_is_not_quiet :
     × Alike claiming 0 1
     (stands false false (anchor 0 2 2) (first ∷ record { offset = 4; length = 8 } ∷ []) unlinked [] 3 (0 ∷ 0 ∷ 0 ∷ []) (Note (ForPut (task 3 (one 67))))
     (StealTest (anchor 0 2 2)) Idle (1 ∷ 65 ∷ 2 ∷ 66 ∷ replicate 8 0) (1 ∷ 0 ∷ 1 ∷ 65 ∷ 1 ∷ 0 ∷ 2 ∷ 66 ∷ []))
-unfolding claiming bench does after fresh_of begin_of step_of valid_of words_to line_step landed_all zeros word_at set_word offset_at length_at size_at gathered word_in with_word if◌then◌else◌ ◌and◌ ◌or◌
+unfolding claiming bench does after fresh_of begin_of step_of valid_of words_to line_step landed_all zeros word_at set_word offset_at length_at size_at gathered word_in with_word when◌then◌else◌ ◌and◌ ◌or◌
 claim_is_not_quiet = (λ Q. true≢false Q.claims_none, record { this = refl; other = refl })
 
 -- if it answers FULL, it ends the put: the log has this and the thief's hand-out in their order
 pub full_is_not_quiet : Quiet filled 0 → ⊥
-unfolding filled bench does after fresh_of begin_of step_of valid_of words_to line_step landed_all zeros word_at set_word offset_at length_at size_at gathered word_in with_word if◌then◌else◌ ◌and◌ ◌or◌
+unfolding filled bench does after fresh_of begin_of step_of valid_of words_to line_step landed_all zeros word_at set_word offset_at length_at size_at gathered word_in with_word when◌then◌else◌ ◌and◌ ◌or◌
 full_is_not_quiet Q = absurd (true≢false Q.ends_none)
 
 pub full_does_not_swap : Swapped filled 0 1 → ⊥
-unfolding filled bench does after fresh_of begin_of step_of valid_of words_to line_step landed_all zeros word_at set_word offset_at length_at size_at gathered word_in with_word if◌then◌else◌ ◌and◌ ◌or◌
+unfolding filled bench does after fresh_of begin_of step_of valid_of words_to line_step landed_all zeros word_at set_word offset_at length_at size_at gathered word_in with_word when◌then◌else◌ ◌and◌ ◌or◌
 full_does_not_swap = differ filled 0 1 (λ X. get_or X.log 8 0) 2 4 refl refl (omega arith)
 
 -- THE SAME WORKER TWICE: line 1 is quiet, and the test behind it answers EMPTY
@@ -207,7 +207,7 @@ unfoldable pub lone : World
 lone = after (bench 1 2 false 4) (begin 1 Steal ∷ [])
 
 pub same_worker : Quiet lone 1 × (Swapped lone 1 1 → ⊥)
-unfolding lone bench does after fresh_of begin_of step_of valid_of words_to line_step landed_all zeros word_at set_word offset_at length_at size_at gathered word_in with_word if◌then◌else◌ ◌and◌ ◌or◌
+unfolding lone bench does after fresh_of begin_of step_of valid_of words_to line_step landed_all zeros word_at set_word offset_at length_at size_at gathered word_in with_word when◌then◌else◌ ◌and◌ ◌or◌
 same_worker = (record { accepted = refl; ends_none = refl; claims_none = refl; lands_none = refl }, λ S. true≢false (ap ends S.first))
 
 -- THE RUN OF docs/SWAPS.md, as it was noted and with each worker's quiet lines together
@@ -234,9 +234,9 @@ done =
     (1 ∷ 0 ∷ 1 ∷ 65 ∷ 1 ∷ 0 ∷ 2 ∷ 66 ∷ 2 ∷ 1 ∷ 2 ∷ 66 ∷ 2 ∷ 0 ∷ 2 ∷ 66 ∷ 2 ∷ 1 ∷ 1 ∷ 65 ∷ 3 ∷ 2 ∷ 0 ∷ 0 ∷ [])
 
 pub as_noted : after (bench 1 2 false 4) noted ≡ done
-unfolding noted bench does after fresh_of begin_of step_of valid_of words_to line_step landed_all zeros word_at set_word offset_at length_at size_at gathered word_in with_word if◌then◌else◌ ◌and◌ ◌or◌
+unfolding noted bench does after fresh_of begin_of step_of valid_of words_to line_step landed_all zeros word_at set_word offset_at length_at size_at gathered word_in with_word when◌then◌else◌ ◌and◌ ◌or◌
 as_noted = refl
 
 pub as_grouped : after (bench 1 2 false 4) grouped ≡ done
-unfolding grouped bench does after fresh_of begin_of step_of valid_of words_to line_step landed_all zeros word_at set_word offset_at length_at size_at gathered word_in with_word if◌then◌else◌ ◌and◌ ◌or◌
+unfolding grouped bench does after fresh_of begin_of step_of valid_of words_to line_step landed_all zeros word_at set_word offset_at length_at size_at gathered word_in with_word when◌then◌else◌ ◌and◌ ◌or◌
 as_grouped = refl

@@ -10,7 +10,7 @@ use Rattle.model.specs.declared.Line.{Line}
 use Rattle.model.specs.declared.Waiting.{Waiting}
 use Rattle.model.specs.declared.Room.{Room}
 use Rattle.model.specs.declared.Answer.{Answer}
-use Rattle.model.specs.Tests.{if◌then◌else◌, ◌and◌, ◌or◌}
+use Rattle.model.specs.Tests.{when◌then◌else◌, ◌and◌, ◌or◌}
 use Rattle.model.specs.Lines.{Effect, fails_compare}
 use Rattle.model.specs.World.{World, Outcome, line_at, is_steal1, is_past1, room_alone}
 use Rattle.model.specs.Calls.{one_more, raised, next_effect, step_in, step_of, step}
@@ -31,8 +31,8 @@ both_set {A} l i j d f g ne =
     ∙ ap (λ (x : A). set (set l i (f (get_or l i d))) j (g x)) (sym (get_or-set_other l i j _ d (λ e. ne (sym e))))
 
 both_raised : (n : List ℕ) (i j : ℕ) (x y : Bool) → i ≢ j
-    → (if x then raised (if y then raised n j else n) i else (if y then raised n j else n)) ≡ (if y then raised (if x then raised n i else n) j else (if x then raised n i else n))
-unfolding if◌then◌else◌
+    → (when x then raised (when y then raised n j else n) i else (when y then raised n j else n)) ≡ (when y then raised (when x then raised n i else n) j else (when x then raised n i else n))
+unfolding when◌then◌else◌
 both_raised n i j true true ne = both_set n i j 0 one_more one_more ne
 both_raised n i j true false ne = refl
 both_raised n i j false true ne = refl
@@ -59,9 +59,9 @@ module _ (W : World) (i j : ℕ) (E F : Effect) (ne : i ≢ j) where
       let n = b.restarts in
       let x = fails_compare b.kind b.queue i (line_at b.workers i) in
       let y = fails_compare b.kind b.queue j (line_at b.workers j) in
-      ap (λ (z : Bool). let m = if y then raised n j else n in if z then raised m i else m) (fails_kept W i j F ne)
+      ap (λ (z : Bool). let m = when y then raised n j else n in when z then raised m i else m) (fails_kept W i j F ne)
       ∙ both_raised n i j x y ne
-      ∙ sym (ap (λ (z : Bool). let m = if x then raised n i else n in if z then raised m j else m) (fails_kept W j i E (λ e. ne (sym e))))
+      ∙ sym (ap (λ (z : Bool). let m = when x then raised n i else n in when z then raised m j else m) (fails_kept W j i E (λ e. ne (sym e))))
 
   moved_swap : moved (moved W j F) i E ≡ moved (moved W i E) j F
   moved_swap =

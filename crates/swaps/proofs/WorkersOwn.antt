@@ -20,7 +20,7 @@ use Rattle.model.specs.declared.Store.TheVariants.{StoreWord, StoreNote, StorePu
 use Rattle.model.specs.declared.Waiting.{Waiting}
 use Rattle.model.specs.declared.Worker.{Worker}
 use Rattle.model.specs.declared.Answer.TheVariants.{GoesOn, HandedOut}
-use Rattle.model.specs.Tests.{if◌then◌else◌}
+use Rattle.model.specs.Tests.{when◌then◌else◌}
 use Rattle.model.proofs.Landing.{joined_none}
 use Rattle.model.proofs.Tests.{if_true, if_false, fails}
 use Rattle.model.specs.Figures.{is_same, steal_store}
@@ -94,20 +94,20 @@ stepped_with W i E S c x =
                   crew = W.bench.crew;
                   queue = relinked S.queue i l E.line;
                   waiting = line_after W i E;
-                  aside = if c then 0 else W.bench.aside;
+                  aside = when c then 0 else W.bench.aside;
                   used = W.bench.used;
                   restarts = restarted W.bench.kind W.bench.queue i l W.bench.restarts;
-                  written = if x then W.bench.written + entry_length W.bench.words else W.bench.written;
+                  written = when x then W.bench.written + entry_length W.bench.words else W.bench.written;
                   workers = set W.bench.workers i (record { line = E.line });
                 };
             store = S.store;
-            log = if x then set_all W.log W.bench.written (entry_words W.bench.words (entry_of E.answer)) else W.log;
+            log = when x then set_all W.log W.bench.written (entry_words W.bench.words (entry_of E.answer)) else W.log;
           };
       answer = E.answer;
     }
 
 stepped_quietly : (ρ : Room) (W : World) (i : ℕ) (E : Effect) → QuietAs W i E → stepped ρ W i E ≡ moved_out W i E
-unfolding stepped_with if◌then◌else◌ landed_all
+unfolding stepped_with when◌then◌else◌ landed_all
 stepped_quietly ρ W i E Q =
     ap (λ (c : Bool). stepped_with W i E (landed_all W.bench.words (claimed_by ρ c (memory W)) (landing W.bench.delayed i E.stores)) c (ends E.answer)) Q.claims_none
     ∙ ap (λ (ss : List Store). stepped_with W i E (landed_all W.bench.words (memory W) ss) false (ends E.answer)) Q.lands_none
@@ -193,8 +193,8 @@ own_link ρ κ w v q L m i (StealNote r) e = (refl, refl)
 own_link ρ κ w v q L m i (StealWord r k t j) e = (refl, refl)
 own_link ρ κ w v q L m i (StealNext r t) e = (refl, refl)
 own_link ρ κ w v q L m i (StealCompare r f t) e = (
-  ap (λ (x : Bool). if (if q.linked then x else is_same κ q.anchor r) then eff (steal_store κ r f ∷ []) Idle (HandedOut i t) else goes StealRead) e,
-  ap (λ (x : Bool). not (if q.linked then x else is_same κ q.anchor r)) e,
+  ap (λ (x : Bool). when (when q.linked then x else is_same κ q.anchor r) then eff (steal_store κ r f ∷ []) Idle (HandedOut i t) else goes StealRead) e,
+  ap (λ (x : Bool). not (when q.linked then x else is_same κ q.anchor r)) e,
 )
 
 -- also with stores put down before it looks

@@ -8,7 +8,7 @@ use mathlib.Core.List.{List, [], ◌∷◌}
 use lib.ListN.{length, get_or}
 use lib.Dec.{leb, eqb}
 use borrow.Author.Tests.{le-leb, lt-leb}
-use Rattle.model.specs.Tests.{◌and◌, if◌then◌else◌}
+use Rattle.model.specs.Tests.{◌and◌, when◌then◌else◌}
 use Rattle.text.specs.Numbers.{all_digits, plain, onward, value_of}
 use Rattle.text.specs.declared.Value.{Value}
 use Rattle.text.specs.declared.Value.TheVariants.{No, Of}
@@ -33,22 +33,22 @@ plain_more (b ∷ (d ∷ s)) n0 n1 = refl
 
 -- what is read from v on
 unfoldable pub read_on : ℕ → List ℕ → Value
-read_on v s = if all_digits s and leb (onward v s) 4294967295 then Of (onward v s) else No
+read_on v s = when all_digits s and leb (onward v s) 4294967295 then Of (onward v s) else No
 
 pub number_plain : (s : List ℕ) → plain s ≡ true → value_of s ≡ read_on 0 s
 unfolding value_of read_on ◌and◌
 number_plain s e = rw e
 
 pub number_not : (s : List ℕ) → plain s ≡ false → value_of s ≡ No
-unfolding value_of ◌and◌ if◌then◌else◌
+unfolding value_of ◌and◌ when◌then◌else◌
 number_not s e = rw e
 
 pub read_low : (v b : ℕ) (s : List ℕ) → b < 48 → read_on v (b ∷ s) ≡ No
-unfolding read_on all_digits ◌and◌ if◌then◌else◌
+unfolding read_on all_digits ◌and◌ when◌then◌else◌
 read_low v b s h = rw (lt-leb 48 b h)
 
 pub read_high : (v b : ℕ) (s : List ℕ) → 57 < b → read_on v (b ∷ s) ≡ No
-unfolding read_on all_digits ◌and◌ if◌then◌else◌
+unfolding read_on all_digits ◌and◌ when◌then◌else◌
 read_high v b s h = let k : 48 ≤ b = omega arith in rw (le-leb 48 b k, lt-leb b 57 h)
 
 pub read_digit : (v b : ℕ) (s : List ℕ) → 48 ≤ b → b ≤ 57 → read_on v (b ∷ s) ≡ read_on (v * 10 + (b - 48)) s
@@ -61,11 +61,11 @@ onward_grows v [] = omega arith
 onward_grows v (b ∷ s) = let h : v ≤ v * 10 + (b - 48) = omega arith in le_trans h (onward_grows (v * 10 + (b - 48)) s)
 
 pub read_big : (v : ℕ) (s : List ℕ) → 4294967295 < v → read_on v s ≡ No
-unfolding read_on if◌then◌else◌
+unfolding read_on when◌then◌else◌
 read_big v s h =
     let k : 4294967295 < onward v s = omega (arith, onward_grows v s) in
     rw (and_false (all_digits s) (leb (onward v s) 4294967295) (lt-leb _ _ k))
 
 pub read_end : (v : ℕ) → v ≤ 4294967295 → read_on v [] ≡ Of v
-unfolding read_on all_digits onward ◌and◌ if◌then◌else◌
+unfolding read_on all_digits onward ◌and◌ when◌then◌else◌
 read_end v h = rw (le-leb v 4294967295 h)

@@ -8,7 +8,7 @@ use lib.ListN.{length, get_or, take, drop, length-append}
 use lib.Seq.{length-take-le, get_or-take, drop-drop, get_or-drop}
 use lib.Dec.{eqb, leb}
 use borrow.Author.Tests.{eq-eqb, ne_eqb, le-leb, lt-leb}
-use Rattle.model.specs.Tests.{◌and◌, if◌then◌else◌}
+use Rattle.model.specs.Tests.{◌and◌, when◌then◌else◌}
 use Rattle.text.specs.Numbers.{value_of}
 use Rattle.text.specs.Words.{words, head, tail}
 use Rattle.text.specs.Commands.{Values, wrong, these, joined, values, formed, formed_of, key_of, command_of}
@@ -69,7 +69,7 @@ prefixed_nil (these v) = refl
 
 -- six values are the most that any keyword takes
 pub long : (k : Key) (v : List ℕ) → 6 < length v → formed k v ≡ Bad
-unfolding formed ◌and◌ if◌then◌else◌
+unfolding formed ◌and◌ when◌then◌else◌
 long key.TheVariants.Other v h = refl
 long key.TheVariants.Queue v h = rw (le-leb 5 (length v) (omega arith), lt-leb (length v) 6 h)
 long key.TheVariants.Put v h = rw (le-leb 1 (length v) (omega arith), lt-leb (length v) 4 (omega arith))

@@ -8,7 +8,7 @@ use mathlib.Core.List.{List, [], ◌∷◌, ◌++◌}
 use lib.ListN.{length, get_or, drop, set}
 use lib.Seq.{drop-cons, sets}
 use lib.Dec.{eqb}
-use Rattle.model.specs.Tests.{◌and◌, if◌then◌else◌}
+use Rattle.model.specs.Tests.{◌and◌, when◌then◌else◌}
 use Rattle.text.specs.Same.{same}
 
 pub next : (s : List ℕ) (i : ℕ) → i < length s → drop i s ≡ get_or s i 0 ∷ drop (i + 1) s
@@ -17,12 +17,12 @@ next s i h = rw (add-one, drop-cons s i 0)
 pub done : (s : List ℕ) (i : ℕ) → length s ≤ i → drop i s ≡ []
 done s i h = lib.ListN.drop_of_length-le s h
 
-pub if_true : {A : Type 0} (t : Bool) (x y : A) → t ≡ true → (if t then x else y) ≡ x
-unfolding if◌then◌else◌
+pub if_true : {A : Type 0} (t : Bool) (x y : A) → t ≡ true → (when t then x else y) ≡ x
+unfolding when◌then◌else◌
 if_true t x y e = rw e
 
-pub if_false : {A : Type 0} (t : Bool) (x y : A) → t ≡ false → (if t then x else y) ≡ y
-unfolding if◌then◌else◌
+pub if_false : {A : Type 0} (t : Bool) (x y : A) → t ≡ false → (when t then x else y) ≡ y
+unfolding when◌then◌else◌
 if_false t x y e = rw e
 
 pub and_false : (a b : Bool) → b ≡ false → (a and b) ≡ false

@@ -8,7 +8,7 @@ use mathlib.Core.List.{List, [], ◌∷◌}
 use lib.ListN.{length}
 use lib.Dec.{T, leb, ltb, eqb}
 use borrow.Author.Tests.{ltb-true, ltb-false, leb-true, eqb-false, not-true}
-use Rattle.model.specs.Tests.{◌and◌, if◌then◌else◌}
+use Rattle.model.specs.Tests.{◌and◌, when◌then◌else◌}
 use Rattle.text.specs.Same.{same}
 use Rattle.text.specs.Numbers.{all_digits, plain, onward, value_of}
 use Rattle.text.specs.Words.{onto, words, head, tail}
@@ -49,7 +49,7 @@ number_long (b ∷ (d ∷ s)) h = unfold value_of in go (plain (b ∷ (d ∷ s))
     first : all_digits (b ∷ (d ∷ s)) ≡ true → 48 ≤ b
     first e = unfold all_digits in leb-true 48 b (and_left _ _ e)
 
-    go : (t : Bool) → (plain (b ∷ (d ∷ s)) and all_digits (b ∷ (d ∷ s)) and leb (onward 0 (b ∷ (d ∷ s))) 4294967295) ≡ t → (if t then Of (onward 0 (b ∷ (d ∷ s))) else No) ≡ No
+    go : (t : Bool) → (plain (b ∷ (d ∷ s)) and all_digits (b ∷ (d ∷ s)) and leb (onward 0 (b ∷ (d ∷ s))) 4294967295) ≡ t → (when t then Of (onward 0 (b ∷ (d ∷ s))) else No) ≡ No
     go false e = if_false _ _ _ refl
     go true e =
         let p = lead (and_left _ _ e) in
@@ -72,7 +72,7 @@ unfolding words
 size_words [] = unfold head tail size in refl
 size_words (b ∷ s) = go (eqb b 32) (size_words s) (Rattle.text.proofs.Split.split s)
   where
-    go : (t : Bool) → length (head (words s)) + size (tail (words s)) ≡ length s → words s ≡ head (words s) ∷ tail (words s) → length (head (if t then [] ∷ words s else onto b (words s))) + size (tail (if t then [] ∷ words s else onto b (words s))) ≡ suc (length s)
+    go : (t : Bool) → length (head (words s)) + size (tail (words s)) ≡ length s → words s ≡ head (words s) ∷ tail (words s) → length (head (when t then [] ∷ words s else onto b (words s))) + size (tail (when t then [] ∷ words s else onto b (words s))) ≡ suc (length s)
     go true e f = rw (if_true true ([] ∷ words s) (onto b (words s)) refl) (unfold head tail in (let g : size (words s) ≡ 1 + length (head (words s)) + size (tail (words s)) = rw f (unfold size in refl) in omega arith))
     go false e f = rw (if_false false ([] ∷ words s) (onto b (words s)) refl) (omega (arith, size_onto b (words s)))
 
@@ -112,7 +112,7 @@ differ a b h = go (same a b) refl
     go false e = refl
 
 key_long : (w : List ℕ) → 5 < length w → key_of w ≡ key.TheVariants.Other
-unfolding key_of if◌then◌else◌
+unfolding key_of when◌then◌else◌
 key_long w h =
     rw (
       differ w (113 ∷ 117 ∷ 101 ∷ 117 ∷ 101 ∷ []) (λ e. omega arith),

@@ -6,7 +6,7 @@ use mathlib.Core.Bool.{true}
 use mathlib.Core.List.{List, [], ◌∷◌, ◌++◌, append-nil}
 use lib.Dec.{eqb}
 use borrow.Author.Tests.{le-leb, leb-true, ne_eqb}
-use Rattle.model.specs.Tests.{◌and◌, if◌then◌else◌}
+use Rattle.model.specs.Tests.{◌and◌, when◌then◌else◌}
 use Rattle.text.specs.Same.{same}
 use Rattle.text.specs.Numbers.{all_digits, decimal_of, spaced_of}
 use Rattle.text.specs.Words.{onto, words, head, tail}
@@ -33,7 +33,7 @@ unfolding words
 words_more b s h = if_false (eqb b 32) _ _ (ne_eqb b 32 h)
 
 words_space : (s : List ℕ) → words (32 ∷ s) ≡ [] ∷ words s
-unfolding words if◌then◌else◌
+unfolding words when◌then◌else◌
 words_space s = refl
 
 -- digits in front belong to the first word
@@ -67,7 +67,7 @@ unfolding command_of formed_of head tail
 read_words line k ns e h = rw (e, texts_values ns h)
 
 put_formed : (v : ℕ) (p : Payload) → 1 ≤ v → v ≤ 4 → p ≡ payload_of (first_of v p) → formed key.TheVariants.Put (first_of v p) ≡ BeginPut v p
-unfolding formed ◌and◌ if◌then◌else◌
+unfolding formed ◌and◌ when◌then◌else◌
 put_formed zero p a b e = absurd (omega (arith, a))
 put_formed (suc zero) p a b e = ap (λ (q : Payload). BeginPut 1 q) (sym e)
 put_formed (suc (suc zero)) p a b e = ap (λ (q : Payload). BeginPut 2 q) (sym e)
@@ -77,7 +77,7 @@ put_formed (suc (suc (suc (suc (suc v))))) p a b e = absurd (omega (arith, b))
 
 -- Reading the line that says a command gives the command.
 pub read_text : (c : Command) → InRange c → command_of (text_of c) ≡ c
-unfolding text_of texts words onto key_of formed same ◌and◌ if◌then◌else◌
+unfolding text_of texts words onto key_of formed same ◌and◌ when◌then◌else◌
 read_text Bad h = read_words [] [] [] refl tt
 read_text (Open k w c n s v) h =
     let small : Small (k ∷ w ∷ c ∷ n ∷ s ∷ v ∷ []) = (h.0, (h.1, (h.2, (h.3, (omega (arith, h.4), (h.5, tt)))))) in
@@ -95,7 +95,7 @@ read_text End h = read_words _ (101 ∷ 110 ∷ 100 ∷ []) [] refl tt
 
 -- So does the shorter line of a queue with one payload word.
 pub read_short : (k w c n s : ℕ) → InRange (Open k w c n s 1) → command_of (short_text k w c n s) ≡ Open k w c n s 1
-unfolding short_text texts words onto key_of formed same ◌and◌ if◌then◌else◌
+unfolding short_text texts words onto key_of formed same ◌and◌ when◌then◌else◌
 read_short k w c n s h =
     let small : Small (k ∷ w ∷ c ∷ n ∷ s ∷ []) = (h.0, (h.1, (h.2, (h.3, (omega (arith, h.4), tt))))) in
     read_words _ (113 ∷ 117 ∷ 101 ∷ 117 ∷ 101 ∷ []) (k ∷ w ∷ c ∷ n ∷ s ∷ []) (rw (spaced_words (k ∷ w ∷ c ∷ n ∷ s ∷ []) small)) small

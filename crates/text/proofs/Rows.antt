@@ -3,7 +3,7 @@
 use mathlib.Core.Path.{◌≡◌, refl}
 use mathlib.Core.List.{[], ◌∷◌, map}
 use Rattle.model.specs.declared.Command.TheVariants.{Bad, BeginPut, Open, Who}
-use Rattle.model.specs.Tests.{◌and◌, if◌then◌else◌}
+use Rattle.model.specs.Tests.{◌and◌, when◌then◌else◌}
 use Rattle.model.specs.Tasks.{payload}
 use Rattle.text.specs.Quoted.{bytes}
 use Rattle.text.specs.Same.{same}
@@ -59,12 +59,12 @@ pub rows :
     ∷ Bad
     ∷ Bad
     ∷ []
-unfolding command_of formed_of formed key_of values joined value_of plain all_digits onward words onto head tail same ◌and◌ if◌then◌else◌
+unfolding command_of formed_of formed key_of values joined value_of plain all_digits onward words onto head tail same ◌and◌ when◌then◌else◌
 rows = refl
 
 -- numbers: the largest that is read, the next, the largest sum of eight counts, and the largest of 64 bits
 pub numbers :
     map decimal_of (0 ∷ 4294967295 ∷ 4294967296 ∷ 34359738360 ∷ 18446744073709551615 ∷ [])
     ≡ bytes "0" ∷ bytes "4294967295" ∷ bytes "4294967296" ∷ bytes "34359738360" ∷ bytes "18446744073709551615" ∷ []
-unfolding decimal_of spelled if◌then◌else◌
+unfolding decimal_of spelled when◌then◌else◌
 numbers = refl

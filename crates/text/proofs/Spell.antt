@@ -9,7 +9,7 @@ use lib.ListN.{length, get_or, set, take, drop, length-append, take-append-drop,
 use lib.Seq.{sets}
 use lib.Dec.{ltb, leb}
 use borrow.Author.Tests.{lt-ltb, le-ltb, le-leb, ltb-true, ltb-false, ne_eqb}
-use Rattle.model.specs.Tests.{◌and◌, if◌then◌else◌}
+use Rattle.model.specs.Tests.{◌and◌, when◌then◌else◌}
 use Rattle.text.specs.Numbers.{all_digits, plain, onward, value_of, spelled, decimal_of, Placed, spaced_of, line_of}
 use Rattle.text.specs.declared.Value.TheVariants.{Of}
 use Rattle.text.proofs.Lists.{if_true, if_false, sets_append, next}
@@ -124,7 +124,7 @@ spells (suc k) n h = below n
 
 -- Reading a printed number gives the number back.
 pub read_back : (n : ℕ) → n ≤ 4294967295 → value_of (decimal_of n) ≡ Of n
-unfolding value_of decimal_of ◌and◌ if◌then◌else◌
+unfolding value_of decimal_of ◌and◌ when◌then◌else◌
 read_back n h =
     let s = spells 19 n (omega arith) in
     rw (s.one, s.digits, s.value, le-leb n 4294967295 h)

@@ -7,11 +7,11 @@ use mathlib.Core.List.{List, [], ◌∷◌}
 use lib.ListN.{length, get_or, take, drop}
 use lib.Dec.{eqb}
 use borrow.Author.Tests.{eq-eqb, ne_eqb, eqb-true}
-use Rattle.model.specs.Tests.{if◌then◌else◌}
+use Rattle.model.specs.Tests.{when◌then◌else◌}
 use Rattle.text.specs.Words.{onto, words, head, tail}
 
 pub first_space : (s : List ℕ) (b : ℕ) → b ≡ 32 → head (words (b ∷ s)) ≡ []
-unfolding words head if◌then◌else◌
+unfolding words head when◌then◌else◌
 first_space s b e = rw (eq-eqb b 32 e)
 
 head_onto : (b : ℕ) (ps : List (List ℕ)) → head (onto b ps) ≡ b ∷ head ps
@@ -25,15 +25,15 @@ tail_onto b [] = refl
 tail_onto b (p ∷ ps) = refl
 
 pub first_more : (s : List ℕ) (b : ℕ) → (b ≡ 32 → ⊥) → head (words (b ∷ s)) ≡ b ∷ head (words s)
-unfolding words if◌then◌else◌
+unfolding words when◌then◌else◌
 first_more s b h = rw (ne_eqb b 32 h) (head_onto b (words s))
 
 pub rest_space : (s : List ℕ) (b : ℕ) → b ≡ 32 → tail (words (b ∷ s)) ≡ words s
-unfolding words tail if◌then◌else◌
+unfolding words tail when◌then◌else◌
 rest_space s b e = rw (eq-eqb b 32 e)
 
 rest_more : (s : List ℕ) (b : ℕ) → (b ≡ 32 → ⊥) → tail (words (b ∷ s)) ≡ tail (words s)
-unfolding words if◌then◌else◌
+unfolding words when◌then◌else◌
 rest_more s b h = rw (ne_eqb b 32 h) (tail_onto b (words s))
 
 pub first_none : head (words []) ≡ []
@@ -84,7 +84,7 @@ split_onto b (p ∷ ps) = refl
 
 -- a line has at least one word
 pub split : (s : List ℕ) → words s ≡ head (words s) ∷ tail (words s)
-unfolding words head tail if◌then◌else◌
+unfolding words head tail when◌then◌else◌
 split [] = refl
 split (b ∷ s) = decide b
     (λ e. rw (eq-eqb b 32 e))

@@ -9,7 +9,7 @@ use mathlib.Core.List.{List, [], ◌∷◌, ◌++◌}
 use lib.ListN.{length, get_or}
 use lib.Dec.{T, leb, ltb, eqb}
 use borrow.Author.Tests.{leb-true, eqb-true, eqb-false, ltb-true, ltb-false, not-true}
-use Rattle.model.specs.Tests.{◌and◌, if◌then◌else◌}
+use Rattle.model.specs.Tests.{◌and◌, when◌then◌else◌}
 use Rattle.text.specs.Same.{same}
 use Rattle.text.specs.Numbers.{all_digits, plain, onward, value_of, decimal_of, spaced_of}
 use Rattle.text.specs.Words.{onto, words, head, tail}
@@ -97,10 +97,10 @@ one_text s t ps ds pt dt q = (same_digits s t 0 0 lengths ds dt q).1
 
 -- A word is read as a number only if it is how that number is printed.
 pub number_is : (w : List ℕ) (n : ℕ) → value_of w ≡ Of n → (w ≡ decimal_of n) × (n ≤ 4294967295)
-unfolding value_of if◌then◌else◌
+unfolding value_of when◌then◌else◌
 number_is w n q = go (plain w and all_digits w and leb (onward 0 w) 4294967295) refl q
   where
-    go : (x : Bool) → (plain w and all_digits w and leb (onward 0 w) 4294967295) ≡ x → (if x then Of (onward 0 w) else No) ≡ Of n → (w ≡ decimal_of n) × (n ≤ 4294967295)
+    go : (x : Bool) → (plain w and all_digits w and leb (onward 0 w) 4294967295) ≡ x → (when x then Of (onward 0 w) else No) ≡ Of n → (w ≡ decimal_of n) × (n ≤ 4294967295)
     go false e f = absurd (let z : ◌≡◌ {A = ℕ} 0 1 = cc in let y : ⊥ = omega arith in y)
     go true e f =
         let v : onward 0 w ≡ n = cc in
@@ -124,7 +124,7 @@ unfolding words head tail glue
 line_glue [] = refl
 line_glue (b ∷ s) = go (eqb b 32) refl (line_glue s) (split s)
   where
-    go : (x : Bool) → eqb b 32 ≡ x → head (words s) ++ glue (tail (words s)) ≡ s → words s ≡ head (words s) ∷ tail (words s) → head (if x then [] ∷ words s else onto b (words s)) ++ glue (tail (if x then [] ∷ words s else onto b (words s))) ≡ b ∷ s
+    go : (x : Bool) → eqb b 32 ≡ x → head (words s) ++ glue (tail (words s)) ≡ s → words s ≡ head (words s) ∷ tail (words s) → head (when x then [] ∷ words s else onto b (words s)) ++ glue (tail (when x then [] ∷ words s else onto b (words s))) ≡ b ∷ s
     go true e f g =
         let q : b ≡ 32 = eqb-true b 32 e in
         let h : glue (words s) ≡ 32 ∷ (head (words s) ++ glue (tail (words s))) = ap glue g in
@@ -153,8 +153,8 @@ same_is [] (y ∷ b) e = absurd (subst T (sym e) tt)
 same_is (x ∷ a) [] e = absurd (subst T (sym e) tt)
 same_is (x ∷ a) (y ∷ b) e = ap (λ (k : ℕ). k ∷ a) (eqb-true x y (and_left _ _ e)) ∙ ap (λ (l : List ℕ). y ∷ l) (same_is a b (and_right (eqb x y) (same a b) e))
 
-pick : {A : Type 0} (P : A → Type 0) (b : Bool) (x y : A) → (b ≡ true → P x) → P y → P (if b then x else y)
-unfolding if◌then◌else◌
+pick : {A : Type 0} (P : A → Type 0) (b : Bool) (x y : A) → (b ≡ true → P x) → P y → P (when b then x else y)
+unfolding when◌then◌else◌
 pick P true x y f g = f refl
 pick P false x y f g = g
 

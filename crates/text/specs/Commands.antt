@@ -2,7 +2,7 @@
 use Rattle.std.specs.Prelude.{◌≡◌, ◌⊎◌, ℕ, ◌≤◌, List, [], ◌∷◌, ◌++◌, length, get_or, take, leb, eqb}
 use Rattle.text.specs.Quoted.{bytes}
 use Rattle.model.specs.declared.Payload.{Payload}
-use Rattle.model.specs.Tests.{◌and◌, if◌then◌else◌}
+use Rattle.model.specs.Tests.{◌and◌, when◌then◌else◌}
 use Rattle.model.specs.Tasks.{payload}
 use Rattle.text.specs.Same.{same}
 use Rattle.text.specs.Numbers.{value_of, spaced_of}
@@ -17,13 +17,13 @@ use Rattle.model.specs.declared.Command.{Command}
 -- the word that a line begins with: queue, put, take, steal, step, who or end
 unfoldable pub key_of : List ℕ → Key
 key_of w =
-    if same w (bytes "queue") then key.TheVariants.Queue else
-    (if same w (bytes "put") then key.TheVariants.Put else
-    (if same w (bytes "take") then key.TheVariants.Take else
-    (if same w (bytes "steal") then key.TheVariants.Steal else
-    (if same w (bytes "step") then key.TheVariants.Step else
-    (if same w (bytes "who") then key.TheVariants.Who else
-    (if same w (bytes "end") then key.TheVariants.End else key.TheVariants.Other))))))
+    when same w (bytes "queue") then key.TheVariants.Queue else
+    (when same w (bytes "put") then key.TheVariants.Put else
+    (when same w (bytes "take") then key.TheVariants.Take else
+    (when same w (bytes "steal") then key.TheVariants.Steal else
+    (when same w (bytes "step") then key.TheVariants.Step else
+    (when same w (bytes "who") then key.TheVariants.Who else
+    (when same w (bytes "end") then key.TheVariants.End else key.TheVariants.Other))))))
 
 -- the words after it: a list of numbers, or not
 pub data Values : Type 0 where
@@ -50,21 +50,21 @@ first_of n p = take n (p.first ∷ p.second ∷ p.third ∷ p.fourth ∷ [])
 unfoldable pub formed : Key → List ℕ → Command
 formed key.TheVariants.Other v = Bad
 formed key.TheVariants.Queue v =
-    if leb 5 (length v) and leb (length v) 6 and leb (get_or v 4 0) 10235
+    when leb 5 (length v) and leb (length v) 6 and leb (get_or v 4 0) 10235
     then Open (get_or v 0 0) (get_or v 1 0) (get_or v 2 0) (get_or v 3 0) (get_or v 4 0) (get_or v 5 1)
     else Bad
 formed key.TheVariants.Put v =
-    if leb 1 (length v) and leb (length v) 4
+    when leb 1 (length v) and leb (length v) 4
     then BeginPut (length v) (payload_of v)
     else Bad
-formed key.TheVariants.Take v = if eqb (length v) 0 then BeginTake else Bad
-formed key.TheVariants.Steal v = if eqb (length v) 1 then BeginSteal (get_or v 0 0) else Bad
+formed key.TheVariants.Take v = when eqb (length v) 0 then BeginTake else Bad
+formed key.TheVariants.Steal v = when eqb (length v) 1 then BeginSteal (get_or v 0 0) else Bad
 formed key.TheVariants.Step v =
-    if eqb (length v) 2 and leb (get_or v 1 0) 65535
+    when eqb (length v) 2 and leb (get_or v 1 0) 65535
     then Steps (get_or v 0 0) (get_or v 1 0)
     else Bad
-formed key.TheVariants.Who v = if eqb (length v) 1 then Who (get_or v 0 0) else Bad
-formed key.TheVariants.End v = if eqb (length v) 0 then End else Bad
+formed key.TheVariants.Who v = when eqb (length v) 1 then Who (get_or v 0 0) else Bad
+formed key.TheVariants.End v = when eqb (length v) 0 then End else Bad
 
 unfoldable pub formed_of : Key → Values → Command
 formed_of k wrong = Bad

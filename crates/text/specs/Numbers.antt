@@ -2,7 +2,7 @@
 -- to what 64 bits hold.
 use Rattle.std.specs.Prelude.{ℕ, zero, suc, ◌+◌, ◌-◌, ◌*◌, ◌/◌, ◌%◌, Bool, true, false, not, List, [], ◌∷◌, ◌++◌, leb, ltb, eqb, ◌≡◌, length}
 use Rattle.std.proofs.lemmas.List.Edits.{sets}
-use Rattle.model.specs.Tests.{◌and◌, if◌then◌else◌}
+use Rattle.model.specs.Tests.{◌and◌, when◌then◌else◌}
 use Rattle.text.specs.declared.Value.{Value}
 use Rattle.text.specs.declared.Value.TheVariants.{No, Of}
 
@@ -25,7 +25,7 @@ onward v (b ∷ s) = onward (v * 10 + (b - 48)) s
 -- the number that a word is
 unfoldable pub value_of : List ℕ → Value
 value_of s =
-    if plain s and all_digits s and leb (onward 0 s) 4294967295
+    when plain s and all_digits s and leb (onward 0 s) 4294967295
     then Of (onward 0 s)
     else No
 
@@ -33,7 +33,7 @@ value_of s =
 unfoldable pub spelled : ℕ → ℕ → List ℕ
 spelled zero n = []
 spelled (suc k) n =
-    if ltb n 10
+    when ltb n 10
     then (48 + n) ∷ []
     else (spelled k (n / 10) ++ ((48 + n % 10) ∷ []))
 

@@ -8,7 +8,7 @@ use lib.ListN.{length}
 use Rattle.model.specs.declared.Region.{Region}
 use Rattle.model.specs.declared.Queue.{Queue}
 use Rattle.model.specs.declared.Room.{Room}
-use Rattle.model.specs.Tests.{least, if◌then◌else◌}
+use Rattle.model.specs.Tests.{least, when◌then◌else◌}
 use Rattle.model.specs.Memory.{offset_at, length_at, size_at, end_at, words_to, usable}
 use Rattle.model.specs.Stores.{taken, words_taken, next_length, claiming, in_line, oldest}
 use Rattle.model.specs.Limits.{valid_of}
@@ -64,12 +64,12 @@ added ρ q h =
 -- a step that claims or not; what it claims is left in the room
 record SnugAfter (ρ : Room) (x : Bool) (q : Queue) (n : ℕ) (m : List ℕ) : Type 0 where
   close : end_at (arrays_after ρ x q) (claimed_after x q - 1) ≤ words_to (arrays_after ρ x q) (claimed_after x q)
-  fitting : words_to (arrays_after ρ x q) (claimed_after x q) + (if x then 0 else n) ≤ usable m
+  fitting : words_to (arrays_after ρ x q) (claimed_after x q) + (when x then 0 else n) ≤ usable m
   long : length (store_after ρ x q m) ≡ length m
 
 snug_after : (W : World) (x : Bool) → Snug W.bench W.store → length W.bench.queue.arrays ≡ 11 → claimed_after x W.bench.queue ≤ 11 → (x ≡ true → next_length W.bench.queue ≤ (room_alone W).left)
     → SnugAfter (room_alone W) x W.bench.queue W.bench.aside W.store
-unfolding if◌then◌else◌
+unfolding when◌then◌else◌
 snug_after W true s l h fit =
     let q = W.bench.queue in
     let A = added (room_alone W) q (omega (arith, l, h)) in

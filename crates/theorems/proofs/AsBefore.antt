@@ -8,7 +8,7 @@ use lib.ListN.{take, drop}
 use Rattle.model.specs.declared.Pending.{Pending}
 use Rattle.model.specs.declared.Task.{Task}
 use Rattle.model.specs.declared.Room.{Room}
-use Rattle.model.specs.Tests.{if◌then◌else◌}
+use Rattle.model.specs.Tests.{when◌then◌else◌}
 use Rattle.model.specs.Stores.{landed_all}
 use Rattle.model.specs.World.{World, Outcome, memory, owners_view}
 use Rattle.model.specs.Calls.{Call, begin, step, drop_link, drain, ask, drop_ask, call_in}
@@ -33,7 +33,7 @@ AllAtOnce [] = Unit {0}
 AllAtOnce (s ∷ T) = AtOnce s × AllAtOnce T
 
 call_at_once : (ρ : Room) (W : World) (c : Call) → Whole W → W.bench.delayed ≡ false → AtOnce (record { before = W; call = c; answer = (call_in ρ W c).answer })
-unfolding if◌then◌else◌
+unfolding when◌then◌else◌
 call_at_once ρ W (begin i op) H e = record { waiting = rw e; drained = refl; arrived = rw e }
 call_at_once ρ W (step i) H e = record { waiting = rw e; drained = refl; arrived = rw e }
 call_at_once ρ W (drop_link i) H e = record { waiting = rw e; drained = refl; arrived = rw e }

@@ -17,7 +17,7 @@ use Rattle.model.specs.declared.Line.TheVariants.{Idle, PutRead, PutTail, PutTes
 use Rattle.model.specs.declared.Queue.{Queue}
 use Rattle.model.specs.declared.Room.{Room}
 use Rattle.model.specs.declared.Region.{Region}
-use Rattle.model.specs.Tests.{if◌then◌else◌}
+use Rattle.model.specs.Tests.{when◌then◌else◌}
 use Rattle.model.specs.Memory.{length_at, size_at}
 use Rattle.model.specs.Tasks.{with_word}
 use Rattle.model.specs.Figures.{take_index, steal_index, is_full, is_empty, put_read, take_read, steal_read, note, steal_last}
@@ -36,7 +36,7 @@ pub none_aside : (ω : ℕ) (v : Queue) (o : Line) → is_commit1 o ≡ false �
 none_aside ω v o e = ((λ c. absurd (true≢false (sym c ∙ e))), λ l. absurd (omega arith))
 
 pub ok_aside : (ω : ℕ) (v : Queue) (o : Line) (n : ℕ) → Aside ω v o n → aside_ok ω v o n ≡ true
-unfolding if◌then◌else◌
+unfolding when◌then◌else◌
 ok_aside ω v o n A = go (eqb n 0) refl (is_commit1 o) refl
   where
     go : (x : Bool) → eqb n 0 ≡ x → (y : Bool) → is_commit1 o ≡ y → aside_ok ω v o n ≡ true
@@ -65,8 +65,8 @@ aside_move ω v v' o o' n a c p some calm A = (
 )
 
 -- a queue that is not expanding has published what is claimed
-pub at_rest : (x : Bool) (c p : ℕ) → c ≡ (if x then p + 1 else p) → x ≡ false → p ≡ c
-unfolding if◌then◌else◌
+pub at_rest : (x : Bool) (c p : ℕ) → c ≡ (when x then p + 1 else p) → x ≡ false → p ≡ c
+unfolding when◌then◌else◌
 at_rest true c p e f = absurd (true≢false f)
 at_rest false c p e f = sym e
 
@@ -74,29 +74,29 @@ at_rest false c p e f = sym e
 abbrev Rests : Line → Type 0
 Rests l = (is_commit1 l ≡ false) × (is_expanding l ≡ false)
 
-either : (x : Bool) (a b : Line) → Rests a → Rests b → Rests (if x then a else b)
-unfolding if◌then◌else◌
+either : (x : Bool) (a b : Line) → Rests a → Rests b → Rests (when x then a else b)
+unfolding when◌then◌else◌
 either true a b p q = p
 either false a b p q = q
 
-either_end : (x : Bool) (a b : Effect) → Rests a.line → Rests b.line → Rests (if x then a else b).line
-unfolding if◌then◌else◌
+either_end : (x : Bool) (a b : Effect) → Rests a.line → Rests b.line → Rests (when x then a else b).line
+unfolding when◌then◌else◌
 either_end true a b p q = p
 either_end false a b p q = q
 
-commit_not : (x : Bool) (a b : Line) → is_commit1 a ≡ false → is_commit1 b ≡ false → is_commit1 (if x then a else b) ≡ false
-unfolding if◌then◌else◌
+commit_not : (x : Bool) (a b : Line) → is_commit1 a ≡ false → is_commit1 b ≡ false → is_commit1 (when x then a else b) ≡ false
+unfolding when◌then◌else◌
 commit_not true a b p q = p
 commit_not false a b p q = q
 
-commit_end : (x : Bool) (a b : Effect) → is_commit1 a.line ≡ false → is_commit1 b.line ≡ false → is_commit1 (if x then a else b).line ≡ false
-unfolding if◌then◌else◌
+commit_end : (x : Bool) (a b : Effect) → is_commit1 a.line ≡ false → is_commit1 b.line ≡ false → is_commit1 (when x then a else b).line ≡ false
+unfolding when◌then◌else◌
 commit_end true a b p q = p
 commit_end false a b p q = q
 
 -- X1 without a claim
-unclaimed : (x : Bool) (a b : Effect) → a.claims ≡ true → is_expanding b.line ≡ false → (if x then a else b).claims ≡ false → is_expanding (if x then a else b).line ≡ false
-unfolding if◌then◌else◌
+unclaimed : (x : Bool) (a b : Effect) → a.claims ≡ true → is_expanding b.line ≡ false → (when x then a else b).claims ≡ false → is_expanding (when x then a else b).line ≡ false
+unfolding when◌then◌else◌
 unclaimed true a b p q f = absurd (true≢false (sym p ∙ f))
 unclaimed false a b p q f = q
 

@@ -14,7 +14,7 @@ use Rattle.model.specs.declared.Operation.{Operation}
 use Rattle.model.specs.declared.Refusal.{Refusal}
 use Rattle.model.specs.declared.Refusal.TheVariants.{NoSuchWorker, BusyWorker, IdleWorker, WrongHand, NumbersSpent, LogFull, ForeignState, NoLink, WaitingFull, NoneWaiting, NoSpace, AskStands, NoAsk}
 use Rattle.model.specs.declared.Answer.TheVariants.{Accepted}
-use Rattle.model.specs.Tests.{if◌then◌else◌}
+use Rattle.model.specs.Tests.{when◌then◌else◌}
 use Rattle.model.specs.Answers.{number_of, ends, logged, entry_length}
 use Rattle.model.specs.Stores.{Shared, shared, landed_all, in_line, oldest, one_less, next_length}
 use Rattle.model.specs.Lines.{Effect, line_step, holds_link, fits}
@@ -25,8 +25,8 @@ use Rattle.model.proofs.Tests.{if_true, if_false}
 use Rattle.theorems.proofs.Folds.{laid, words, words_of, landed_one, landed_is, arrays_after, queue_after, store_after, claimed_is}
 
 -- a property of both branches
-pub pick : (P : Outcome → Type 0) (x : Bool) (D D' : Outcome) → (x ≡ true → P D) → (x ≡ false → P D') → P (if x then D else D')
-unfolding if◌then◌else◌
+pub pick : (P : Outcome → Type 0) (x : Bool) (D D' : Outcome) → (x ≡ true → P D) → (x ≡ false → P D') → P (when x then D else D')
+unfolding when◌then◌else◌
 pick P true D D' f g = f refl
 pick P false D D' f g = g refl
 
@@ -74,10 +74,10 @@ world_with W i E S =
             crew = W.bench.crew;
             queue = relinked S.queue i (line_at W.bench.workers i) E.line;
             waiting = line_after W i E;
-            aside = if E.claims then 0 else W.bench.aside;
+            aside = when E.claims then 0 else W.bench.aside;
             used = W.bench.used;
             restarts = restarted W.bench.kind W.bench.queue i (line_at W.bench.workers i) W.bench.restarts;
-            written = if ends E.answer then W.bench.written + entry_length W.bench.words else W.bench.written;
+            written = when ends E.answer then W.bench.written + entry_length W.bench.words else W.bench.written;
             workers = set W.bench.workers i (record { line = E.line });
           };
       store = S.store;

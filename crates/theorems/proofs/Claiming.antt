@@ -41,7 +41,7 @@ use Rattle.theorems.proofs.ShapeClaim.{words_length, path_places}
 use Rattle.theorems.proofs.Asides.{at_rest}
 use Rattle.theorems.proofs.Shape.{claim_expands, tail, Path, Shape}
 use Rattle.theorems.proofs.ShapeLay.{shape_settle}
-use Rattle.model.specs.Tests.{if◌then◌else◌}
+use Rattle.model.specs.Tests.{when◌then◌else◌}
 
 -- the same view over another store and directory
 abbrev pub renew : View → List ℕ → List Region → View
@@ -252,7 +252,7 @@ pub record ClaimedWhile (ρ : Room) (κ : Kind) (w ω : ℕ) (δ : Bool) (Q : Qu
 
 pub base_claim : (ρ : Room) (κ : Kind) (w ω : ℕ) (δ : Bool) (used low : ℕ) (Q : Queue) (μ : List ℕ) (ol oh : ℕ) (ss : List Store) (t : Growth) (φ : ℕ → Line) (h : History)
     → Shape κ w ω used low Q μ ss (Claim t) φ → fits ρ ω (laid ss Q) ≡ true → Free ρ Q μ → Base κ w ω δ Q μ ol oh ss φ h → ClaimedWhile ρ κ w ω δ Q μ ol oh ss φ h
-unfolding if◌then◌else◌
+unfolding when◌then◌else◌
 base_claim ρ κ w ω δ used low Q μ ol oh ss t φ h S e Z B =
     record {
       base =

@@ -9,7 +9,7 @@ use Rattle.model.specs.declared.Line.TheVariants.{Idle, Claim, Note}
 use Rattle.model.specs.declared.Refusal.{Refusal}
 use Rattle.model.specs.declared.Answer.TheVariants.{GoesOn, Full, Refused}
 use Rattle.model.specs.declared.Room.{Room}
-use Rattle.model.specs.Tests.{if◌then◌else◌}
+use Rattle.model.specs.Tests.{when◌then◌else◌}
 use Rattle.model.specs.Stores.{in_line}
 use Rattle.model.specs.Lines.{eff, task_for, fits, line_step}
 use Rattle.model.specs.World.{World, Outcome, tag_bits, line_at, is_commit1}
@@ -36,8 +36,8 @@ pub commit_own : (W : World) → Whole W → (k : ℕ) → line_at W.bench.worke
 commit_own W H k e =
     subst (ThiefShape W.bench.kind (tag_bits W.bench) W.bench.words W.bench.queue (tail W.bench.kind W.bench.queue.anchor)) e (H.shape.th k)
 
-claims_it : (x : Bool) → x ≡ true → (if x then record { claims = true; stores = []; line = Note ForCommit; answer = GoesOn } else eff [] Idle (Full 0 (task_for ForCommit))).answer ≡ GoesOn
-unfolding if◌then◌else◌
+claims_it : (x : Bool) → x ≡ true → (when x then record { claims = true; stores = []; line = Note ForCommit; answer = GoesOn } else eff [] Idle (Full 0 (task_for ForCommit))).answer ≡ GoesOn
+unfolding when◌then◌else◌
 claims_it true e = refl
 claims_it false e = absurd (true≢false (sym e))
 

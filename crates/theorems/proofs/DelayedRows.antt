@@ -5,7 +5,7 @@ use mathlib.Core.List.{List, [], ◌∷◌, ◌++◌}
 use native.Mathlib.Omega.{arith}
 use lib.ListN.{replicate}
 use Rattle.model.specs.declared.Operation.TheVariants.{Put, Take, Steal}
-use Rattle.model.specs.Tests.{if◌then◌else◌, ◌and◌, ◌or◌}
+use Rattle.model.specs.Tests.{when◌then◌else◌, ◌and◌, ◌or◌}
 use Rattle.model.specs.Tasks.{word_in, with_word, gathered}
 use Rattle.model.specs.Memory.{zeros, word_at, set_word, offset_at, length_at, size_at, words_to}
 use Rattle.model.specs.Stores.{landed_all}
@@ -34,7 +34,7 @@ round =
 
 -- THE PREMISE counts puts that drain: two come to memory in the attempt, as many as bring the tag round, though none finishes in it
 pub two_drain : puts (between 34 47 (played start round)) ≡ 2
-unfolding played fresh_of begin_of step_of drain_of valid_of words_to line_step landed_all zeros word_at set_word offset_at length_at size_at gathered word_in with_word if◌then◌else◌ ◌and◌ ◌or◌
+unfolding played fresh_of begin_of step_of drain_of valid_of words_to line_step landed_all zeros word_at set_word offset_at length_at size_at gathered word_in with_word when◌then◌else◌ ◌and◌ ◌or◌
 two_drain = refl
 
 -- A put finishes at place 5, its store of the anchor the last of three, and a thief does line 1 at place 7
@@ -43,7 +43,7 @@ unseen = five (begin 0 (Put (one 65))) ++ begin 1 Steal ∷ step 1 ∷ step 1 �
 
 -- a thief's EMPTY does not concern that put; an EMPTY of the owner's would
 pub not_concerned : Concerned (played start unseen) 1 5 7 → ⊥
-unfolding played fresh_of begin_of step_of drain_of valid_of words_to line_step landed_all zeros word_at set_word offset_at length_at size_at gathered word_in with_word if◌then◌else◌ ◌and◌ ◌or◌
+unfolding played fresh_of begin_of step_of drain_of valid_of words_to line_step landed_all zeros word_at set_word offset_at length_at size_at gathered word_in with_word when◌then◌else◌ ◌and◌ ◌or◌
 not_concerned c = omega (arith, c)
 
 pub owner_concerned : Concerned (played start unseen) 0 5 7
@@ -56,5 +56,5 @@ seen = five (begin 0 (Put (one 65))) ++ replicate 3 drain ++ begin 1 Steal ∷ s
 pub drained_after_three :
     At (played start seen) 5 (λ s. waits s ≡ 3) × (drains (between 5 9 (played start seen)) ≡ 3)
     × (drains (between 5 8 (played start seen)) ≡ 2)
-unfolding played fresh_of begin_of step_of drain_of valid_of words_to line_step landed_all zeros word_at set_word offset_at length_at size_at gathered word_in with_word if◌then◌else◌ ◌and◌ ◌or◌
+unfolding played fresh_of begin_of step_of drain_of valid_of words_to line_step landed_all zeros word_at set_word offset_at length_at size_at gathered word_in with_word when◌then◌else◌ ◌and◌ ◌or◌
 drained_after_three = (refl, refl, refl)

@@ -17,7 +17,7 @@ use Rattle.model.specs.declared.Line.TheVariants.{Idle}
 use Rattle.model.specs.declared.Refusal.{Refusal}
 use Rattle.model.specs.declared.Refusal.TheVariants.{UnknownQueue, TagWidth, ArraySize, Crew, ShortStore, PayloadWords}
 use Rattle.model.specs.declared.Answer.TheVariants.{Accepted}
-use Rattle.model.specs.Tests.{least, if◌then◌else◌, ◌and◌, ◌or◌}
+use Rattle.model.specs.Tests.{least, when◌then◌else◌, ◌and◌, ◌or◌}
 use Rattle.model.proofs.Tests.{and_both}
 use Rattle.model.proofs.Alone.{at_most_usable}
 use Rattle.model.specs.World.{World, Outcome, refuse, tag_bits, resting, line_at}
@@ -69,8 +69,8 @@ pub record Admitted (s : Setup) (n : ℕ) : Type 0 where
 
 -- what is asked of what comes out holds of no refusal: so it is x
 module _ {A : Type 0} (P : A → Type 0) (R : Refusal → A) (never : (r : Refusal) → P (R r) → ⊥) where
-  passed : (t : Bool) (x : A) (r : Refusal) → P (if t then x else R r) → (t ≡ true) × ((if t then x else R r) ≡ x) × P x
-  unfolding if◌then◌else◌
+  passed : (t : Bool) (x : A) (r : Refusal) → P (when t then x else R r) → (t ≡ true) × ((when t then x else R r) ≡ x) × P x
+  unfolding when◌then◌else◌
   passed true x r e = (refl, refl, e)
   passed false x r e = absurd (never r e)
 
@@ -99,7 +99,7 @@ module _ {A : Type 0} (P : A → Type 0) (R : Refusal → A) (never : (r : Refus
 
 -- kinds 0 to 5: the FIFO queue is not linked
 known_kind : (k : ℕ) → k ≤ 5 → kind_ok (kind_of k) (linked_of k) ≡ true
-unfolding if◌then◌else◌ ◌or◌
+unfolding when◌then◌else◌ ◌or◌
 known_kind zero h = refl
 known_kind (suc zero) h = refl
 known_kind (suc (suc zero)) h = refl
@@ -179,7 +179,7 @@ module _ (o : ℕ) (κ : Kind) (x : Bool) (w c n ω : ℕ) (δ : Bool) (m l : Li
       long = first_long ∙ sym (ap (λ (x : ℕ). (ω + 1) * x) first_size)
 
   pub fresh_whole : Whole (start o κ x w c n ω δ m l)
-  unfolding if◌then◌else◌
+  unfolding when◌then◌else◌
   fresh_whole =
       record {
         kinds = F;

@@ -26,7 +26,7 @@ use Rattle.model.specs.declared.Store.TheVariants.{StoreWord, StoreNote, StorePu
 use Rattle.model.specs.declared.Waiting.{Waiting}
 use Rattle.model.specs.declared.Operation.{Operation}
 use Rattle.model.specs.declared.Operation.TheVariants.{Put, Take, Steal, Commit}
-use Rattle.model.specs.Tests.{if◌then◌else◌}
+use Rattle.model.specs.Tests.{when◌then◌else◌}
 use Rattle.model.proofs.Tests.{and_left, and_right}
 use Rattle.model.specs.Memory.{offset_at, length_at, size_at}
 use Rattle.model.proofs.Directory.{Next, tidy_last, tidy_front, tidy_twice}
@@ -187,8 +187,8 @@ pub record Steals (κ : Kind) (ω : ℕ) (q : Queue) (m : List ℕ) (rr : List S
 none_stolen : (κ : Kind) (ω : ℕ) (q : Queue) (m : List ℕ) → Steals κ ω q m []
 none_stolen κ ω q m = record { less = inr refl; arrays = refl; words_same = refl }
 
-either_stolen : (κ : Kind) (ω : ℕ) (q : Queue) (m : List ℕ) (x : Bool) (E E' : Effect) → (x ≡ true → Steals κ ω q m E.stores) → Steals κ ω q m E'.stores → Steals κ ω q m (if x then E else E').stores
-unfolding if◌then◌else◌
+either_stolen : (κ : Kind) (ω : ℕ) (q : Queue) (m : List ℕ) (x : Bool) (E E' : Effect) → (x ≡ true → Steals κ ω q m E.stores) → Steals κ ω q m E'.stores → Steals κ ω q m (when x then E else E').stores
+unfolding when◌then◌else◌
 either_stolen κ ω q m true E E' s t = s refl
 either_stolen κ ω q m false E E' s t = t
 
@@ -211,8 +211,8 @@ stolen Deque w ω q m low r e t b s (R, x, y, z) =
     count = eqb-true q.anchor.count r.count (and_left _ _ (and_right (eqb q.anchor.head r.head) _ s))
 
 -- a compare that succeeds finds the anchor as it was read
-finds : (κ : Kind) (q : Queue) (i : ℕ) (r : Anchor) (x : Bool) → (holds_link q i ≡ true → is_same κ q.anchor r ≡ true) → (if x then holds_link q i else is_same κ q.anchor r) ≡ true → is_same κ q.anchor r ≡ true
-unfolding if◌then◌else◌
+finds : (κ : Kind) (q : Queue) (i : ℕ) (r : Anchor) (x : Bool) → (holds_link q i ≡ true → is_same κ q.anchor r ≡ true) → (when x then holds_link q i else is_same κ q.anchor r) ≡ true → is_same κ q.anchor r ≡ true
+unfolding when◌then◌else◌
 finds κ q i r true f e = f e
 finds κ q i r false f e = e
 
@@ -280,8 +280,8 @@ claimed_array ω q m lo hi A e = (
 
 -- X2: the indices from lo on are noted, n of them, from b
 noted_works : (κ : Kind) (ω : ℕ) (a : Anchor) (l : List Region) (p : ℕ) (m : List ℕ) (g : Growth) (b n lo hi : ℕ) (x : Bool) → eqb n 0 ≡ x → StandsFor κ a lo hi → lo ≤ hi → Start κ b lo → hi ≤ lo + n
-    → n ≤ size_at ω l (p - 1) → Works κ ω a l p m (work_of (if x then Publish g else Copy g b n 0))
-unfolding if◌then◌else◌
+    → n ≤ size_at ω l (p - 1) → Works κ ω a l p m (work_of (when x then Publish g else Copy g b n 0))
+unfolding when◌then◌else◌
 noted_works κ ω a l p m g b n lo hi true e r le s u f = (lo, hi, r, le, λ i j c d t. absurd (omega (arith, eqb-true n 0 e)))
 noted_works κ ω a l p m g b n lo hi false e r le s u f = (
   lo,
@@ -308,8 +308,8 @@ same_anchor ss a x = words_keep (λ (l : List Store). anchor_after l a) (λ b s 
 copy_works : (κ : Kind) (ω : ℕ) (q : Queue) (m : List ℕ) (g : Growth) (b n k : ℕ) (x : Bool) → eqb (k + 1) n ≡ x → Arrays ω q m → q.claimed ≡ q.published + 1
     → Works κ ω q.anchor q.arrays q.published m (copying b n k)
     → let rr = copy_words κ ω q m (b + k) (ω + 1) in
-    Works κ ω (anchor_after rr q.anchor) q.arrays (places rr q.published) (words ω q.arrays rr m) (work_of (if x then Publish g else Copy g b n (k + 1)))
-unfolding if◌then◌else◌
+    Works κ ω (anchor_after rr q.anchor) q.arrays (places rr q.published) (words ω q.arrays rr m) (work_of (when x then Publish g else Copy g b n (k + 1)))
+unfolding when◌then◌else◌
 copy_works κ ω q m g b n k x e A c (lo, hi, r, le, C) = rw (same_anchor rr q.anchor W, same_places rr q.published W) (go x e)
   where
     rr : List Store
@@ -321,7 +321,7 @@ copy_works κ ω q m g b n k x e A c (lo, hi, r, le, C) = rw (same_anchor rr q.a
     X : CopiedOne κ ω q m lo hi b k C.from
     X = copy_step κ ω q m lo hi b n k (now A) (claimed_array ω q m lo hi A c) C
 
-    go : (x : Bool) → eqb (k + 1) n ≡ x → Works κ ω q.anchor q.arrays q.published (words ω q.arrays (copy_words κ ω q m (b + k) (ω + 1)) m) (work_of (if x then Publish g else Copy g b n (k + 1)))
+    go : (x : Bool) → eqb (k + 1) n ≡ x → Works κ ω q.anchor q.arrays q.published (words ω q.arrays (copy_words κ ω q m (b + k) (ω + 1)) m) (work_of (when x then Publish g else Copy g b n (k + 1)))
     go true e = (lo, hi, r, le, λ i j s t h. X.copied i j (omega (arith, C.low, s)) (omega (arith, C.high, t, eqb-true (k + 1) n e)) h)
     go false e = (
       lo,
@@ -350,7 +350,7 @@ rest_works ρ κ w ω q m o f e =
 
 own_works : (ρ : Room) (κ : Kind) (w ω used low : ℕ) (q : Queue) (m : List ℕ) (o : Line) (φ : ℕ → Line) → Shape κ w ω used low q m [] o φ → Works κ ω q.anchor q.arrays q.published m (work_of o)
     → (line_step ρ κ w ω q m 0 o).claims ≡ false → WorksOn κ ω q m (line_step ρ κ w ω q m 0 o)
-unfolding line_step if◌then◌else◌
+unfolding line_step when◌then◌else◌
 own_works ρ κ w ω used low q m Idle φ S u f = tt
 own_works ρ κ w ω used low q m (PutRead t) φ S u f = rest_works ρ κ w ω q m (PutRead t) f refl
 own_works ρ κ w ω used low q m (PutTail t h) φ S u f = tt
@@ -403,8 +403,8 @@ abbrev pub Grows : World → Type 0
 Grows W = WorksIn W (in_line W.bench.waiting) (line_at W.bench.workers 0)
 
 -- X1 leads to X2
-claims_none : (g : Growth) (x : Bool) (E E' : Effect) → work_of E.line ≡ neither → work_of E'.line ≡ neither → work_of (if x then E else E').line ≡ neither
-unfolding if◌then◌else◌
+claims_none : (g : Growth) (x : Bool) (E E' : Effect) → work_of E.line ≡ neither → work_of E'.line ≡ neither → work_of (when x then E else E').line ≡ neither
+unfolding when◌then◌else◌
 claims_none g true E E' p q = p
 claims_none g false E E' p q = q
 
@@ -508,8 +508,8 @@ others_works κ ω a q m m' copied A O e (lo, hi, r, le, C) = (lo, hi, r, le, co
 
 -- at X2 to X4 an array is claimed
 pub expanding : {W : World} (H : Whole W) → is_expanding (line_at W.bench.workers 0) ≡ true → W.bench.queue.claimed ≡ places (in_line W.bench.waiting) W.bench.queue.published + 1
-unfolding if◌then◌else◌
-expanding {W} H e = let p = places (in_line W.bench.waiting) W.bench.queue.published in H.shape.own.claims ∙ ap (λ (x : Bool). if x then p + 1 else p) e
+unfolding when◌then◌else◌
+expanding {W} H e = let p = places (in_line W.bench.waiting) W.bench.queue.published in H.shape.own.claims ∙ ap (λ (x : Bool). when x then p + 1 else p) e
 
 pub others_grows : {W : World} {m : List ℕ} → Whole W → Others W.bench.queue W.store m → Grows W → Grows (storing W m)
 others_grows {W} {m} H O G = go (is_expanding (line_at W.bench.workers 0)) refl

@@ -12,7 +12,7 @@ use Rattle.model.specs.declared.Queue.{Queue}
 use Rattle.model.specs.declared.Region.{Region}
 use Rattle.model.specs.declared.Store.{Store}
 use Rattle.model.specs.declared.Store.TheVariants.{StoreWord, StoreNote, StorePut, StoreOut, StoreHead, StoreTail}
-use Rattle.model.specs.Tests.{if◌then◌else◌}
+use Rattle.model.specs.Tests.{when◌then◌else◌}
 use Rattle.model.specs.World.{is_expanding}
 use Rattle.model.proofs.Directory.{size_pos}
 use Rattle.model.proofs.Tasks.{same_words}
@@ -98,7 +98,7 @@ module _ {c : ℕ} {v : View} {m : List ℕ} (A : Agrees c v m v.directory) wher
 
 pub inv_others : {κ : Kind} {w ω used low : ℕ} {δ : Bool} {Q : Queue} {μ m : List ℕ} {ss : List Store} {o : Line} {φ : ℕ → Line} {h : History}
     → Shape κ w ω used low Q μ ss o φ → Others Q μ m → Inv κ w ω δ Q μ ss o φ h → Inv κ w ω δ Q m ss o φ h
-unfolding if◌then◌else◌
+unfolding when◌then◌else◌
 inv_others {κ} {w} {ω} {used} {low} {δ} {Q} {μ} {m} {ss} {o} {φ} {h} S O I =
     record {
       own_lo = I.own_lo;

@@ -20,7 +20,7 @@ use Rattle.model.specs.declared.Task.{Task}
 use Rattle.model.specs.declared.Anchor.{Anchor}
 use Rattle.model.specs.declared.Store.{Store}
 use Rattle.model.specs.declared.Store.TheVariants.{StoreWord, StoreNote, StorePut, StoreOut, StoreHead, StoreTail}
-use Rattle.model.specs.Tests.{if◌then◌else◌, ◌and◌, ◌or◌}
+use Rattle.model.specs.Tests.{when◌then◌else◌, ◌and◌, ◌or◌}
 use Rattle.model.proofs.Tests.{and_left, and_right, and_both, or_cases}
 use Rattle.model.specs.Figures.{is_full, is_empty, is_same, put_read, take_read, steal_read, note_all, note, steal_last}
 use Rattle.model.specs.Lines.{Effect, size, fits, succeeds, line_step, holds_link}
@@ -68,13 +68,13 @@ never : {A : Type 0} → false ≡ true → A
 never e = absurd (true≢false (sym e))
 
 module _ (q : Queue) (l : Line) where
-  either_line : (x : Bool) (a b : Line) → Leads q l a → Leads q l b → Leads q l (if x then a else b)
-  unfolding if◌then◌else◌
+  either_line : (x : Bool) (a b : Line) → Leads q l a → Leads q l b → Leads q l (when x then a else b)
+  unfolding when◌then◌else◌
   either_line true a b f g = f
   either_line false a b f g = g
 
-  either_end : (x : Bool) (E E' : Effect) → Leads q l E.line → Leads q l E'.line → Leads q l (if x then E else E').line
-  unfolding if◌then◌else◌
+  either_end : (x : Bool) (E E' : Effect) → Leads q l E.line → Leads q l E'.line → Leads q l (when x then E else E').line
+  unfolding when◌then◌else◌
   either_end true E E' f g = f
   either_end false E E' f g = g
 

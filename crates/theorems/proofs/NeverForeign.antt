@@ -15,7 +15,7 @@ use Rattle.model.specs.declared.Operation.TheVariants.{Put, Take, Steal, Commit}
 use Rattle.model.specs.declared.Refusal.TheVariants.{ForeignState}
 use Rattle.model.specs.declared.Answer.{Answer}
 use Rattle.model.specs.declared.Answer.TheVariants.{Refused}
-use Rattle.model.specs.Tests.{if◌then◌else◌}
+use Rattle.model.specs.Tests.{when◌then◌else◌}
 use Rattle.model.specs.Figures.{is_empty}
 use Rattle.model.specs.Lines.{Effect, fits, succeeds, line_step}
 use Rattle.model.specs.World.{World, Outcome, line_at, owners_view}
@@ -33,8 +33,8 @@ use Rattle.theorems.proofs.Alone.{lone_valid, lone_run}
 use Rattle.theorems.proofs.Fresh.{fresh_lone, from_company}
 
 -- what a line or an accepted begin answers is no refusal
-either : (x : Bool) (E E' : Effect) → is_refused E.answer ≡ false → is_refused E'.answer ≡ false → is_refused (if x then E else E').answer ≡ false
-unfolding if◌then◌else◌
+either : (x : Bool) (E E' : Effect) → is_refused E.answer ≡ false → is_refused E'.answer ≡ false → is_refused (when x then E else E').answer ≡ false
+unfolding when◌then◌else◌
 either true E E' p q = p
 either false E E' p q = q
 

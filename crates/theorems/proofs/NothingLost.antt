@@ -18,7 +18,7 @@ use Rattle.model.specs.declared.Line.{Line}
 use Rattle.model.specs.declared.Queue.{Queue}
 use Rattle.model.specs.declared.Store.{Store}
 use Rattle.model.specs.declared.Answer.TheVariants.{Finished}
-use Rattle.model.specs.Tests.{if◌then◌else◌}
+use Rattle.model.specs.Tests.{when◌then◌else◌}
 use Rattle.model.specs.Tasks.{gathered}
 use Rattle.model.proofs.Tasks.{same_words}
 use Rattle.model.specs.Stores.{Shared, shared, in_line, oldest}
@@ -129,8 +129,8 @@ finish_later : (t : Task) (s : Played) → Fair true s → Finishes t s → even
 finish_later t s S f = done_ev t s S.true_answer f ∙ ap (λ (δ : Bool). event_of_finish δ s.before.bench.waiting.count t) S.way
 
 waits_is : (s : Played) → Fair true s → waits s ≡ s.before.bench.waiting.count + 1
-unfolding if◌then◌else◌
-waits_is s S = ap (λ (δ : Bool). if δ then s.before.bench.waiting.count + 1 else 0) S.way
+unfolding when◌then◌else◌
+waits_is s S = ap (λ (δ : Bool). when δ then s.before.bench.waiting.count + 1 else 0) S.way
 
 -- HISTORIES. A put's answer, and the drains since
 since_rev : (t : Task) (n d : ℕ) (T : List Event) (h : History) → Since t n d h → Since t n (d + drain_sum T) (rev T h)

@@ -22,7 +22,7 @@ use Rattle.model.specs.declared.Task.{Task}
 use Rattle.model.specs.declared.Anchor.{Anchor}
 use Rattle.model.specs.declared.Store.{Store}
 use Rattle.model.specs.declared.Store.TheVariants.{StoreWord}
-use Rattle.model.specs.Tests.{if◌then◌else◌}
+use Rattle.model.specs.Tests.{when◌then◌else◌}
 use Rattle.model.specs.Memory.{offset_at, size_at}
 use Rattle.model.specs.Calls.{step}
 use Rattle.theorems.proofs.Words.{off}
@@ -106,8 +106,8 @@ put_store_lem κ w ω δ Q μ lo hi g hr s j x o' e hj l S k =
 
 -- after word j, the next one or the last line
 put_on_lem : (κ : Kind) (ω : ℕ) (Q : Queue) (μ : List ℕ) (lo hi g : ℕ) (h : History) (t : Task) (r : Anchor) (j : ℕ) (x : Bool) → eqb j ω ≡ x → Facts κ ω Q μ lo hi g h → OwnerOk κ (view ω Q μ lo hi) g h (PutWord t r j)
-    → OwnerOk κ (view ω Q (put_word ω μ (off Q) (size ω Q) hi j (word_in t j)) lo hi) g (quiet ∷ h) (if x then PutFinish t r else PutWord t r (j + 1))
-unfolding if◌then◌else◌
+    → OwnerOk κ (view ω Q (put_word ω μ (off Q) (size ω Q) hi j (word_in t j)) lo hi) g (quiet ∷ h) (when x then PutFinish t r else PutWord t r (j + 1))
+unfolding when◌then◌else◌
 put_on_lem κ ω Q μ lo hi g h t r j x e F I = go x e
   where
     v' : View
@@ -123,7 +123,7 @@ put_on_lem κ ω Q μ lo hi g h t r j x e F I = go x e
             is : k ≡ j
             is = omega arith
 
-    go : (x : Bool) → eqb j ω ≡ x → OwnerOk κ v' g (quiet ∷ h) (if x then PutFinish t r else PutWord t r (j + 1))
+    go : (x : Bool) → eqb j ω ≡ x → OwnerOk κ v' g (quiet ∷ h) (when x then PutFinish t r else PutWord t r (j + 1))
     go true e = (
       begun_later quiet tt I.0,
       (
@@ -140,8 +140,8 @@ put_on_lem κ ω Q μ lo hi g h t r j x e F I = go x e
 
 -- X2: the indices from lo up are noted, q of them
 noted_x2 : (κ : Kind) (v : View) (g : ℕ) (h : History) (t : Growth) (a q lo : ℕ) (x : Bool) → eqb q 0 ≡ x → BegunFor v.words t h
-    → Claimed v → Start κ a lo → lo ≤ v.own_lo → v.own_hi ≤ lo + q → q ≤ v.slots → OwnerOk κ v g h (if x then Publish t else Copy t a q 0)
-unfolding if◌then◌else◌
+    → Claimed v → Start κ a lo → lo ≤ v.own_lo → v.own_hi ≤ lo + q → q ≤ v.slots → OwnerOk κ v g h (when x then Publish t else Copy t a q 0)
+unfolding when◌then◌else◌
 noted_x2 κ v g h t a q lo true e B C S l u f = (B, C, λ i j b c d. absurd (omega (arith, eqb-true q 0 e)))
 noted_x2 κ v g h t a q lo false e B C S l u f =
     (B, C, record { from = lo; start = S; low = l; high = u; few = f; more = omega (arith, eqb-false q 0 e); copied = λ i j b c d. absurd (omega arith) })
@@ -250,8 +250,8 @@ module _ (w ω : ℕ) (δ : Bool) (y : ℕ) (Q : Queue) (μ : List ℕ) (lo hi g
   put_tail Deque t a F k = absurd k.1.0
 
   put_test : (κ : Kind) (t : Task) (r : Anchor) (x : Bool) → is_full κ (size ω Q) r ≡ x → Facts κ ω Q μ lo hi g h → OwnerOk κ (view ω Q μ lo hi) g h (PutTest t r)
-      → Next κ w ω δ y Q μ lo hi g h (PutTest t r) (goes (if x then Claim (ForPut t) else PutWord t r 0))
-  unfolding if◌then◌else◌
+      → Next κ w ω δ y Q μ lo hi g h (PutTest t r) (goes (when x then Claim (ForPut t) else PutWord t r 0))
+  unfolding when◌then◌else◌
   put_test κ t r true e F k = ((tt, begun_later quiet tt k.0), tt)
   put_test κ t r false e F k = ((tt, (begun_later quiet tt k.0, (k.1.0, k.1.1, full_no κ (size ω Q) r lo hi k.1.0 F.fit e, omega arith, λ j l. absurd (omega arith)))), tt)
 
@@ -286,10 +286,10 @@ module _ (w ω : ℕ) (δ : Bool) (y : ℕ) (Q : Queue) (μ : List ℕ) (lo hi g
 
   -- X3
   copy_x3 : (κ : Kind) (t : Growth) (a q k : ℕ) (x : Bool) → eqb (k + 1) q ≡ x → Facts κ ω Q μ lo hi g h → OwnerOk κ (view ω Q μ lo hi) g h (Copy t a q k)
-      → Next κ w ω δ y Q μ lo hi g h (Copy t a q k) (eff (copy_words κ ω Q μ (a + k) (ω + 1)) (if x then Publish t else Copy t a q (k + 1)) GoesOn)
-  unfolding if◌then◌else◌
+      → Next κ w ω δ y Q μ lo hi g h (Copy t a q k) (eff (copy_words κ ω Q μ (a + k) (ω + 1)) (when x then Publish t else Copy t a q (k + 1)) GoesOn)
+  unfolding when◌then◌else◌
   copy_x3 κ t a q k x e F (Bg, R, C) =
-      ((owes (ω + 1) (omega arith), subst₂ (λ (u : View) (x' : ℕ). OwnerOk κ u x' (quiet ∷ h) (if x then Publish t else Copy t a q (k + 1))) (sym seen) (sym (same_tags (copy_words κ ω Q μ (a + k) (ω + 1)) g (some (ω + 1)))) (go x e)), tt)
+      ((owes (ω + 1) (omega arith), subst₂ (λ (u : View) (x' : ℕ). OwnerOk κ u x' (quiet ∷ h) (when x then Publish t else Copy t a q (k + 1))) (sym seen) (sym (same_tags (copy_words κ ω Q μ (a + k) (ω + 1)) g (some (ω + 1)))) (go x e)), tt)
     where
       f : ℕ
       f = C.from
@@ -325,7 +325,7 @@ module _ (w ω : ℕ) (δ : Bool) (y : ℕ) (Q : Queue) (μ : List ℕ) (lo hi g
       room : Claimed v'
       room = (omega (arith, words_length ω Q.arrays (copy_words κ ω Q μ (a + k) (ω + 1)) μ, R.0), R.1, R.2, R.3, R.4)
 
-      go : (x : Bool) → eqb (k + 1) q ≡ x → OwnerOk κ v' g (quiet ∷ h) (if x then Publish t else Copy t a q (k + 1))
+      go : (x : Bool) → eqb (k + 1) q ≡ x → OwnerOk κ v' g (quiet ∷ h) (when x then Publish t else Copy t a q (k + 1))
       go true e = (growth_later ω h quiet tt t Bg, room, λ i j b c hj. D i j (omega (arith, C.low)) (omega (arith, C.high, eqb-true (k + 1) q e)) hj)
       go false e = (
         growth_later ω h quiet tt t Bg,
@@ -357,8 +357,8 @@ module _ (w ω : ℕ) (δ : Bool) (y : ℕ) (Q : Queue) (μ : List ℕ) (lo hi g
   take_tail Deque a F k = absurd k.0
 
   take_test : (κ : Kind) (r : Anchor) (x : Bool) → is_empty κ r ≡ x → Facts κ ω Q μ lo hi g h → OwnerOk κ (view ω Q μ lo hi) g h (TakeTest r)
-      → Next κ w ω δ y Q μ lo hi g h (TakeTest r) (if x then eff [] Idle (Empty 0) else goes (TakeWord r no_task 0))
-  unfolding if◌then◌else◌
+      → Next κ w ω δ y Q μ lo hi g h (TakeTest r) (when x then eff [] Idle (Empty 0) else goes (TakeWord r no_task 0))
+  unfolding when◌then◌else◌
   take_test κ r true e F k = ((tt, tt), (k.3, k.2 (empty_yes κ r lo hi k.0 e)))
   take_test κ r false e F k = ((tt, (k.0, k.1, empty_no κ r lo hi k.0 F.mid e, omega arith, no_words _)), tt)
 
@@ -373,17 +373,17 @@ module _ (w ω : ℕ) (δ : Bool) (y : ℕ) (Q : Queue) (μ : List ℕ) (lo hi g
 
 -- take: word j is read
 take_on_lem : (κ : Kind) (ω : ℕ) (v : View) (g : ℕ) (h : History) (r : Anchor) (t : Task) (x j : ℕ) (b : Bool) → eqb j ω ≡ b → ω ≤ 4 → v.words ≡ ω → OwnerOk κ v g h (TakeWord r t j)
-    → x ≡ word v (taken_ix κ v.own_lo v.own_hi) j → OwnerOk κ v g (quiet ∷ h) (if b then TakeFinish r (with_word t j x) else TakeWord r (with_word t j x) (j + 1))
-unfolding if◌then◌else◌
+    → x ≡ word v (taken_ix κ v.own_lo v.own_hi) j → OwnerOk κ v g (quiet ∷ h) (when b then TakeFinish r (with_word t j x) else TakeWord r (with_word t j x) (j + 1))
+unfolding when◌then◌else◌
 take_on_lem κ ω v g h r t x j true e wide q (R, G, l, u, T) is =
     (R, G, l, next_is j t x _ T is (omega arith) ∙ ap (λ (n : ℕ). gathered (n + 1) (word v (taken_ix κ v.own_lo v.own_hi))) (eqb-true j ω e ∙ sym q))
 take_on_lem κ ω v g h r t x j false e wide q (R, G, l, u, T) is = (R, G, l, omega (arith, eqb-false j ω e), next_is j t x _ T is (omega arith))
 
 -- X1 that answers FULL
 claim_full : (κ : Kind) (w ω : ℕ) (δ : Bool) (y : ℕ) (Q : Queue) (μ : List ℕ) (lo hi g : ℕ) (h : History) (t : Growth) (x : Bool)
-    → (if x then record { claims = true; stores = []; line = Note t; answer = GoesOn } else eff [] Idle (Full 0 (task_for t))).claims ≡ false
-    → Next κ w ω δ y Q μ lo hi g h (Claim t) (if x then record { claims = true; stores = []; line = Note t; answer = GoesOn } else eff [] Idle (Full 0 (task_for t)))
-unfolding if◌then◌else◌
+    → (when x then record { claims = true; stores = []; line = Note t; answer = GoesOn } else eff [] Idle (Full 0 (task_for t))).claims ≡ false
+    → Next κ w ω δ y Q μ lo hi g h (Claim t) (when x then record { claims = true; stores = []; line = Note t; answer = GoesOn } else eff [] Idle (Full 0 (task_for t)))
+unfolding when◌then◌else◌
 claim_full κ w ω δ y Q μ lo hi g h t true f = absurd (let z : ◌≡◌ {A = ℕ} 0 1 = cc in omega arith)
 claim_full κ w ω δ y Q μ lo hi g h t false f = ((tt, tt), tt)
 

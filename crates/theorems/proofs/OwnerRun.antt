@@ -25,7 +25,7 @@ use Rattle.model.specs.declared.Waiting.{Waiting}
 use Rattle.model.specs.declared.Store.TheVariants.{StoreWord, StoreNote, StorePut, StoreOut, StoreHead, StoreTail}
 use Rattle.theorems.proofs.Folds.{anchor_after, laid, words_of, words, AllWords, copy_words_lem, NonePut, arrays_after, queue_after, store_after}
 use Rattle.theorems.proofs.Held.{line_join, line_length}
-use Rattle.model.specs.Tests.{if◌then◌else◌}
+use Rattle.model.specs.Tests.{when◌then◌else◌}
 use Rattle.model.specs.Memory.{zeros}
 use Rattle.model.specs.Calls.{step, joining, landing}
 use Rattle.model.specs.Lines.{Effect, eff, succeeds, copy_words, fits, line_step, task_for}
@@ -92,8 +92,8 @@ is_finished (Full i t) = false
 is_finished (Grown i) = false
 is_finished (Refused r) = false
 
-neither : (x : Bool) (E E' : Effect) → is_finished E.answer ≡ false → is_finished E'.answer ≡ false → is_finished (if x then E else E').answer ≡ false
-unfolding if◌then◌else◌
+neither : (x : Bool) (E E' : Effect) → is_finished E.answer ≡ false → is_finished E'.answer ≡ false → is_finished (when x then E else E').answer ≡ false
+unfolding when◌then◌else◌
 neither true E E' p q = p
 neither false E E' p q = q
 
@@ -136,8 +136,8 @@ words_none (StoreOut r ∷ ss) a = absurd a
 words_none (StoreHead i ∷ ss) a = absurd a
 words_none (StoreTail i ∷ ss) a = absurd a
 
-two_none : (x : Bool) (E E' : Effect) → NonePut E.stores → NonePut E'.stores → NonePut (if x then E else E').stores
-unfolding if◌then◌else◌
+two_none : (x : Bool) (E E' : Effect) → NonePut E.stores → NonePut E'.stores → NonePut (when x then E else E').stores
+unfolding when◌then◌else◌
 two_none true E E' p q = p
 two_none false E E' p q = q
 
@@ -311,8 +311,8 @@ dull_order Fifo v a ss rr h e n d R = order_ev Fifo v a (ss ++ rr) h e n (rising
 dull_order Deque v a ss rr h e n d R = tt
 
 either_order : (κ : Kind) (v : View) (a : ℕ) (ss : List Store) (h : History) (ω : ℕ) (δ : Bool) (y : ℕ) (o : Line) (x : Bool) (E E' : Effect) → NotOut (event_of ω δ y (step 0) o E.answer) → NotOut (event_of ω δ y (step 0) o E'.answer) → Dull E.stores → Dull E'.stores
-    → Order κ v a ss h → Order κ v a (ss ++ (if x then E else E').stores) (event_of ω δ y (step 0) o (if x then E else E').answer ∷ h)
-unfolding if◌then◌else◌
+    → Order κ v a ss h → Order κ v a (ss ++ (when x then E else E').stores) (event_of ω δ y (step 0) o (when x then E else E').answer ∷ h)
+unfolding when◌then◌else◌
 either_order κ v a ss h ω δ y o true E E' n n' d d' R = dull_order κ v a ss E.stores h _ n d R
 either_order κ v a ss h ω δ y o false E E' n n' d d' R = dull_order κ v a ss E'.stores h _ n' d' R
 
@@ -538,8 +538,8 @@ Stepped ρ κ w ω δ l Q μ o φ h E =
 -- X1
 claim_result : (ρ : Room) (κ : Kind) (w ω : ℕ) (δ : Bool) (l : Waiting) (Q : Queue) (μ : List ℕ) (t : Growth) (φ : ℕ → Line) (h : History) (x : Bool) → x ≡ true → l.count ≤ length l.stores
     → Inv κ w ω δ (claiming ρ Q) (zeros μ ρ.next (next_length Q)) (in_line l) (Note t) φ (quiet ∷ h)
-    → Stepped ρ κ w ω δ l Q μ (Claim t) φ h (if x then record { claims = true; stores = []; line = Note t; answer = GoesOn } else eff [] Idle (Full 0 (task_for t)))
-unfolding if◌then◌else◌
+    → Stepped ρ κ w ω δ l Q μ (Claim t) φ h (when x then record { claims = true; stores = []; line = Note t; answer = GoesOn } else eff [] Idle (Full 0 (task_for t)))
+unfolding when◌then◌else◌
 claim_result ρ κ w ω δ l Q μ t φ h false e len I = not_both false refl e
 claim_result ρ κ w ω true l Q μ t φ h true e len I = (subst (λ (ss : List Store). Inv κ w ω true (claiming ρ Q) (zeros μ ρ.next (next_length Q)) ss (Note t) φ (quiet ∷ h)) (sym (line_join l [] len ∙ no_more (in_line l))) I, tt)
 claim_result ρ κ w ω false l Q μ t φ h true e len I = (subst (λ (ss : List Store). Inv κ w ω false (claiming ρ Q) (zeros μ ρ.next (next_length Q)) ss (Note t) φ (quiet ∷ h)) (sym (line_join l [] len ∙ no_more (in_line l))) I, tt)

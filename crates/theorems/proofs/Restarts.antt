@@ -20,7 +20,7 @@ use Rattle.model.specs.declared.Anchor.{Anchor}
 use Rattle.model.specs.declared.Refusal.{Refusal}
 use Rattle.model.specs.declared.Refusal.TheVariants.{ForeignState}
 use Rattle.model.specs.declared.Answer.TheVariants.{Refused}
-use Rattle.model.specs.Tests.{if◌then◌else◌, ◌and◌}
+use Rattle.model.specs.Tests.{when◌then◌else◌, ◌and◌}
 use Rattle.model.specs.Figures.{is_full, is_empty, put_read, take_read, steal_read, note, steal_last}
 use Rattle.model.specs.Lines.{Effect, size, fits, succeeds, line_step, fails_compare}
 use Rattle.model.specs.World.{World, Outcome, line_at, is_steal1, room_alone}
@@ -29,13 +29,13 @@ use Rattle.theorems.specs.Restarts.{RestartsAreFailedCompares, BackToLine1}
 use Rattle.theorems.proofs.Cases.{step_by, lone_cases}
 
 -- neither of two lines is a thief's line 1
-either : (x : Bool) (a b : Line) → is_steal1 a ≡ false → is_steal1 b ≡ false → is_steal1 (if x then a else b) ≡ false
-unfolding if◌then◌else◌
+either : (x : Bool) (a b : Line) → is_steal1 a ≡ false → is_steal1 b ≡ false → is_steal1 (when x then a else b) ≡ false
+unfolding when◌then◌else◌
 either true a b e f = e
 either false a b e f = f
 
-either_left : (x : Bool) (a b : Effect) → is_steal1 a.line ≡ false → is_steal1 b.line ≡ false → is_steal1 (if x then a else b).line ≡ false
-unfolding if◌then◌else◌
+either_left : (x : Bool) (a b : Effect) → is_steal1 a.line ≡ false → is_steal1 b.line ≡ false → is_steal1 (when x then a else b).line ≡ false
+unfolding when◌then◌else◌
 either_left true a b e f = e
 either_left false a b e f = f
 
@@ -65,8 +65,8 @@ last Fifo r t = refl
 last Deque r t = refl
 
 -- the compare: back to line 1 where it fails
-back : (x : Bool) (a b : Effect) → is_steal1 a.line ≡ false → is_steal1 b.line ≡ true → is_steal1 (if x then a else b).line ≡ not x
-unfolding if◌then◌else◌
+back : (x : Bool) (a b : Effect) → is_steal1 a.line ≡ false → is_steal1 b.line ≡ true → is_steal1 (when x then a else b).line ≡ not x
+unfolding when◌then◌else◌
 back true a b e f = e
 back false a b e f = f
 
@@ -98,11 +98,11 @@ back_to_line_1 ρ κ w ω q m i (StealCompare r e t) = back (succeeds κ q i r) 
 
 -- one worker's count raised, or none
 pub counted : (ns : List ℕ) (i k : ℕ) (x : Bool) → i < length ns
-    → restarts_of (if x then raised ns i else ns) k ≡ (if eqb k i and x then one_more (restarts_of ns k) else restarts_of ns k)
-unfolding if◌then◌else◌ ◌and◌
+    → restarts_of (when x then raised ns i else ns) k ≡ (when eqb k i and x then one_more (restarts_of ns k) else restarts_of ns k)
+unfolding when◌then◌else◌ ◌and◌
 counted ns i k x h = go x (eqb k i) refl
   where
-    go : (y b : Bool) → eqb k i ≡ b → restarts_of (if y then raised ns i else ns) k ≡ (if b and y then one_more (restarts_of ns k) else restarts_of ns k)
+    go : (y b : Bool) → eqb k i ≡ b → restarts_of (when y then raised ns i else ns) k ≡ (when b and y then one_more (restarts_of ns k) else restarts_of ns k)
     go true true e =
         subst (λ (j : ℕ). restarts_of (raised ns i) j ≡ one_more (restarts_of ns j)) (sym (eqb-true k i e))
         (get_or-set_same ns i (one_more (restarts_of ns i)) 0 h)
@@ -115,7 +115,7 @@ abbrev CountsOf : World → ℕ → ℕ → Outcome → Type 0
 CountsOf W i k D =
     ((r : Refusal) → D.answer ≡ Refused r → ⊥)
     → restarts_of D.world.bench.restarts k
-    ≡ (if eqb k i and fails_compare W.bench.kind W.bench.queue i (line_at W.bench.workers i)
+    ≡ (when eqb k i and fails_compare W.bench.kind W.bench.queue i (line_at W.bench.workers i)
     then one_more (restarts_of W.bench.restarts k)
     else restarts_of W.bench.restarts k)
 

@@ -24,7 +24,7 @@ use Rattle.model.specs.declared.Operation.TheVariants.{Put, Take, Steal, Commit}
 use Rattle.model.specs.declared.Refusal.{Refusal}
 use Rattle.model.specs.declared.Answer.{Answer}
 use Rattle.model.specs.declared.Answer.TheVariants.{Accepted, Numbered, GoesOn, Finished, HandedOut, Empty, Full, Refused, Grown}
-use Rattle.model.specs.Tests.{if◌then◌else◌}
+use Rattle.model.specs.Tests.{when◌then◌else◌}
 use Rattle.model.specs.Stores.{in_line, joined, oldest, one_less}
 use Rattle.model.specs.Figures.{put_store}
 use Rattle.model.specs.Lines.{line_step}
@@ -75,12 +75,12 @@ put_counts Lifo w r = refl
 put_counts Fifo w r = refl
 put_counts Deque w r = refl
 
-if_one : (t : Bool) (x y : ℕ) → (t ≡ true → x ≡ y) → (t ≡ false → x ≡ 0) → x ≡ (if t then y else 0)
-unfolding if◌then◌else◌
+if_one : (t : Bool) (x y : ℕ) → (t ≡ true → x ≡ y) → (t ≡ false → x ≡ 0) → x ≡ (when t then y else 0)
+unfolding when◌then◌else◌
 if_one true x y f g = f refl
 if_one false x y f g = g refl
 
-last_one : (s : Store) (n x : ℕ) → of_put s ≡ 1 → first (s ∷ []) (x - n) ≡ (if leb (n + 1) x then 1 else 0)
+last_one : (s : Store) (n x : ℕ) → of_put s ≡ 1 → first (s ∷ []) (x - n) ≡ (when leb (n + 1) x then 1 else 0)
 last_one s n x e = if_one (leb (n + 1) x) (first (s ∷ []) (x - n)) 1 (λ q. some (x - n) (omega (arith, leb-true (n + 1) x q))) (λ q. none (x - n) (omega (arith, leb-false (n + 1) x q)))
   where
     some : (y : ℕ) → 0 < y → first (s ∷ []) y ≡ 1
@@ -103,8 +103,8 @@ unfinished (Full i t) f = refl
 unfinished (Grown i) f = refl
 unfinished (Refused r) f = refl
 
-if_none : (t : Bool) (x : ℕ) → x ≡ 0 → (if t then x else 0) ≡ 0
-unfolding if◌then◌else◌
+if_none : (t : Bool) (x : ℕ) → x ≡ 0 → (when t then x else 0) ≡ 0
+unfolding when◌then◌else◌
 if_none true x e = e
 if_none false x e = refl
 
@@ -113,47 +113,47 @@ unfolding line_step
 finish_answer ρ κ w ω q m o t r e = rw e
 
 -- what the owner's line adds to the first x of a line of n
-line_adds : (ρ : Room) (κ : Kind) (w ω : ℕ) (q : Queue) (m : List ℕ) (o : Line) (n x : ℕ) → first (line_step ρ κ w ω q m 0 o).stores (x - n) ≡ (if leb (n + 1) x then finishes (line_step ρ κ w ω q m 0 o).answer else 0)
+line_adds : (ρ : Room) (κ : Kind) (w ω : ℕ) (q : Queue) (m : List ℕ) (o : Line) (n x : ℕ) → first (line_step ρ κ w ω q m 0 o).stores (x - n) ≡ (when leb (n + 1) x then finishes (line_step ρ κ w ω q m 0 o).answer else 0)
 line_adds ρ κ w ω q m o n x = go (finishing o)
   where
     go : ((t : Task) × (r : Anchor) × (o ≡ PutFinish t r)) ⊎ ((t : Task) (r : Anchor) → o ≡ PutFinish t r → ⊥)
-        → first (line_step ρ κ w ω q m 0 o).stores (x - n) ≡ (if leb (n + 1) x then finishes (line_step ρ κ w ω q m 0 o).answer else 0)
+        → first (line_step ρ κ w ω q m 0 o).stores (x - n) ≡ (when leb (n + 1) x then finishes (line_step ρ κ w ω q m 0 o).answer else 0)
     go (inl (t, r, e)) =
         ap (λ (ss : List Store). first ss (x - n)) (put_stores ρ κ w ω q m o t r e) ∙ last_one (put_store κ w r) n x (put_counts κ w r)
-        ∙ ap (λ (y : ℕ). if leb (n + 1) x then y else 0) (sym (finish_answer ρ κ w ω q m o t r e))
+        ∙ ap (λ (y : ℕ). when leb (n + 1) x then y else 0) (sym (finish_answer ρ κ w ω q m o t r e))
     go (inr d) =
         first_none (line_step ρ κ w ω q m 0 o).stores (x - n) (none_put ρ κ w ω q m o d)
         ∙ sym (if_none (leb (n + 1) x) _ (unfinished _ (λ i t p. let P = finish_only ρ κ w ω q m 0 o i t p in d t P.0 P.1)))
 
-clear : (δ : Bool) (y : ℕ) → y ≡ 0 → (if δ then 0 else y) ≡ 0
-unfolding if◌then◌else◌
+clear : (δ : Bool) (y : ℕ) → y ≡ 0 → (when δ then 0 else y) ≡ 0
+unfolding when◌then◌else◌
 clear true y e = refl
 clear false y e = e
 
 refused_drain : (W : World) (r : Refusal) (x : ℕ)
-    → 0 + first (in_line W.bench.waiting) x ≡ (if leb (if W.bench.delayed then W.bench.waiting.count + 1 else 0) x then 0 else 0) + first (in_line W.bench.waiting) (x + 0)
+    → 0 + first (in_line W.bench.waiting) x ≡ (when leb (when W.bench.delayed then W.bench.waiting.count + 1 else 0) x then 0 else 0) + first (in_line W.bench.waiting) (x + 0)
 refused_drain W r x =
     ap (λ (y : ℕ). 0 + first (in_line W.bench.waiting) y) {x = x} {y = x + 0} (omega arith)
-    ∙ ap (λ (y : ℕ). y + first (in_line W.bench.waiting) (x + 0)) (sym (if_none (leb (if W.bench.delayed then W.bench.waiting.count + 1 else 0) x) 0 refl))
+    ∙ ap (λ (y : ℕ). y + first (in_line W.bench.waiting) (x + 0)) (sym (if_none (leb (when W.bench.delayed then W.bench.waiting.count + 1 else 0) x) 0 refl))
 
 -- A CALL: what comes to memory and what is first in the line after it, with x drains to come
 abbrev Pays : World → Call → Outcome → Type 0
 Pays W c D =
     (x : ℕ) → arrives_as W c D.answer + first (in_line D.world.bench.waiting) x
-    ≡ (if leb (waits (record { before = W; call = c; answer = D.answer })) x then finishes D.answer else 0) + first (in_line W.bench.waiting) (x + drains_as c D.answer)
+    ≡ (when leb (waits (record { before = W; call = c; answer = D.answer })) x then finishes D.answer else 0) + first (in_line W.bench.waiting) (x + drains_as c D.answer)
 
-nothing_comes : (W : World) (a : Answer) (x : ℕ) → finishes a ≡ 0 → (if W.bench.delayed then 0 else finishes a) + first (in_line W.bench.waiting) x
-    ≡ (if leb (if W.bench.delayed then W.bench.waiting.count + 1 else 0) x then finishes a else 0) + first (in_line W.bench.waiting) (x + 0)
+nothing_comes : (W : World) (a : Answer) (x : ℕ) → finishes a ≡ 0 → (when W.bench.delayed then 0 else finishes a) + first (in_line W.bench.waiting) x
+    ≡ (when leb (when W.bench.delayed then W.bench.waiting.count + 1 else 0) x then finishes a else 0) + first (in_line W.bench.waiting) (x + 0)
 nothing_comes W a x e =
     ap (λ (y : ℕ). y + first (in_line W.bench.waiting) x) (nil W.bench.delayed)
     ∙ ap (λ (y : ℕ). 0 + first (in_line W.bench.waiting) y) {x = x} {y = x + 0} (omega arith)
-    ∙ ap (λ (y : ℕ). y + first (in_line W.bench.waiting) (x + 0)) (sym (if_none (leb (if W.bench.delayed then W.bench.waiting.count + 1 else 0) x) (finishes a) e))
+    ∙ ap (λ (y : ℕ). y + first (in_line W.bench.waiting) (x + 0)) (sym (if_none (leb (when W.bench.delayed then W.bench.waiting.count + 1 else 0) x) (finishes a) e))
   where
-    nil : (δ : Bool) → (if δ then 0 else finishes a) ≡ 0
+    nil : (δ : Bool) → (when δ then 0 else finishes a) ≡ 0
     nil δ = clear δ (finishes a) e
 
 refused_pays : (W : World) (c : Call) (r : Refusal) → Pays W c (refuse W r)
-unfolding if◌then◌else◌
+unfolding when◌then◌else◌
 refused_pays W (begin i op) r x = nothing_comes W (Refused r) x refl
 refused_pays W (step i) r x = nothing_comes W (Refused r) x refl
 refused_pays W (drop_link i) r x = nothing_comes W (Refused r) x refl
@@ -183,9 +183,9 @@ leb_zero : (x : ℕ) → leb 0 x ≡ true
 leb_zero x = le-leb 0 x (omega arith)
 
 step_pays : (δ : Bool) (i : ℕ) (l : Waiting) (rr : List Store) (f : ℕ) → l.count ≤ length l.stores
-    → ((x : ℕ) → i ≡ 0 → first rr (x - l.count) ≡ (if leb (l.count + 1) x then f else 0)) → (0 < i → f ≡ 0) → (x : ℕ)
-    → (if δ then 0 else f) + first (in_line (joined l (joining δ i rr))) x ≡ (if leb (if δ then l.count + 1 else 0) x then f else 0) + first (in_line l) (x + 0)
-unfolding if◌then◌else◌
+    → ((x : ℕ) → i ≡ 0 → first rr (x - l.count) ≡ (when leb (l.count + 1) x then f else 0)) → (0 < i → f ≡ 0) → (x : ℕ)
+    → (when δ then 0 else f) + first (in_line (joined l (joining δ i rr))) x ≡ (when leb (when δ then l.count + 1 else 0) x then f else 0) + first (in_line l) (x + 0)
+unfolding when◌then◌else◌
 step_pays true zero l rr f h mine thief x =
     omega (
       arith,
@@ -208,7 +208,7 @@ step_pays false i l rr f h mine thief x =
       arith,
       ap (λ (ss : List Store). first ss x) (line_join l [] h),
       first_join (in_line l) [] x,
-      ap (λ (t : Bool). if t then f else 0) (leb_zero x),
+      ap (λ (t : Bool). when t then f else 0) (leb_zero x),
       plus_zero (in_line l) x,
     )
 
@@ -219,7 +219,7 @@ thief_none ρ W H (suc k) h =
     let P = finish_only ρ W.bench.kind (tag_bits W.bench) W.bench.words W.bench.queue W.store (suc k) (line_at W.bench.workers (suc k)) i t p in
     subst (λ (θ : Line). ThiefShape W.bench.kind (tag_bits W.bench) W.bench.words W.bench.queue (tail W.bench.kind W.bench.queue.anchor) θ) P.1 (H.shape.th k))
 
-own_adds : (ρ : Room) (W : World) (i x : ℕ) → i ≡ 0 → first (effect_of ρ W i).stores (x - W.bench.waiting.count) ≡ (if leb (W.bench.waiting.count + 1) x then finishes (effect_of ρ W i).answer else 0)
+own_adds : (ρ : Room) (W : World) (i x : ℕ) → i ≡ 0 → first (effect_of ρ W i).stores (x - W.bench.waiting.count) ≡ (when leb (W.bench.waiting.count + 1) x then finishes (effect_of ρ W i).answer else 0)
 own_adds ρ W zero x e = line_adds ρ W.bench.kind (tag_bits W.bench) W.bench.words _ _ (line_at W.bench.workers 0) W.bench.waiting.count x
 own_adds ρ W (suc k) x e = absurd (omega arith)
 
@@ -229,7 +229,7 @@ stepped_pays ρ W H i x =
 
 -- a drain
 drained_pays : (ρ : Room) (W : World) → Whole W → 0 < W.bench.waiting.count → Pays W drain (record { world = drain_to W; answer = Accepted })
-unfolding if◌then◌else◌
+unfolding when◌then◌else◌
 drained_pays ρ W H some x =
     omega (
       arith,

@@ -21,7 +21,7 @@ use Rattle.model.specs.declared.Answer.{Answer}
 use Rattle.model.specs.declared.Store.{Store}
 use Rattle.model.specs.declared.Store.TheVariants.{StoreWord, StoreNote, StorePut, StoreOut, StoreHead, StoreTail}
 use Rattle.model.specs.declared.Answer.TheVariants.{GoesOn}
-use Rattle.model.specs.Tests.{if◌then◌else◌}
+use Rattle.model.specs.Tests.{when◌then◌else◌}
 use Rattle.model.specs.Memory.{zeros, word_at, offset_at, length_at, size_at}
 use Rattle.model.specs.Tasks.{gathered}
 use Rattle.model.proofs.Tasks.{same_words}
@@ -198,8 +198,8 @@ settled : {W : World} (H : Whole W) → let ss = in_line W.bench.waiting in
     Shape W.bench.kind (tag_bits W.bench) W.bench.words W.bench.used (lows ss H.low) (laid ss W.bench.queue) (words W.bench.words W.bench.queue.arrays ss W.store) [] (line_at W.bench.workers 0) (thieves W.bench.workers)
 settled {W} H = shape_settle W.bench.kind (in_line W.bench.waiting) H.shape
 
-either_alike : (ρ : Room) (W : World) (x : Bool) (E E' : Effect) → (x ≡ true → AlikeOn ρ W E) → AlikeOn ρ W E' → AlikeOn ρ W (if x then E else E')
-unfolding if◌then◌else◌
+either_alike : (ρ : Room) (W : World) (x : Bool) (E E' : Effect) → (x ≡ true → AlikeOn ρ W E) → AlikeOn ρ W E' → AlikeOn ρ W (when x then E else E')
+unfolding when◌then◌else◌
 either_alike ρ W true E E' f g = f refl
 either_alike ρ W false E E' f g = g
 

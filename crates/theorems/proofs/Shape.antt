@@ -18,7 +18,7 @@ use Rattle.model.specs.declared.Anchor.{Anchor}
 use Rattle.model.specs.declared.Task.{Task}
 use Rattle.model.specs.Tasks.{no_task, word_in, first_words, with_word}
 use Rattle.model.proofs.Tasks.{no_words, known_next, number_next}
-use Rattle.model.specs.Tests.{if◌then◌else◌}
+use Rattle.model.specs.Tests.{when◌then◌else◌}
 use Rattle.model.specs.Memory.{size_at}
 use Rattle.model.specs.Lines.{size}
 use Rattle.model.specs.World.{is_expanding}
@@ -257,7 +257,7 @@ Path κ w ω l c low p τ (s ∷ ss) = Fit κ w ω l c low p τ s × Path κ w �
 
 -- the owner, in the queue as it reads it
 pub record OwnEnd (κ : Kind) (w ω used : ℕ) (l : List Region) (c low p τ : ℕ) (o : Line) : Type 0 where
-  pub claims : c ≡ (if is_expanding o then p + 1 else p)
+  pub claims : c ≡ (when is_expanding o then p + 1 else p)
   pub spent : Spent κ τ o used
   pub shape : OwnShape κ w ω (size_at ω l (p - 1)) low τ o
 

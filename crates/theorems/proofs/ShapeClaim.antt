@@ -20,7 +20,7 @@ use Rattle.model.specs.declared.Anchor.{Anchor}
 use Rattle.model.specs.declared.Store.{Store}
 use Rattle.model.specs.declared.Store.TheVariants.{StoreWord, StoreNote, StorePut, StoreOut, StoreHead, StoreTail}
 use Rattle.theorems.proofs.Folds.{places, anchor_after, laid, words}
-use Rattle.model.specs.Tests.{if◌then◌else◌}
+use Rattle.model.specs.Tests.{when◌then◌else◌}
 use Rattle.model.specs.Memory.{zeros, size_at}
 use Rattle.model.specs.Lines.{size, fits}
 use Rattle.model.specs.Stores.{next_length, claiming}
@@ -148,7 +148,7 @@ path_claim κ w ω l l' c c' low p τ (StoreTail i ∷ ss) same hc pos h (f, P) 
 
 pub shape_claim : (ρ : Room) (κ : Kind) (w ω used low : ℕ) (q : Queue) (m : List ℕ) (ss : List Store) (t : Growth) (φ : ℕ → Line) → fits ρ ω (laid ss q) ≡ true → Free ρ q m
     → Shape κ w ω used low q m ss (Claim t) φ → Shape κ w ω used low (claiming ρ q) (zeros m ρ.next (next_length q)) ss (Note t) φ
-unfolding if◌then◌else◌
+unfolding when◌then◌else◌
 shape_claim ρ κ w ω used low q m ss t φ e R S =
     record {
       anchor = rw ez S.anchor;

@@ -21,7 +21,7 @@ use Rattle.model.specs.declared.Answer.TheVariants.{GoesOn, Full, Empty}
 use Rattle.model.specs.declared.Task.{Task}
 use Rattle.model.specs.declared.Anchor.{Anchor}
 use Rattle.theorems.proofs.Folds.{places, AllWords, copy_words_lem}
-use Rattle.model.specs.Tests.{if◌then◌else◌}
+use Rattle.model.specs.Tests.{when◌then◌else◌}
 use Rattle.model.specs.Memory.{word_at, size_at}
 use Rattle.theorems.proofs.Words.{off}
 use Rattle.model.specs.Lines.{Effect, eff, goes, size, word_of, write_word, fits, copy_words, line_step, publishes, task_for}
@@ -133,8 +133,8 @@ module _ (ρ : Room) (w ω used low : ℕ) (q : Queue) (m : List ℕ) (φ : ℕ 
   tail_put Deque t h S = absurd S.own.shape.1
 
   test_put : (κ : Kind) (t : Task) (r : Anchor) (x : Bool) → is_full κ (size ω q) r ≡ x → Shape κ w ω used low q m [] (PutTest t r) φ
-      → Ends κ w ω used low q (goes (if x then Claim (ForPut t) else PutWord t r 0))
-  unfolding if◌then◌else◌
+      → Ends κ w ω used low q (goes (when x then Claim (ForPut t) else PutWord t r 0))
+  unfolding when◌then◌else◌
   test_put κ t r true e S = stay S (Claim (ForPut t)) refl refl S.own.shape.0
   test_put κ t r false e S =
       stay S (PutWord t r 0) refl refl
@@ -142,8 +142,8 @@ module _ (ρ : Room) (w ω used low : ℕ) (q : Queue) (m : List ℕ) (φ : ℕ 
 
   -- a word of the new task
   word_put : (κ : Kind) (t : Task) (r : Anchor) (j : ℕ) (x : Bool) → eqb j ω ≡ x → Shape κ w ω used low q m [] (PutWord t r j) φ
-      → Ends κ w ω used low q (eff (write_word κ ω q (q.published - 1) (put_index κ r) j (word_in t j) ∷ []) (if x then PutFinish t r else PutWord t r (j + 1)) GoesOn)
-  unfolding if◌then◌else◌
+      → Ends κ w ω used low q (eff (write_word κ ω q (q.published - 1) (put_index κ r) j (word_in t j) ∷ []) (when x then PutFinish t r else PutWord t r (j + 1)) GoesOn)
+  unfolding when◌then◌else◌
   word_put κ t r j x e S = ((fit, tt), go x e)
     where
       fit : Fit κ w ω q.arrays q.claimed low q.published (tail κ q.anchor) (write_word κ ω q (q.published - 1) (put_index κ r) j (word_in t j))
@@ -154,7 +154,7 @@ module _ (ρ : Room) (w ω used low : ℕ) (q : Queue) (m : List ℕ) (φ : ℕ 
         λ z. rw (z, number_word t) S.own.shape.0.0,
       )
 
-      go : (x : Bool) → eqb j ω ≡ x → OwnEnd κ w ω used q.arrays q.claimed low q.published (tail κ q.anchor) (if x then PutFinish t r else PutWord t r (j + 1))
+      go : (x : Bool) → eqb j ω ≡ x → OwnEnd κ w ω used q.arrays q.claimed low q.published (tail κ q.anchor) (when x then PutFinish t r else PutWord t r (j + 1))
       go true e = end_to S (PutFinish t r) refl (spent_put κ _ _ (PutWord t r j) (PutFinish t r) refl S.own.spent) (S.own.shape.0, S.own.shape.1, S.own.shape.2)
       go false e =
           end_to S (PutWord t r (j + 1)) refl (spent_put κ _ _ (PutWord t r j) (PutWord t r (j + 1)) refl S.own.spent)
@@ -169,20 +169,20 @@ module _ (ρ : Room) (w ω used low : ℕ) (q : Queue) (m : List ℕ) (φ : ℕ 
 
   -- X1 that answers FULL
   claim_full : (κ : Kind) (t : Growth) → Shape κ w ω used low q m [] (Claim t) φ → (x : Bool) → fits ρ ω q ≡ x
-      → (if x then record { claims = true; stores = []; line = Note t; answer = GoesOn } else eff [] Idle (Full 0 (task_for t))).claims ≡ false
-      → Ends κ w ω used low q (if x then record { claims = true; stores = []; line = Note t; answer = GoesOn } else eff [] Idle (Full 0 (task_for t)))
-  unfolding if◌then◌else◌
+      → (when x then record { claims = true; stores = []; line = Note t; answer = GoesOn } else eff [] Idle (Full 0 (task_for t))).claims ≡ false
+      → Ends κ w ω used low q (when x then record { claims = true; stores = []; line = Note t; answer = GoesOn } else eff [] Idle (Full 0 (task_for t)))
+  unfolding when◌then◌else◌
   claim_full κ t S true e f = absurd (let z : ◌≡◌ {A = ℕ} 0 1 = cc in omega arith)
   claim_full κ t S false e f = (tt, end_to S Idle (sym (claim_expands t)) (spent_done κ _ _ (Claim t) S.own.spent) tt)
 
   -- X2
-  note_all_lem : (κ : Kind) (z τ : ℕ) (t : Growth) (h k : ℕ) (x : Bool) → eqb k 0 ≡ x → KnownFor ω t → Span κ τ h k → k ≤ z → OwnShape κ w ω z low τ (if x then Publish t else Copy t h k 0)
-  unfolding if◌then◌else◌
+  note_all_lem : (κ : Kind) (z τ : ℕ) (t : Growth) (h k : ℕ) (x : Bool) → eqb k 0 ≡ x → KnownFor ω t → Span κ τ h k → k ≤ z → OwnShape κ w ω z low τ (when x then Publish t else Copy t h k 0)
+  unfolding when◌then◌else◌
   note_all_lem κ z τ t h k true e l s u = l
   note_all_lem κ z τ t h k false e l s u = (l, s, u, omega (arith, eqb-false k 0 e))
 
-  note_expands : (t : Growth) (h k : ℕ) (x : Bool) → (is_expanding (if x then Publish t else Copy t h k 0) ≡ true) × (pending (if x then Publish t else Copy t h k 0) ≡ open_for t)
-  unfolding if◌then◌else◌
+  note_expands : (t : Growth) (h k : ℕ) (x : Bool) → (is_expanding (when x then Publish t else Copy t h k 0) ≡ true) × (pending (when x then Publish t else Copy t h k 0) ≡ open_for t)
+  unfolding when◌then◌else◌
   note_expands t h k true = (refl, refl)
   note_expands t h k false = (refl, refl)
 
@@ -199,8 +199,8 @@ module _ (ρ : Room) (w ω used low : ℕ) (q : Queue) (m : List ℕ) (φ : ℕ 
 
   -- X3
   copy_x3 : (κ : Kind) (t : Growth) (h j k : ℕ) (x : Bool) → eqb (k + 1) j ≡ x → Shape κ w ω used low q m [] (Copy t h j k) φ
-      → Ends κ w ω used low q (eff (copy_words κ ω q m (h + k) (ω + 1)) (if x then Publish t else Copy t h j (k + 1)) GoesOn)
-  unfolding if◌then◌else◌
+      → Ends κ w ω used low q (eff (copy_words κ ω q m (h + k) (ω + 1)) (when x then Publish t else Copy t h j (k + 1)) GoesOn)
+  unfolding when◌then◌else◌
   copy_x3 κ t h j k x e S = (path (ω + 1) (omega arith), rw (same_lows _ low (some (ω + 1)), same_places _ q.published (some (ω + 1)), same_tails _ (tail κ q.anchor) (some (ω + 1))) (next x e))
     where
       A : Arrays ω q m
@@ -237,7 +237,7 @@ module _ (ρ : Room) (w ω used low : ℕ) (q : Queue) (m : List ℕ) (φ : ℕ 
           path_join κ w ω _ _ _ _ _ (copy_words κ ω q m (h + k) n) _ (path n (omega arith))
           ((omega (arith, more), there, omega arith, λ z. rw z value), tt)
 
-      next : (x : Bool) → eqb (k + 1) j ≡ x → OwnEnd κ w ω used q.arrays q.claimed low q.published (tail κ q.anchor) (if x then Publish t else Copy t h j (k + 1))
+      next : (x : Bool) → eqb (k + 1) j ≡ x → OwnEnd κ w ω used q.arrays q.claimed low q.published (tail κ q.anchor) (when x then Publish t else Copy t h j (k + 1))
       next true e = end_to S (Publish t) refl (spent_put κ _ _ (Copy t h j k) (Publish t) refl S.own.spent) S.own.shape.0
       next false e =
           end_to S (Copy t h j (k + 1)) refl (spent_put κ _ _ (Copy t h j k) (Copy t h j (k + 1)) refl S.own.spent)
@@ -245,7 +245,7 @@ module _ (ρ : Room) (w ω used low : ℕ) (q : Queue) (m : List ℕ) (φ : ℕ 
 
   -- X4
   publish : (κ : Kind) (t : Growth) → Shape κ w ω used low q m [] (Publish t) φ → Ends κ w ω used low q (publishes (StoreNote q.published ∷ []) 0 t)
-  unfolding if◌then◌else◌
+  unfolding when◌then◌else◌
   publish κ (ForPut t) S =
       (((refl, omega (arith, S.own.claims)), tt), record { claims = S.own.claims; spent = spent_put κ _ _ (Publish (ForPut t)) (PutRead t) refl S.own.spent; shape = S.own.shape })
   publish κ ForCommit S =
@@ -264,8 +264,8 @@ module _ (ρ : Room) (w ω used low : ℕ) (q : Queue) (m : List ℕ) (φ : ℕ 
   tail_take Deque h S = absurd S.own.shape
 
   test_take : (κ : Kind) (r : Anchor) (x : Bool) → is_empty κ r ≡ x → Shape κ w ω used low q m [] (TakeTest r) φ
-      → Ends κ w ω used low q (if x then eff [] Idle (Empty 0) else goes (TakeWord r no_task 0))
-  unfolding if◌then◌else◌
+      → Ends κ w ω used low q (when x then eff [] Idle (Empty 0) else goes (TakeWord r no_task 0))
+  unfolding when◌then◌else◌
   test_take κ r true e S = (tt, end_to S Idle refl (spent_done κ _ _ (TakeTest r) S.own.spent) tt)
   test_take κ r false e S =
       stay S (TakeWord r no_task 0) refl refl (S.own.shape, own_some κ w (size ω q) low r q.anchor S.anchor S.own.shape e, none_known, omega arith)
@@ -273,8 +273,8 @@ module _ (ρ : Room) (w ω used low : ℕ) (q : Queue) (m : List ℕ) (φ : ℕ 
   -- a word is read
   word_take : (κ : Kind) (r : Anchor) (t : Task) (j : ℕ) (x : Bool) → eqb j ω ≡ x → ω ≤ 4 → Shape κ w ω used low q m [] (TakeWord r t j) φ
       → let u : Task = with_word t j (word_of κ ω q m (q.published - 1) (take_index κ r) j) in
-      Ends κ w ω used low q (goes (if x then TakeFinish r u else TakeWord r u (j + 1)))
-  unfolding if◌then◌else◌
+      Ends κ w ω used low q (goes (when x then TakeFinish r u else TakeWord r u (j + 1)))
+  unfolding when◌then◌else◌
   word_take κ r t j x e wide S = go x e
     where
       u : Task
@@ -286,7 +286,7 @@ module _ (ρ : Room) (w ω used low : ℕ) (q : Queue) (m : List ℕ) (φ : ℕ 
       more : Known (j + 1) u
       more = known_more j t _ (omega (arith, S.own.shape.3)) S.own.shape.2 (λ z. rw z number)
 
-      go : (x : Bool) → eqb j ω ≡ x → Ends κ w ω used low q (goes (if x then TakeFinish r u else TakeWord r u (j + 1)))
+      go : (x : Bool) → eqb j ω ≡ x → Ends κ w ω used low q (goes (when x then TakeFinish r u else TakeWord r u (j + 1)))
       go true e = stay S (TakeFinish r u) refl refl (S.own.shape.0, S.own.shape.1, subst (λ (n : ℕ). Known (n + 1) u) (eqb-true j ω e) more)
       go false e = stay S (TakeWord r u (j + 1)) refl refl (S.own.shape.0, S.own.shape.1, more, omega (arith, S.own.shape.3, eqb-false j ω e))
 

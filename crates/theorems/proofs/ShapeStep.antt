@@ -14,7 +14,7 @@ use Rattle.model.specs.declared.Queue.{Queue}
 use Rattle.model.specs.declared.Answer.TheVariants.{GoesOn, Full}
 use Rattle.model.specs.declared.Store.{Store}
 use Rattle.theorems.proofs.Folds.{places, anchor_after, laid, words, queue_after, store_after}
-use Rattle.model.specs.Tests.{if◌then◌else◌}
+use Rattle.model.specs.Tests.{when◌then◌else◌}
 use Rattle.model.specs.Memory.{zeros}
 use Rattle.model.specs.Figures.{is_empty}
 use Rattle.model.specs.Lines.{task_for, Effect, eff, succeeds, fits, line_step}
@@ -26,16 +26,16 @@ use Rattle.theorems.proofs.ShapeOwner.{Ends, Exact, Reading, own_ends}
 use Rattle.theorems.proofs.ShapeClaim.{shape_refresh, shape_claim}
 
 -- only X1 claims
-neither : (x : Bool) (E E' : Effect) → E.claims ≡ false → E'.claims ≡ false → (if x then E else E').claims ≡ false
-unfolding if◌then◌else◌
+neither : (x : Bool) (E E' : Effect) → E.claims ≡ false → E'.claims ≡ false → (when x then E else E').claims ≡ false
+unfolding when◌then◌else◌
 neither true E E' p q = p
 neither false E E' p q = q
 
 pub not_both : {A : Type 0} (x : Bool) → x ≡ false → x ≡ true → A
 not_both x p q = absurd (let z : ◌≡◌ {A = ℕ} 0 1 = cc in omega arith)
 
-claim_fits : (ρ : Room) (ω : ℕ) (q : Queue) (i : ℕ) (t : Growth) (x : Bool) → fits ρ ω q ≡ x → (if x then record { claims = true; stores = []; line = Note t; answer = GoesOn } else eff [] Idle (Full i (task_for t))).claims ≡ true → fits ρ ω q ≡ true
-unfolding if◌then◌else◌
+claim_fits : (ρ : Room) (ω : ℕ) (q : Queue) (i : ℕ) (t : Growth) (x : Bool) → fits ρ ω q ≡ x → (when x then record { claims = true; stores = []; line = Note t; answer = GoesOn } else eff [] Idle (Full i (task_for t))).claims ≡ true → fits ρ ω q ≡ true
+unfolding when◌then◌else◌
 claim_fits ρ ω q i t true e f = e
 claim_fits ρ ω q i t false e f = not_both false refl f
 
@@ -97,9 +97,9 @@ no_more [] = refl
 no_more (s ∷ ss) = ap (λ (l : List Store). s ∷ l) (no_more ss)
 
 claim_step : (ρ : Room) (κ : Kind) (w ω used low : ℕ) (q : Queue) (m : List ℕ) (ss : List Store) (φ : ℕ → Line) (t : Growth) (x : Bool) → x ≡ true → fits ρ ω (laid ss q) ≡ true → Free ρ q m → Shape κ w ω used low q m ss (Claim t) φ
-    → let E : Effect = (if x then record { claims = true; stores = []; line = Note t; answer = GoesOn } else eff [] Idle (Full 0 (task_for t))) in
+    → let E : Effect = (when x then record { claims = true; stores = []; line = Note t; answer = GoesOn } else eff [] Idle (Full 0 (task_for t))) in
     (low' : ℕ) × Shape κ w ω used low' (queue_after ρ E.claims q) (store_after ρ E.claims q m) (ss ++ E.stores) E.line φ
-unfolding if◌then◌else◌
+unfolding when◌then◌else◌
 claim_step ρ κ w ω used low q m ss φ t false e f R S = not_both false refl e
 claim_step ρ κ w ω used low q m ss φ t true e f R S =
     (low, subst (λ (l : List Store). Shape κ w ω used low (claiming ρ q) (zeros m ρ.next (next_length q)) l (Note t) φ) (sym (no_more ss)) (shape_claim ρ κ w ω used low q m ss t φ f R S))
@@ -121,7 +121,7 @@ claim_shaped ρ κ w ω used low q m ss o φ t is f R S = subst P (sym is) (here
     S' = subst (λ (o : Line). Shape κ w ω used low q m ss o φ) is S
 
     here : (x : Bool) → x ≡ true
-        → let E : Effect = (if x then record { claims = true; stores = []; line = Note t; answer = GoesOn } else eff [] Idle (Full 0 (task_for t))) in
+        → let E : Effect = (when x then record { claims = true; stores = []; line = Note t; answer = GoesOn } else eff [] Idle (Full 0 (task_for t))) in
         (low' : ℕ) × Shape κ w ω used low' (queue_after ρ E.claims q) (store_after ρ E.claims q m) (ss ++ E.stores) E.line φ
     here x e = claim_step ρ κ w ω used low q m ss φ t x e f R S'
 

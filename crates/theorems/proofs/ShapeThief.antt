@@ -21,7 +21,7 @@ use Rattle.model.specs.declared.Answer.TheVariants.{HandedOut, Empty}
 use Rattle.model.specs.declared.Task.{Task}
 use Rattle.model.specs.declared.Anchor.{Anchor}
 use Rattle.model.specs.Limits.{kind_ok}
-use Rattle.model.specs.Tests.{if◌then◌else◌}
+use Rattle.model.specs.Tests.{when◌then◌else◌}
 use Rattle.model.specs.Lines.{Effect, eff, goes, size, succeeds, word_of, steal_on, line_step, holds_link}
 use Rattle.model.specs.Tasks.{no_task, with_word}
 use Rattle.model.specs.Figures.{is_same, slot, steal_index, is_empty, steal_store, steal_read, steal_last, anchor}
@@ -77,8 +77,8 @@ steal_to {κ} {w} {ω} {used} {low} {q} {m} {ss} {o} {φ} S k r a e φ' is rest 
     }
 
 -- a FIFO queue is not linked
-fifo_same : (q : Queue) (i : ℕ) (r : Anchor) (x : Bool) → not x ≡ true → (if x then holds_link q i else is_same Fifo q.anchor r) ≡ true → q.anchor.head ≡ r.head
-unfolding if◌then◌else◌
+fifo_same : (q : Queue) (i : ℕ) (r : Anchor) (x : Bool) → not x ≡ true → (when x then holds_link q i else is_same Fifo q.anchor r) ≡ true → q.anchor.head ≡ r.head
+unfolding when◌then◌else◌
 fifo_same q i r true n z = absurd (true≢false (sym n))
 fifo_same q i r false n z = eqb-true q.anchor.head r.head z
 
@@ -97,8 +97,8 @@ win Deque w ω used low q m ss o φ k r e t z n S (R, s, a, u) =
 
 compare : (κ : Kind) (w ω used low : ℕ) (q : Queue) (m : List ℕ) (ss : List Store) (o : Line) (φ : ℕ → Line) (k : ℕ) (r : Anchor) (e : ℕ) (t : Task) (z : Bool) → succeeds κ q (suc k) r ≡ z → kind_ok κ q.linked ≡ true → (S : Shape κ w ω used low q m ss o φ)
     → ThiefShape κ w ω q (tail κ q.anchor) (StealCompare r e t)
-    → ShapeKeptT κ w ω used low q m ss o φ k (if z then eff (steal_store κ r e ∷ []) Idle (HandedOut (suc k) t) else goes StealRead)
-unfolding if◌then◌else◌
+    → ShapeKeptT κ w ω used low q m ss o φ k (when z then eff (steal_store κ r e ∷ []) Idle (HandedOut (suc k) t) else goes StealRead)
+unfolding when◌then◌else◌
 compare κ w ω used low q m ss o φ k r e t true i n S s = win κ w ω used low q m ss o φ k r e t i n S s
 compare κ w ω used low q m ss o φ k r e t false i n S s = thief_stay S k StealRead tt
 
@@ -108,8 +108,8 @@ thief_some Fifo w z τ r (r', s, u) e = omega (arith, eqb-false r.head r.count e
 thief_some Deque w z τ r R e = omega (arith, eqb-false r.count 0 e)
 
 test_steal : (ρ : Room) (κ : Kind) (w ω used low : ℕ) (q : Queue) (m : List ℕ) (ss : List Store) (o : Line) (φ : ℕ → Line) (k : ℕ) (r : Anchor) (x : Bool) → is_empty κ r ≡ x → (S : Shape κ w ω used low q m ss o φ)
-    → ThiefRead κ w (size ω q) (tail κ q.anchor) r → ShapeKeptT κ w ω used low q m ss o φ k (if x then eff [] Idle (Empty (suc k)) else goes (StealNote r))
-unfolding if◌then◌else◌
+    → ThiefRead κ w (size ω q) (tail κ q.anchor) r → ShapeKeptT κ w ω used low q m ss o φ k (when x then eff [] Idle (Empty (suc k)) else goes (StealNote r))
+unfolding when◌then◌else◌
 test_steal ρ κ w ω used low q m ss o φ k r true e S R = thief_stay S k Idle tt
 test_steal ρ κ w ω used low q m ss o φ k r false e S R = thief_stay S k (StealNote r) (R, thief_some κ w (size ω q) (tail κ q.anchor) r R e)
 
@@ -145,8 +145,8 @@ last_steal Deque w ω q r t R s u = (R, s, tt, u)
 word_steal : (κ : Kind) (w ω used low : ℕ) (q : Queue) (m : List ℕ) (ss : List Store) (o : Line) (φ : ℕ → Line) (r : Anchor) (b : ℕ) (t : Task) (j : ℕ) (x : Bool) → eqb j ω ≡ x → ω ≤ 4 → Shape κ w ω used low q m ss o φ
     → ThiefShape κ w ω q (tail κ q.anchor) (StealWord r b t j)
     → let u : Task = with_word t j (word_of κ ω q m b (steal_index κ r) j) in
-    ThiefShape κ w ω q (tail κ q.anchor) (if x then steal_last κ r u else StealWord r b u (j + 1))
-unfolding if◌then◌else◌
+    ThiefShape κ w ω q (tail κ q.anchor) (when x then steal_last κ r u else StealWord r b u (j + 1))
+unfolding when◌then◌else◌
 word_steal κ w ω used low q m ss o φ r b t j x e wide S (R, s, p, l, κn, h) = go x e
   where
     u : Task
@@ -158,7 +158,7 @@ word_steal κ w ω used low q m ss o φ r b t j x e wide S (R, s, p, l, κn, h) 
     more : Known (j + 1) u
     more = known_more j t _ (omega arith) κn (λ z. rw z first)
 
-    go : (x : Bool) → eqb j ω ≡ x → ThiefShape κ w ω q (tail κ q.anchor) (if x then steal_last κ r u else StealWord r b u (j + 1))
+    go : (x : Bool) → eqb j ω ≡ x → ThiefShape κ w ω q (tail κ q.anchor) (when x then steal_last κ r u else StealWord r b u (j + 1))
     go true e = last_steal κ w ω q r u R s (subst (λ (n : ℕ). Known (n + 1) u) (eqb-true j ω e) more)
     go false e = (R, s, p, l, more, omega (arith, eqb-false j ω e))
 

@@ -20,7 +20,7 @@ use Rattle.model.specs.declared.Store.TheVariants.{StoreOut}
 use Rattle.model.specs.declared.Answer.TheVariants.{HandedOut, Empty}
 use Rattle.model.specs.declared.Task.{Task}
 use Rattle.model.specs.declared.Anchor.{Anchor}
-use Rattle.model.specs.Tests.{if◌then◌else◌, ◌and◌}
+use Rattle.model.specs.Tests.{when◌then◌else◌, ◌and◌}
 use Rattle.model.specs.Memory.{offset_at, size_at}
 use Rattle.model.specs.Calls.{step}
 use Rattle.model.specs.Lines.{Effect, eff, goes, size, succeeds, word_of, steal_on, line_step, holds_link}
@@ -236,18 +236,18 @@ none_linked Deque d e = e
 abbrev pub LinkSound : Kind → Queue → History → ℕ → Line → Type 0
 LinkSound κ Q h k θ = holds_link Q (suc k) ≡ true → (is_same κ Q.anchor (read_by θ) ≡ true) × (puts_since (suc k) h ≡ 0)
 
-won : (κ : Kind) (w : ℕ) (Q : Queue) (h : History) (k : ℕ) (r : Anchor) (e : ℕ) (t : Task) (x : Bool) → (if x then holds_link Q (suc k) else is_same κ Q.anchor r) ≡ true
+won : (κ : Kind) (w : ℕ) (Q : Queue) (h : History) (k : ℕ) (r : Anchor) (e : ℕ) (t : Task) (x : Bool) → (when x then holds_link Q (suc k) else is_same κ Q.anchor r) ≡ true
     → Tag κ w Q.anchor.tag (puts_since (suc k) h) r.tag → Few κ w (puts_since (suc k) h) → (x ≡ false → 0 < w) → LinkSound κ Q h k (StealCompare r e t)
     → (is_same κ Q.anchor r ≡ true) × (stale κ (puts_since (suc k) h) ≡ 0)
-unfolding if◌then◌else◌
+unfolding when◌then◌else◌
 won κ w Q h k r e t true q T f some L = let (a, b) = L q in (a, none_linked κ _ b)
 won κ w Q h k r e t false q T f some L = (q, none_tagged κ w _ Q.anchor r q T f (some refl))
 
 steal_compare : (κ : Kind) (w ω : ℕ) (δ : Bool) (y : ℕ) (Q : Queue) (μ : List ℕ) (ol oh : ℕ) (ss : List Store) (φ : ℕ → Line) (h : History) (k : ℕ) (r : Anchor) (e : ℕ) (t : Task) (z : Bool) → succeeds κ Q (suc k) r ≡ z
     → (I : Base κ w ω δ Q μ ol oh ss φ h) → ThiefOk κ w (view ω Q μ ol oh) Q.anchor.tag h (suc k) (StealCompare r e t) → (Q.linked ≡ false → 0 < w) → LinkSound κ Q h k (StealCompare r e t)
-    → let R : Effect = (if z then eff (steal_store κ r e ∷ []) Idle (HandedOut (suc k) t) else goes StealRead) in
+    → let R : Effect = (when z then eff (steal_store κ r e ∷ []) Idle (HandedOut (suc k) t) else goes StealRead) in
     PremiseAt κ w (event_of ω δ y (step (suc k)) (StealCompare r e t) R.answer) h → ThiefKept κ w ω δ y Q μ ol oh ss φ h k (StealCompare r e t) R
-unfolding if◌then◌else◌
+unfolding when◌then◌else◌
 steal_compare κ w ω δ y Q μ ol oh ss φ h k r e t true q I ok some L f =
     let (a, b) = won κ w Q h k r e t Q.linked q ok.0.tag (f ok.0.begun) some L in
     steal_wins κ w ω δ y Q μ ol oh ss φ h k r e t a b I ok
@@ -260,8 +260,8 @@ soon κ w v g h k θ o = thief_holds {w = w} {g = g} {h = h} (move_calm quiet tt
 -- the test for EMPTY
 steal_test : (κ : Kind) (w ω : ℕ) (δ : Bool) (y : ℕ) (Q : Queue) (μ : List ℕ) (ol oh : ℕ) (ss : List Store) (φ : ℕ → Line) (h : History) (k : ℕ) (r : Anchor) (x : Bool) → is_empty κ r ≡ x
     → (I : Base κ w ω δ Q μ ol oh ss φ h) → ThiefOk κ w (view ω Q μ ol oh) Q.anchor.tag h (suc k) (StealTest r)
-    → ThiefKept κ w ω δ y Q μ ol oh ss φ h k (StealTest r) (if x then eff [] Idle (Empty (suc k)) else goes (StealNote r))
-unfolding if◌then◌else◌
+    → ThiefKept κ w ω δ y Q μ ol oh ss φ h k (StealTest r) (when x then eff [] Idle (Empty (suc k)) else goes (StealNote r))
+unfolding when◌then◌else◌
 steal_test κ w ω δ y Q μ ol oh ss φ h k r true e I (R, E) =
     (thief_same κ w ω δ y Q μ ol oh ss φ h k Idle (found_empty (suc k)) tt (λ i q. tt) I tt, (R.begun, E (empty_yes κ r R.lo R.hi R.rep e)), (refl, refl, refl), λ Y. order_ev κ (view ω Q μ ol oh) Q.anchor.head ss h _ tt Y)
 steal_test κ w ω δ y Q μ ol oh ss φ h k r false e I (R, E) = (
@@ -318,8 +318,8 @@ small_now Deque ω Q lo hi v d H e = tt
 steal_on_lem : (κ : Kind) (w ω : ℕ) (v : View) (g : ℕ) (h : History) (k : ℕ) (r : Anchor) (b : ℕ) (t : Task) (x j : ℕ) (z : Bool) → eqb j ω ≡ z → ω ≤ 4 → v.words ≡ ω
     → (R : Reads κ w v g h k r) → R.lo < R.hi → NotedV κ w v g h k r R b → j ≤ v.words → GotV κ w v g h k r R j t
     → (stale κ (puts_since k h) ≡ 0 → v.own_lo ≤ stolen_ix κ R.lo R.hi → stolen_ix κ R.lo R.hi < v.own_hi → x ≡ word v (stolen_ix κ R.lo R.hi) j)
-    → ThiefOk κ w v g h k (if z then steal_last κ r (with_word t j x) else StealWord r b (with_word t j x) (j + 1))
-unfolding if◌then◌else◌
+    → ThiefOk κ w v g h k (when z then steal_last κ r (with_word t j x) else StealWord r b (with_word t j x) (j + 1))
+unfolding when◌then◌else◌
 steal_on_lem κ w ω v g h k r b t x j z e wide q R l N u G is = go z e
   where
     more : GotV κ w v g h k r R (j + 1) (with_word t j x)
@@ -330,7 +330,7 @@ steal_on_lem κ w ω v g h k r b t x j z e wide q R l N u G is = go z e
     last Fifo q G = (R, l, G, rw q tt)
     last Deque q G = (R, l, G)
 
-    go : (z : Bool) → eqb j ω ≡ z → ThiefOk κ w v g h k (if z then steal_last κ r (with_word t j x) else StealWord r b (with_word t j x) (j + 1))
+    go : (z : Bool) → eqb j ω ≡ z → ThiefOk κ w v g h k (when z then steal_last κ r (with_word t j x) else StealWord r b (with_word t j x) (j + 1))
     go true e =
         last κ refl
         (subst (λ (n : ℕ). GotV κ w v g h k r R (n + 1) (with_word t j x)) (eqb-true j ω e ∙ sym q) more)

@@ -36,7 +36,7 @@ use Rattle.theorems.proofs.SoundRun.{event_in, event_at, events, call_like}
 use Rattle.theorems.proofs.Invariant.{drain_of_lem}
 use Rattle.theorems.proofs.ShapeStep.{not_both}
 use Rattle.model.specs.Listing.{is_refused}
-use Rattle.model.specs.Tests.{if◌then◌else◌}
+use Rattle.model.specs.Tests.{when◌then◌else◌}
 
 -- places
 pub at_map : (T : List Played) (j : ℕ) (P Q : Played → Type 0) → ((s : Played) → P s → Q s) → At T j P → At T j Q
@@ -380,13 +380,13 @@ done_begin ω (ask i) n = refl
 done_begin ω (drop_ask i) n = refl
 done_begin ω drain n = refl
 
-nothing : (δ : Bool) → ◌≡◌ {A = ℕ} 0 (if δ then 0 else 0)
-unfolding if◌then◌else◌
+nothing : (δ : Bool) → ◌≡◌ {A = ℕ} 0 (when δ then 0 else 0)
+unfolding when◌then◌else◌
 nothing true = refl
 nothing false = refl
 
-done_is : (ω : ℕ) (δ : Bool) (y : ℕ) (c : Call) (l : Line) (a : Answer) → finishes_put (event_of ω δ y c l a) ≡ (if δ then 0 else finishes a)
-unfolding if◌then◌else◌
+done_is : (ω : ℕ) (δ : Bool) (y : ℕ) (c : Call) (l : Line) (a : Answer) → finishes_put (event_of ω δ y c l a) ≡ (when δ then 0 else finishes a)
+unfolding when◌then◌else◌
 done_is ω δ y c l Accepted = nothing δ
 done_is ω δ y c l (Numbered n) = done_begin ω c n ∙ nothing δ
 done_is ω δ y c l GoesOn = done_go c l ∙ nothing δ
@@ -398,8 +398,8 @@ done_is ω δ y c l (Full i t) = nothing δ
 done_is ω δ y c l (Grown i) = nothing δ
 done_is ω δ y c l (Refused r) = nothing δ
 
-done_drain : (κ : Kind) (ω : ℕ) (q : Queue) (m : List ℕ) (s : Store) (x : Bool) → finishes_put (cond x quiet (event_of_drain κ ω q m s)) ≡ (if x then 0 else of_put s)
-unfolding if◌then◌else◌
+done_drain : (κ : Kind) (ω : ℕ) (q : Queue) (m : List ℕ) (s : Store) (x : Bool) → finishes_put (cond x quiet (event_of_drain κ ω q m s)) ≡ (when x then 0 else of_put s)
+unfolding when◌then◌else◌
 done_drain κ ω q m s true = refl
 done_drain κ ω q m (StoreWord b s j x) false = refl
 done_drain κ ω q m (StoreNote k) false = refl
@@ -470,8 +470,8 @@ still_is ω y c l (Full i t) = refl
 still_is ω y c l (Grown i) = refl
 still_is ω y c l (Refused r) = refl
 
-drain_one : (κ : Kind) (ω : ℕ) (q : Queue) (m : List ℕ) (s : Store) (x : Bool) → drain_of_lem (cond x quiet (event_of_drain κ ω q m s)) ≡ (if x then 0 else 1)
-unfolding if◌then◌else◌
+drain_one : (κ : Kind) (ω : ℕ) (q : Queue) (m : List ℕ) (s : Store) (x : Bool) → drain_of_lem (cond x quiet (event_of_drain κ ω q m s)) ≡ (when x then 0 else 1)
+unfolding when◌then◌else◌
 drain_one κ ω q m s true = refl
 drain_one κ ω q m (StoreWord b s j x) false = refl
 drain_one κ ω q m (StoreNote k) false = refl

@@ -25,7 +25,7 @@ use Rattle.model.specs.declared.Worker.{Worker}
 use Rattle.model.specs.declared.Anchor.{Anchor}
 use Rattle.model.specs.declared.Task.{Task}
 use Rattle.model.proofs.Tasks.{none_from_lem}
-use Rattle.model.specs.Tests.{if◌then◌else◌, ◌and◌, ◌or◌}
+use Rattle.model.specs.Tests.{when◌then◌else◌, ◌and◌, ◌or◌}
 use Rattle.model.proofs.Tests.{and_both, or_either}
 use Rattle.model.specs.Lines.{size, holds_link}
 use Rattle.model.specs.Stores.{Shared, in_line, taken, words_taken}
@@ -178,11 +178,11 @@ ok_thief κ w ω q τ (TakeFinish r t) u s = absurd s
 
 ok_thieves : (κ : Kind) (w ω : ℕ) (q : Queue) (τ team : ℕ) (l : List Worker) → τ ≤ 65535 → ((k : ℕ) → ThiefShape κ w ω q τ (line_at l (suc k)))
     → ((k : ℕ) → team ≤ k → is_idle (line_at l k) ≡ true) → (n : ℕ) → thieves_ok κ w ω q team l n ≡ true
-unfolding if◌then◌else◌
+unfolding when◌then◌else◌
 ok_thieves κ w ω q τ team l u s ρ zero = refl
 ok_thieves κ w ω q τ team l u s ρ (suc k) = and_both _ _ (ok_thieves κ w ω q τ team l u s ρ k) (pick (ltb (suc k) team) refl)
   where
-    pick : (x : Bool) → ltb (suc k) team ≡ x → (if x then thief_ok κ w ω q (line_at l (suc k)) else is_idle (line_at l (suc k))) ≡ true
+    pick : (x : Bool) → ltb (suc k) team ≡ x → (when x then thief_ok κ w ω q (line_at l (suc k)) else is_idle (line_at l (suc k))) ≡ true
     pick true e = ok_thief κ w ω q τ (line_at l (suc k)) u (s k)
     pick false e = ρ (suc k) (ltb-false (suc k) team e)
 
@@ -298,15 +298,15 @@ pub record Whole (W : World) : Type 0 where
   pub low : ℕ
   pub shape : Shape W.bench.kind (tag_bits W.bench) W.bench.words W.bench.used low W.bench.queue W.store (in_line W.bench.waiting) (line_at W.bench.workers 0) (thieves W.bench.workers)
 
-ok_count : (δ : Bool) (n : ℕ) → n ≤ 8 → (δ ≡ false → n ≡ 0) → leb n (if δ then 8 else 0) ≡ true
-unfolding if◌then◌else◌
+ok_count : (δ : Bool) (n : ℕ) → n ≤ 8 → (δ ≡ false → n ≡ 0) → leb n (when δ then 8 else 0) ≡ true
+unfolding when◌then◌else◌
 ok_count true n h f = le-leb n 8 h
 ok_count false n h f = le-leb n 0 (omega (arith, f refl))
 
 -- a queue that is not linked has a tag
 pub tagged : {W : World} → Whole W → W.bench.queue.linked ≡ false → 0 < tag_bits W.bench
-unfolding if◌then◌else◌
-tagged {W} H e = subst (λ (x : Bool). 0 < (if x then 0 else W.bench.width)) (sym e) H.width.0
+unfolding when◌then◌else◌
+tagged {W} H e = subst (λ (x : Bool). 0 < (when x then 0 else W.bench.width)) (sym e) H.width.0
 
 -- a whole state is within the limits of its queue
 pub own_valid : (W : World) → Whole W → bench_ok W.bench W.bench.queue (owners_view W).queue ≡ true

@@ -9,7 +9,7 @@ use lib.ListN.{length, replicate, length-set}
 use borrow.Author.Tests.{eqb-true, eqb-false, leb-true, leb-false, lt-ltb}
 use Rattle.model.specs.declared.Tally.TheVariants.{Counted}
 use Rattle.model.specs.declared.Room.{Room}
-use Rattle.model.specs.Tests.{if◌then◌else◌, ◌and◌}
+use Rattle.model.specs.Tests.{when◌then◌else◌, ◌and◌}
 use Rattle.model.specs.Lines.{fails_compare}
 use Rattle.model.specs.World.{World, Outcome, line_at}
 use Rattle.model.specs.Calls.{one_more, restarts_of, raised, who_in, who_of, Call, begin, step, drop_link, drain, ask, drop_ask, call_in}
@@ -25,47 +25,47 @@ use Rattle.theorems.proofs.NeverForeign.{effect_answers, never_foreign}
 
 -- THE CEILING. Counting up to it
 up_small : (n : ℕ) → n ≤ 4294967295 → up_to n ≡ n
-unfolding if◌then◌else◌
+unfolding when◌then◌else◌
 up_small n h = go (leb n 4294967295) refl
   where
-    go : (x : Bool) → leb n 4294967295 ≡ x → (if x then n else 4294967295) ≡ n
+    go : (x : Bool) → leb n 4294967295 ≡ x → (when x then n else 4294967295) ≡ n
     go true e = refl
     go false e = absurd (omega (arith, leb-false n 4294967295 e, h))
 
 up_large : (n : ℕ) → 4294967295 ≤ n → up_to n ≡ 4294967295
-unfolding if◌then◌else◌
+unfolding when◌then◌else◌
 up_large n h = go (leb n 4294967295) refl
   where
-    go : (x : Bool) → leb n 4294967295 ≡ x → (if x then n else 4294967295) ≡ 4294967295
+    go : (x : Bool) → leb n 4294967295 ≡ x → (when x then n else 4294967295) ≡ 4294967295
     go true e = omega (arith, leb-true n 4294967295 e, h)
     go false e = refl
 
 more_le : (n : ℕ) → n ≤ 4294967295 → one_more n ≤ 4294967295
-unfolding if◌then◌else◌
+unfolding when◌then◌else◌
 more_le n h = go (eqb n 4294967295) refl
   where
-    go : (x : Bool) → eqb n 4294967295 ≡ x → (if x then n else n + 1) ≤ 4294967295
+    go : (x : Bool) → eqb n 4294967295 ≡ x → (when x then n else n + 1) ≤ 4294967295
     go true e = h
     go false e = omega (arith, eqb-false n 4294967295 e, h)
 
 -- one more now, or at the end
 up_more : (n b : ℕ) → n ≤ 4294967295 → up_to (one_more n + b) ≡ up_to (n + (b + 1))
-unfolding if◌then◌else◌
+unfolding when◌then◌else◌
 up_more n b h = go (eqb n 4294967295) refl
   where
-    go : (x : Bool) → eqb n 4294967295 ≡ x → up_to ((if x then n else n + 1) + b) ≡ up_to (n + (b + 1))
+    go : (x : Bool) → eqb n 4294967295 ≡ x → up_to ((when x then n else n + 1) + b) ≡ up_to (n + (b + 1))
     go true e =
         let z = eqb-true n 4294967295 e in
         up_large (n + b) (omega (arith, z)) ∙ sym (up_large (n + (b + 1)) (omega (arith, z)))
     go false e = ap up_to {x = n + 1 + b} {y = n + (b + 1)} (omega arith)
 
-up_step : (x : Bool) (n b : ℕ) → n ≤ 4294967295 → up_to ((if x then one_more n else n) + b) ≡ up_to (n + (b + (if x then 1 else 0)))
-unfolding if◌then◌else◌
+up_step : (x : Bool) (n b : ℕ) → n ≤ 4294967295 → up_to ((when x then one_more n else n) + b) ≡ up_to (n + (b + (when x then 1 else 0)))
+unfolding when◌then◌else◌
 up_step true n b h = up_more n b h
 up_step false n b h = ap up_to {x = n + b} {y = n + (b + 0)} (omega arith)
 
-step_le : (x : Bool) (n : ℕ) → n ≤ 4294967295 → (if x then one_more n else n) ≤ 4294967295
-unfolding if◌then◌else◌
+step_le : (x : Bool) (n : ℕ) → n ≤ 4294967295 → (when x then one_more n else n) ≤ 4294967295
+unfolding when◌then◌else◌
 step_le true n h = more_le n h
 step_le false n h = h
 
@@ -75,10 +75,10 @@ pub record Counts (k : ℕ) (W : World) (c : Call) (D : Outcome) : Type 0 where
   pub many : length D.world.bench.restarts ≡ length W.bench.restarts
   pub count :
       restarts_of D.world.bench.restarts k
-      ≡ (if beats k W c D.answer then one_more (restarts_of W.bench.restarts k) else restarts_of W.bench.restarts k)
+      ≡ (when beats k W c D.answer then one_more (restarts_of W.bench.restarts k) else restarts_of W.bench.restarts k)
 
-raised_long : (x : Bool) (ns : List ℕ) (i : ℕ) → length (if x then raised ns i else ns) ≡ length ns
-unfolding if◌then◌else◌
+raised_long : (x : Bool) (ns : List ℕ) (i : ℕ) → length (when x then raised ns i else ns) ≡ length ns
+unfolding when◌then◌else◌
 raised_long true ns i = length-set ns i (one_more (restarts_of ns i))
 raised_long false ns i = refl
 
@@ -87,7 +87,7 @@ unfolding ◌and◌
 accepted y b e = subst (λ (z : Bool). (not z and b) ≡ b) (sym e) refl
 
 call_counts : (ρ : Room) (W : World) (c : Call) (k : ℕ) → W.bench.crew ≤ length W.bench.restarts → Counts k W c (call_in ρ W c)
-unfolding if◌then◌else◌ ◌and◌
+unfolding when◌then◌else◌ ◌and◌
 call_counts ρ W (begin i op) k h =
     begin_by (Counts k W (begin i op)) W (λ r l. record { crew = refl; many = refl; count = refl }) ρ i op
     (λ M. record { crew = refl; many = refl; count = refl })
@@ -112,7 +112,7 @@ call_counts ρ W (step i) k h =
       many = raised_long x ns i;
       count =
           counted ns i k x (omega (arith, M.member, h))
-          ∙ sym (ap (λ (y : Bool). if y then one_more (restarts_of ns k) else restarts_of ns k)
+          ∙ sym (ap (λ (y : Bool). when y then one_more (restarts_of ns k) else restarts_of ns k)
           (accepted _ (eqb k i and x) (effect_answers ρ W i)));
     })
 

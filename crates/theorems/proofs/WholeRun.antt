@@ -23,7 +23,7 @@ use Rattle.model.specs.declared.Worker.{Worker}
 use Rattle.model.specs.declared.Operation.{Operation}
 use Rattle.model.specs.declared.Operation.TheVariants.{Put, Take, Steal, Commit}
 use Rattle.model.specs.declared.Payload.{Payload}
-use Rattle.model.specs.Tests.{if◌then◌else◌, ◌and◌, ◌or◌}
+use Rattle.model.specs.Tests.{when◌then◌else◌, ◌and◌, ◌or◌}
 use Rattle.model.specs.Tasks.{task, first_words}
 use Rattle.model.specs.Answers.{entry_of, ends, entry_length, entry_words, logged}
 use Rattle.model.specs.Stores.{in_line, joined, oldest, one_less}
@@ -322,12 +322,12 @@ module _ (ρ : Room) {W : World} (H : Whole W) where
       (H.aside.0, λ e. e)
 
   stepped_aside : Admits ρ W.bench W.store → (i : ℕ) → i < W.bench.crew → AsideAfter i (line_at (step_to ρ W i).world.bench.workers 0) (step_to ρ W i).world.bench.aside
-  unfolding if◌then◌else◌
+  unfolding when◌then◌else◌
   stepped_aside R i l = go i l (effect_of ρ W i).claims refl
     where
       go : (i : ℕ) → i < W.bench.crew → (x : Bool) → (effect_of ρ W i).claims ≡ x → AsideAfter i (line_at (step_to ρ W i).world.bench.workers 0) (step_to ρ W i).world.bench.aside
       go i l false f =
-          subst (λ (x : Bool). AsideAfter i (line_at (step_to ρ W i).world.bench.workers 0) (if x then 0 else W.bench.aside)) (sym f)
+          subst (λ (x : Bool). AsideAfter i (line_at (step_to ρ W i).world.bench.workers 0) (when x then 0 else W.bench.aside)) (sym f)
           (aside_move W.bench.words (laid (in_line W.bench.waiting) W.bench.queue) (laid (in_line (step_to ρ W i).world.bench.waiting) (step_to ρ W i).world.bench.queue) (line_at W.bench.workers 0) (line_at (step_to ρ W i).world.bench.workers 0) W.bench.aside (ap (λ (x : Bool). arrays_after ρ x W.bench.queue) f) same
           (λ e. at_rest _ _ _ (line_shape R i l).1.own.claims ((owner_next i l f).1 e) ∙ same ∙ sym (at_rest _ _ _ H.shape.own.claims e))
           (owner_next i l f).0 (owner_next i l f).1 H.aside)
@@ -335,7 +335,7 @@ module _ (ρ : Room) {W : World} (H : Whole W) where
           same : (queue_after ρ (effect_of ρ W i).claims W.bench.queue).claimed ≡ W.bench.queue.claimed
           same = ap (λ (x : Bool). (queue_after ρ x W.bench.queue).claimed) f
       go zero l true f =
-          subst (λ (x : Bool). AsideAfter 0 (line_at (step_to ρ W 0).world.bench.workers 0) (if x then 0 else W.bench.aside)) (sym f)
+          subst (λ (x : Bool). AsideAfter 0 (line_at (step_to ρ W 0).world.bench.workers 0) (when x then 0 else W.bench.aside)) (sym f)
           (none_aside W.bench.words (laid (in_line (step_to ρ W 0).world.bench.waiting) (step_to ρ W 0).world.bench.queue) (line_at (step_to ρ W 0).world.bench.workers 0) (ap is_commit1 (line_same W.bench.workers 0 _ (in_crew H 0 l)) ∙ (next_line 0).0))
       go (suc k) l true f = absurd (true≢false (sym f ∙ thief_calm k))
 
@@ -389,7 +389,7 @@ module _ (ρ : Room) {W : World} (H : Whole W) where
   -- the log's length stays within the slice
   written_in : (i : ℕ) (x y : Bool) → ends (effect_of ρ W i).answer ≡ x → log_full W.bench.words W.log W.bench.written ≡ y → x and y ≡ false
       → (step_to ρ W i).world.bench.written ≤ length (logged W.bench.words W.log W.bench.written (effect_of ρ W i).answer)
-  unfolding ◌and◌ if◌then◌else◌
+  unfolding ◌and◌ when◌then◌else◌
   written_in i true true ex ey nb = absurd (let z : ◌≡◌ {A = ℕ} 0 1 = cc in omega arith)
   written_in i true false ex ey nb =
       rw ex

@@ -6,7 +6,7 @@ use Rattle.model.specs.World.{World}
 use Rattle.model.specs.Limits.{valid_of}
 use Rattle.model.specs.Calls.{Call}
 use Rattle.model.specs.Run.{Played, played, after}
-use Rattle.model.specs.Tests.{if◌then◌else◌}
+use Rattle.model.specs.Tests.{when◌then◌else◌}
 use Rattle.theorems.specs.Demand3.{At, finishes, drains, waits, puts, FromFresh}
 
 -- No state reached from fresh is refused 12. Here there is no premise
@@ -21,7 +21,7 @@ NoneForeign = FromFresh (λ W. (cs : List Call) → NeverForeign W cs)
 -- puts. Here there is no premise either. The puts finished in a list and drained by its end
 abbrev pub landed : List Played → ℕ
 landed [] = 0
-landed (s ∷ T) = landed T + (if leb (waits s) (drains T) then finishes s.answer else 0)
+landed (s ∷ T) = landed T + (when leb (waits s) (drains T) then finishes s.answer else 0)
 
 abbrev pub SamePuts : Type 0
 SamePuts = FromFresh (λ W. (cs : List Call) → puts (played W cs) ≡ landed (played W cs))

@@ -16,7 +16,7 @@ use Rattle.model.specs.declared.Operation.TheVariants.{Put}
 use Rattle.model.specs.declared.Refusal.{Refusal}
 use Rattle.model.specs.declared.Answer.{Answer}
 use Rattle.model.specs.declared.Answer.TheVariants.{Accepted, Numbered, GoesOn, Finished, HandedOut, Empty, Full, Grown, Refused}
-use Rattle.model.specs.Tests.{if◌then◌else◌}
+use Rattle.model.specs.Tests.{when◌then◌else◌}
 use Rattle.model.specs.Tasks.{task, first_words}
 use Rattle.model.specs.Stores.{oldest}
 use Rattle.model.specs.World.{World, tag_bits, line_at}
@@ -92,7 +92,7 @@ drains_as (step i) a = 0
 drains_as (drop_link i) a = 0
 drains_as (ask i) a = 0
 drains_as (drop_ask i) a = 0
-drains_as drain a = if is_refused a then 0 else 1
+drains_as drain a = when is_refused a then 0 else 1
 
 abbrev pub drains : List Played → ℕ
 drains [] = 0
@@ -101,7 +101,7 @@ drains (s ∷ T) = drains T + drains_as s.call s.answer
 -- the step s finishes a put, and its anchor store (FIFO: tail store) joins the end of the line: so many wait then, and so many
 -- drains later it is in memory; where stores are not delayed it is there at once
 abbrev pub waits : Played → ℕ
-waits s = if s.before.bench.delayed then s.before.bench.waiting.count + 1 else 0
+waits s = when s.before.bench.delayed then s.before.bench.waiting.count + 1 else 0
 
 -- the put that was finished at place k was drained by place l
 abbrev pub DrainedBy : List Played → ℕ → ℕ → Type 0
@@ -143,12 +143,12 @@ of_put (StoreTail i) = 1
 
 -- how many puts a call brings to memory: those it finishes; where stores are delayed, those whose anchor store it drains
 abbrev pub arrives_as : World → Call → Answer → ℕ
-arrives_as W (begin i op) a = if W.bench.delayed then 0 else finishes a
-arrives_as W (step i) a = if W.bench.delayed then 0 else finishes a
-arrives_as W (drop_link i) a = if W.bench.delayed then 0 else finishes a
-arrives_as W (ask i) a = if W.bench.delayed then 0 else finishes a
-arrives_as W (drop_ask i) a = if W.bench.delayed then 0 else finishes a
-arrives_as W drain a = if is_refused a then 0 else of_put (oldest W.bench.waiting)
+arrives_as W (begin i op) a = when W.bench.delayed then 0 else finishes a
+arrives_as W (step i) a = when W.bench.delayed then 0 else finishes a
+arrives_as W (drop_link i) a = when W.bench.delayed then 0 else finishes a
+arrives_as W (ask i) a = when W.bench.delayed then 0 else finishes a
+arrives_as W (drop_ask i) a = when W.bench.delayed then 0 else finishes a
+arrives_as W drain a = when is_refused a then 0 else of_put (oldest W.bench.waiting)
 
 -- how many puts a part of the list brings to memory
 abbrev pub puts : List Played → ℕ

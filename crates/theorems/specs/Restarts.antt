@@ -8,7 +8,7 @@ use Rattle.model.specs.declared.Refusal.{Refusal}
 use Rattle.model.specs.declared.Answer.{Answer}
 use Rattle.model.specs.declared.Answer.TheVariants.{Refused}
 use Rattle.model.specs.declared.Tally.TheVariants.{Counted}
-use Rattle.model.specs.Tests.{if◌then◌else◌, ◌and◌}
+use Rattle.model.specs.Tests.{when◌then◌else◌, ◌and◌}
 use Rattle.model.specs.Lines.{line_step, fails_compare}
 use Rattle.model.specs.World.{World, line_at, is_steal1}
 use Rattle.model.specs.Calls.{one_more, restarts_of, step_of, who_of, Call, begin, step, drop_link, drain, ask, drop_ask}
@@ -22,7 +22,7 @@ abbrev pub RestartsAreFailedCompares : Type 0
 RestartsAreFailedCompares =
     (W : World) (i k : ℕ) → W.bench.crew ≤ length W.bench.restarts → ((r : Refusal) → (step_of W i).answer ≡ Refused r → ⊥)
     → restarts_of (step_of W i).world.bench.restarts k
-    ≡ (if eqb k i and fails_compare W.bench.kind W.bench.queue i (line_at W.bench.workers i)
+    ≡ (when eqb k i and fails_compare W.bench.kind W.bench.queue i (line_at W.bench.workers i)
     then one_more (restarts_of W.bench.restarts k)
     else restarts_of W.bench.restarts k)
 
@@ -39,11 +39,11 @@ beats k W (drop_ask i) a = false
 -- how often worker k was beaten in a list
 abbrev pub beaten : ℕ → List Played → ℕ
 beaten k [] = 0
-beaten k (s ∷ T) = beaten k T + (if beats k s.before s.call s.answer then 1 else 0)
+beaten k (s ∷ T) = beaten k T + (when beats k s.before s.call s.answer then 1 else 0)
 
 -- a count stays at its ceiling
 abbrev pub up_to : ℕ → ℕ
-up_to n = if leb n 4294967295 then n else 4294967295
+up_to n = when leb n 4294967295 then n else 4294967295
 
 -- after every list from fresh, of a worker of the crew, `who` answers how often it was beaten
 abbrev pub WhoCounts : Type 0

@@ -11,7 +11,7 @@ use borrow.Author.Tests.{lt-ltb, le-ltb, eqb-true, eqb-false}
 use Rattle.model.specs.declared.Worker.{Worker}
 use Rattle.model.specs.declared.Line.{Line}
 use Rattle.model.specs.declared.Operation.{Operation}
-use Rattle.model.specs.Tests.{if◌then◌else◌, ◌or◌}
+use Rattle.model.specs.Tests.{when◌then◌else◌, ◌or◌}
 use Rattle.model.specs.World.{resting, line_at, is_idle}
 use Rattle.orders.specs.Orders.{Play, left_of, has_some}
 use Rattle.orders.proofs.Spends.{busy, busy_is, idle_is}
@@ -34,16 +34,16 @@ fits_counts S t f i =
 
 -- one off, if the operation ended
 abbrev pub told : List ℕ → ℕ → Line → List ℕ
-told t i y = if is_idle y then set t i (get_or t i 0 - 1) else t
+told t i y = when is_idle y then set t i (get_or t i 0 - 1) else t
 
 told_same : (t : List ℕ) (i n : ℕ) (y : Line) (b : Bool) → is_idle y ≡ b → i < length t → get_or t i 0 ≡ n + 1
-    → get_or (if b then set t i (get_or t i 0 - 1) else t) i 0 ≡ n + busy y
-unfolding if◌then◌else◌
+    → get_or (when b then set t i (get_or t i 0 - 1) else t) i 0 ≡ n + busy y
+unfolding when◌then◌else◌
 told_same t i n y true e h f = omega (arith, f, idle_is y e, get_or-set_same t i (get_or t i 0 - 1) 0 h)
 told_same t i n y false e h f = omega (arith, f, busy_is y e)
 
-told_other : (t : List ℕ) (i j : ℕ) (b : Bool) → (j ≡ i → ⊥) → get_or (if b then set t i (get_or t i 0 - 1) else t) j 0 ≡ get_or t j 0
-unfolding if◌then◌else◌
+told_other : (t : List ℕ) (i j : ℕ) (b : Bool) → (j ≡ i → ⊥) → get_or (when b then set t i (get_or t i 0 - 1) else t) j 0 ≡ get_or t j 0
+unfolding when◌then◌else◌
 told_other t i j true h = get_or-set_other t i j (get_or t i 0 - 1) 0 h
 told_other t i j false h = refl
 

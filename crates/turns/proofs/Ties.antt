@@ -6,7 +6,7 @@ use native.Mathlib.Omega.{arith}
 use lib.Dec.{ltb}
 use lib.ListN.{length, take, set, get_or}
 use lib.Seq.{take-set-lt, take-take, length-take-le}
-use Rattle.model.specs.Tests.{if◌then◌else◌}
+use Rattle.model.specs.Tests.{when◌then◌else◌}
 use Rattle.orders.specs.Orders.{Play, may_step, everyone}
 use Rattle.orders.specs.Next.{lowest, above, next_of}
 use Rattle.orders.proofs.Turning.{given_by, Higher, HigherAt, next_by}
@@ -26,7 +26,7 @@ unfolding from
 everyone_from = refl
 
 above_from : (i : ℕ) → i < 8 → above i everyone ≡ from (i + 1) (8 - (i + 1))
-unfolding above from if◌then◌else◌
+unfolding above from when◌then◌else◌
 above_from zero h = refl
 above_from (suc zero) h = refl
 above_from (suc (suc zero)) h = refl

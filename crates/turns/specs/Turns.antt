@@ -1,6 +1,6 @@
 -- Choosing the next worker, and the next order, on numbers: how many operations each worker has open or left.
 use Rattle.std.specs.Prelude.{◌≡◌, List, [], ◌∷◌, ℕ, zero, suc, ◌-◌, ◌≤◌, ◌<◌, ltb, get_or, set}
-use Rattle.model.specs.Tests.{if◌then◌else◌}
+use Rattle.model.specs.Tests.{when◌then◌else◌}
 
 -- the workers from m on, n of them; those up to 7
 unfoldable pub from : ℕ → ℕ → List ℕ
@@ -10,7 +10,7 @@ from m (suc n) = m ∷ from (suc m) n
 -- the first of these that has something open or left; 8 if none has
 unfoldable pub first_busy : List ℕ → List ℕ → ℕ
 first_busy t [] = 8
-first_busy t (i ∷ is) = if ltb 0 (get_or t i 0) then i else first_busy t is
+first_busy t (i ∷ is) = when ltb 0 (get_or t i 0) then i else first_busy t is
 
 -- an order of n steps, with the next higher worker that might have made each step (8: none), becomes the start of the next order:
 -- r steps, the last of which is another one; 0 if there is none

@@ -6,7 +6,7 @@ use lib.ListN.{replicate}
 use Rattle.model.specs.declared.Refusal.TheVariants.{NoSpace, AskStands}
 use Rattle.model.specs.declared.Answer.{Answer}
 use Rattle.model.specs.declared.Answer.TheVariants.{Accepted, Refused}
-use Rattle.model.specs.Tests.{if◌then◌else◌, ◌and◌, ◌or◌}
+use Rattle.model.specs.Tests.{when◌then◌else◌, ◌and◌, ◌or◌}
 use Rattle.model.specs.Memory.{zeros, word_at, set_word, offset_at, length_at, size_at, words_to}
 use Rattle.model.specs.Stores.{landed_all}
 use Rattle.model.specs.Lines.{line_step}
@@ -30,14 +30,14 @@ alone n T = answers_of (played (fresh_of (setup 1 1 1 1 1) (replicate n 9) []).w
 
 -- quotas of 6 and 6 do not fit: the ask is answered 20 in company, and alone it is accepted
 pub cramped : (answers_of (together 6 6) ≡ Refused NoSpace ∷ Accepted ∷ []) × (quotas_of (6 ∷ 6 ∷ []) 2 ≡ 12)
-unfolding quotas_of part ground_after make_of on_of sound_yard all_below total_of words_to line_step landed_all zeros word_at set_word offset_at length_at size_at if◌then◌else◌ ◌and◌ ◌or◌
+unfolding quotas_of part ground_after make_of on_of sound_yard all_below total_of words_to line_step landed_all zeros word_at set_word offset_at length_at size_at when◌then◌else◌ ◌and◌ ◌or◌
 cramped = (refl, refl)
 
 pub cramped_alone : alone 6 (together 6 6) ≡ Accepted ∷ Refused AskStands ∷ []
-unfolding played fresh_of ask_of valid_of part ground_after make_of on_of sound_yard all_below total_of words_to line_step landed_all zeros word_at set_word offset_at length_at size_at if◌then◌else◌ ◌and◌ ◌or◌
+unfolding played fresh_of ask_of valid_of part ground_after make_of on_of sound_yard all_below total_of words_to line_step landed_all zeros word_at set_word offset_at length_at size_at when◌then◌else◌ ◌and◌ ◌or◌
 cramped_alone = refl
 
 -- quotas of 6 and 2 fit: queue 1 is refused, and queue 0 is answered as alone
 pub fitting : (answers_of (together 6 2) ≡ Accepted ∷ Refused AskStands ∷ []) × (alone 6 (together 6 2) ≡ answers_of (together 6 2)) × (quotas_of (6 ∷ 2 ∷ []) 2 ≡ 8)
-unfolding quotas_of played fresh_of ask_of valid_of part ground_after make_of on_of sound_yard all_below total_of words_to line_step landed_all zeros word_at set_word offset_at length_at size_at if◌then◌else◌ ◌and◌ ◌or◌
+unfolding quotas_of played fresh_of ask_of valid_of part ground_after make_of on_of sound_yard all_below total_of words_to line_step landed_all zeros word_at set_word offset_at length_at size_at when◌then◌else◌ ◌and◌ ◌or◌
 fitting = (refl, refl, refl)

@@ -18,7 +18,7 @@ use Rattle.model.specs.declared.Refusal.{Refusal}
 use Rattle.model.specs.declared.Refusal.TheVariants.{UnknownQueue, TagWidth, ArraySize, Crew, PayloadWords, ShortStore, ShortQuota, NoSuchQueue}
 use Rattle.model.specs.declared.Answer.TheVariants.{Accepted}
 use Rattle.model.specs.Answers.{number_of}
-use Rattle.model.specs.Tests.{least, if◌then◌else◌, ◌and◌}
+use Rattle.model.specs.Tests.{least, when◌then◌else◌, ◌and◌}
 use Rattle.model.proofs.Tests.{and_both, or_either, if_true}
 use Rattle.model.specs.Memory.{zeros, offset_at, length_at, size_at, end_at, words_to, usable}
 use Rattle.model.specs.Stores.{Shared, taken, words_taken, next_length, claiming, in_line}
@@ -50,8 +50,8 @@ pub record Tended (G : Ground) : Type 0 where
   pub fits : claimed_words G.yard + aside_words G.yard ≤ usable G.store
 
 -- TESTS
-pub if_pick : {A : Type 0} (P : A → Type 0) (x : Bool) (a b : A) → (x ≡ true → P a) → (x ≡ false → P b) → P (if x then a else b)
-unfolding if◌then◌else◌
+pub if_pick : {A : Type 0} (P : A → Type 0) (x : Bool) (a b : A) → (x ≡ true → P a) → (x ≡ false → P b) → P (when x then a else b)
+unfolding when◌then◌else◌
 if_pick P true a b f g = f refl
 if_pick P false a b f g = g refl
 
@@ -83,8 +83,8 @@ pub sound : (G : Ground) → Tended G → sound_yard G ≡ true
 unfolding sound_yard
 sound G T = and_both _ _ (le-leb _ _ T.made) (and_both _ _ (all_true _ G.yard.made (place_true G T)) (le-leb _ _ T.fits))
 
-lent_either : (x y : Bool) → (x ≡ true → y ≡ true) → (if x then y else true) ≡ true
-unfolding if◌then◌else◌
+lent_either : (x y : Bool) → (x ≡ true → y ≡ true) → (when x then y else true) ≡ true
+unfolding when◌then◌else◌
 lent_either true y f = f refl
 lent_either false y f = refl
 

@@ -19,7 +19,7 @@ use Rattle.model.specs.declared.Region.{Region}
 use Rattle.model.specs.declared.Store.{Store}
 use Rattle.model.specs.declared.Store.TheVariants.{StoreWord}
 use Rattle.model.specs.declared.Answer.TheVariants.{GoesOn, Full}
-use Rattle.model.specs.Tests.{if◌then◌else◌, ◌and◌}
+use Rattle.model.specs.Tests.{when◌then◌else◌, ◌and◌}
 use Rattle.model.specs.Tasks.{with_word, word_in}
 use Rattle.model.specs.Memory.{word_at, offset_at, length_at, size_at}
 use Rattle.model.specs.Figures.{slot, put_index, take_index, steal_index, is_full, note}
@@ -66,7 +66,7 @@ module _ {ω : ℕ} {q : Queue} {m : List ℕ} {d : List Region} {m' : List ℕ}
       ∙ ap (λ (z : ℕ). leb (2 * size ω q) 1024 and leb (next_length q) z) e
 
   grows_both : (ρ ρ' : Room) (i : ℕ) (g : Growth) → ρ'.left ≡ ρ.left → grows ρ' ω (redirect q d) i g ≡ grows ρ ω q i g
-  grows_both ρ ρ' i g e = ap (λ (x : Bool). if x then record { claims = true; stores = []; line = Note g; answer = GoesOn } else eff [] Idle (Full i (task_for g))) (fits_both ρ ρ' e)
+  grows_both ρ ρ' i g e = ap (λ (x : Bool). when x then record { claims = true; stores = []; line = Note g; answer = GoesOn } else eff [] Idle (Full i (task_for g))) (fits_both ρ ρ' e)
 
   -- A THIEF'S LINE
   pub thief_same : (ρ ρ' : Room) (κ : Kind) (w i τ : ℕ) (l : Line) → Arrays ω q m → ThiefShape κ w ω q τ l → line_step ρ' κ w ω (redirect q d) m' i l ≡ line_step ρ κ w ω q m i l
@@ -107,7 +107,7 @@ module _ {ω : ℕ} {q : Queue} {m : List ℕ} {d : List Region} {m' : List ℕ}
   own_same ρ ρ' κ w used low φ Idle e S = refl
   own_same ρ ρ' κ w used low φ (PutRead t) e S = refl
   own_same ρ ρ' κ w used low φ (PutTail t h) e S = refl
-  own_same ρ ρ' κ w used low φ (PutTest t r) e S = ap (λ (z : ℕ). goes (if is_full κ z r then Claim (ForPut t) else PutWord t r 0)) (sizes (q.published - 1))
+  own_same ρ ρ' κ w used low φ (PutTest t r) e S = ap (λ (z : ℕ). goes (when is_full κ z r then Claim (ForPut t) else PutWord t r 0)) (sizes (q.published - 1))
   own_same ρ ρ' κ w used low φ (PutWord t r j) e S = ap (λ (z : ℕ). eff (StoreWord (q.published - 1) (slot κ z (put_index κ r)) j (word_in t j) ∷ []) (put_on ω t r j) GoesOn) (sizes (q.published - 1))
   own_same ρ ρ' κ w used low φ (PutFinish t r) e S = refl
   own_same ρ ρ' κ w used low φ (Claim g) e S = grows_both ρ ρ' 0 g e

@@ -10,7 +10,7 @@ use Rattle.model.specs.declared.Room.{Room}
 use Rattle.model.specs.declared.Setup.{Setup}
 use Rattle.model.specs.declared.Refusal.{Refusal}
 use Rattle.model.specs.declared.Answer.TheVariants.{Accepted, Refused}
-use Rattle.model.specs.Tests.{if◌then◌else◌}
+use Rattle.model.specs.Tests.{when◌then◌else◌}
 use Rattle.model.proofs.Tests.{if_true, if_false}
 use Rattle.model.specs.World.{World}
 use Rattle.model.specs.Calls.{Call}
@@ -87,7 +87,7 @@ module _ (E : Room → World → Type 0) (q : ℕ) (F : Ground → Type 0)
       e = gives G T h (back G T h (on r c) (all_along cs (on_of G r c).the_ground (yields_tended T (on r c)) (on_made T q r c h) f))
 
       go : (r ≡ q) ⊎ (r ≢ q) → Accompanied E (world_of (on_of G r c).the_ground q) rest end
-          → Accompanied E (world_of G q) (if eqb r q then record { before = world_of G q; call = c; answer = (on_of G r c).answer } ∷ rest else rest) end
+          → Accompanied E (world_of G q) (when eqb r q then record { before = world_of G q; call = c; answer = (on_of G r c).answer } ∷ rest else rest) end
       go (inl is) A =
           subst (λ (T : List Played). Accompanied E (world_of G q) T end) (sym (if_true _ (eq-eqb r q is)))
           (subst (λ (x : ℕ). Accompanied E (world_of (on_of G x c).the_ground q) rest end → Accompanied E (world_of G q) (record { before = world_of G q; call = c; answer = (on_of G x c).answer } ∷ rest) end)

@@ -41,7 +41,7 @@ use Rattle.model.specs.declared.Operation.{Operation}
 use Rattle.model.specs.declared.Refusal.{Refusal}
 use Rattle.model.specs.declared.Refusal.TheVariants.{NoSuchWorker, BusyWorker, WrongHand, NumbersSpent, NoSpace, AskStands, NoAsk}
 use Rattle.model.specs.declared.Answer.TheVariants.{Accepted}
-use Rattle.model.specs.Tests.{if◌then◌else◌, unless◌then◌else◌}
+use Rattle.model.specs.Tests.{when◌then◌else◌, unless◌then◌else◌}
 use Rattle.model.specs.Memory.{zeros, length_at, size_at}
 use Rattle.model.specs.Stores.{Shared, shared, next_length, claiming, in_line, oldest}
 use Rattle.model.specs.Lines.{Effect, fits, holds_link, fails_compare}
@@ -86,8 +86,8 @@ abbrev pub Reflects : Outcome → Outcome → Type 0
 Reflects D D' =
     (d : List Region) × (m : List ℕ) × Like D.world.bench.words D.world.bench.queue D.world.store d m × (D' ≡ record { world = lonely D.world d m; answer = D.answer })
 
-reflects_if : (x : Bool) (D F D' F' : Outcome) → (x ≡ true → Reflects D D') → (x ≡ false → Reflects F F') → Reflects (if x then D else F) (if x then D' else F')
-unfolding if◌then◌else◌
+reflects_if : (x : Bool) (D F D' F' : Outcome) → (x ≡ true → Reflects D D') → (x ≡ false → Reflects F F') → Reflects (when x then D else F) (when x then D' else F')
+unfolding when◌then◌else◌
 reflects_if true D F D' F' a b = a refl
 reflects_if false D F D' F' a b = b refl
 
@@ -259,7 +259,7 @@ module _ (W : World) (d : List Region) (m : List ℕ) (H : Whole W) (K : Whole (
   to_both i =
       ap (λ (F : Effect). record { world = world_with U i F (shared (queue_then ρ' U i F) (store_then ρ' U i F)); answer = F.answer }) (effect_both i)
       ∙ ap (λ (p : Queue). record { world = world_with U i (E i) (shared (laid (landing W.bench.delayed i (E i).stores) p) (m₁ i)); answer = (E i).answer }) (claimed_both ρ ρ' (E i).claims q d)
-      ∙ ap (λ (x : Bool). record { world = with_restarts (lonely (step_to ρ W i).world (d₁ i) (m₁ i)) (if x then raised W.bench.restarts i else W.bench.restarts); answer = (E i).answer })
+      ∙ ap (λ (x : Bool). record { world = with_restarts (lonely (step_to ρ W i).world (d₁ i) (m₁ i)) (when x then raised W.bench.restarts i else W.bench.restarts); answer = (E i).answer })
       (fails_both κ q d i (line_at W.bench.workers i))
 
   stepped_reflects : (i : ℕ) → Reflects (stepped ρ W i (next_effect ρ W i)) (stepped ρ' U i (next_effect ρ' U i))

@@ -19,7 +19,7 @@ use Rattle.model.specs.declared.Region.{Region}
 use Rattle.model.specs.declared.Anchor.{Anchor}
 use Rattle.model.specs.declared.Store.{Store}
 use Rattle.model.specs.declared.Store.TheVariants.{StoreWord, StoreNote, StorePut, StoreOut, StoreHead, StoreTail}
-use Rattle.model.specs.Tests.{if◌then◌else◌}
+use Rattle.model.specs.Tests.{when◌then◌else◌}
 use Rattle.model.specs.Memory.{zeros, offset_at, length_at, size_at, end_at, words_to}
 use Rattle.model.specs.Figures.{is_empty, steal_store}
 use Rattle.model.specs.Stores.{words_taken, next_length, claiming, in_line, oldest}
@@ -120,8 +120,8 @@ claim_in ρ true q m R f =
 claim_in ρ false q m R f = same _ _ m
 
 -- a thief writes no word
-either : (ω : ℕ) (l : List Region) (m : List ℕ) (x : Bool) (E E' : Effect) → words ω l E.stores m ≡ m → words ω l E'.stores m ≡ m → words ω l (if x then E else E').stores m ≡ m
-unfolding if◌then◌else◌
+either : (ω : ℕ) (l : List Region) (m : List ℕ) (x : Bool) (E E' : Effect) → words ω l E.stores m ≡ m → words ω l E'.stores m ≡ m → words ω l (when x then E else E').stores m ≡ m
+unfolding when◌then◌else◌
 either ω l m true E E' p q = p
 either ω l m false E E' p q = q
 
@@ -155,8 +155,8 @@ thief_words ρ κ w ω q m i τ (TakeTest r) s = absurd s
 thief_words ρ κ w ω q m i τ (TakeWord r t j) s = absurd s
 thief_words ρ κ w ω q m i τ (TakeFinish r t) s = absurd s
 
-calm_keeps : (n m : ℕ) → n ≤ m → (if false then 0 else n) ≤ m
-unfolding if◌then◌else◌
+calm_keeps : (n m : ℕ) → n ≤ m → (when false then 0 else n) ≤ m
+unfolding when◌then◌else◌
 calm_keeps n m h = h
 
 -- a call of one queue: what became of its directory (X1 claimed an array, or not) and of the store
@@ -171,8 +171,8 @@ pub record Changes (ρ : Room) (W : World) (D : Outcome) : Type 0 where
 
 -- a step that claims takes the words set aside
 step_fits : (ρ : Room) (x : Bool) (q : Queue) (n : ℕ) → n ≤ ρ.left → (x ≡ true → (q.claimed < length q.arrays) × (next_length q ≤ ρ.left))
-    → words_to (arrays_after ρ x q) (claimed_after x q) + (if x then 0 else n) ≤ words_taken q + ρ.left
-unfolding if◌then◌else◌
+    → words_to (arrays_after ρ x q) (claimed_after x q) + (when x then 0 else n) ≤ words_taken q + ρ.left
+unfolding when◌then◌else◌
 step_fits ρ true q n h f = let (g, l) = f refl in let A = added ρ q g in omega (arith, A.words_is, l)
 step_fits ρ false q n h f = omega (arith, h)
 
@@ -215,7 +215,7 @@ module _ {W : World} (H : Whole W) (ρ : Room) (R : Admits ρ W.bench W.store) w
   step_changes (suc k) =
       still (step_to ρ W (suc k)) (ap (λ (x : Bool). arrays_after ρ x W.bench.queue) (thief_calm ρ H k)) (ap (λ (x : Bool). claimed_after x W.bench.queue) (thief_calm ρ H k))
       (subst (Untouched W.bench.queue.arrays W.bench.queue.claimed W.store) (sym (thief_stores k)) (same _ _ W.store))
-      (subst (λ (x : Bool). (if x then 0 else W.bench.aside) ≤ ρ.left) (sym (thief_calm ρ H k)) (calm_keeps W.bench.aside ρ.left R.aside))
+      (subst (λ (x : Bool). (when x then 0 else W.bench.aside) ≤ ρ.left) (sym (thief_calm ρ H k)) (calm_keeps W.bench.aside ρ.left R.aside))
 
   -- the oldest store that waits
   pub oldest_path : 0 < W.bench.waiting.count

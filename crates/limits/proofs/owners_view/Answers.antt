@@ -2,7 +2,7 @@ use Rattle.std.proofs.lemmas.Bool.{not_from_true, not_from_false}
 use mathlib.Core.Path.{refl}
 use native.Mathlib.Omega.{arith}
 use borrow.Author.Tests.{le-leb}
-use Rattle.model.specs.Tests.{if◌then◌else◌}
+use Rattle.model.specs.Tests.{when◌then◌else◌}
 use Rattle.model.proofs.Tests.{passed, refused, and_both}
 use Rattle.limits.proofs.Views.{unheld_many, unheld_note, none_told, told, untold}
 use Rattle.limits.proofs.Waits.{most_eight}
@@ -30,5 +30,5 @@ pub returns : goal.returns
 returns c = let a = c.args.bench in
     let p =
     told a c.seen-seen.result refl
-    (and_both _ _ (le-leb a.waiting.count (if a.delayed then 8 else 0) (omega (arith, c.most_waiting.ensures, c.if-most_waiting-count.false))) (passed c.notes_ok.ensures (not_from_true _ c.if-not-notes_ok.false)))
+    (and_both _ _ (le-leb a.waiting.count (when a.delayed then 8 else 0) (omega (arith, c.most_waiting.ensures, c.if-most_waiting-count.false))) (passed c.notes_ok.ensures (not_from_true _ c.if-not-notes_ok.false)))
     (λ m. c.seen-seen.ensures a.words m) in record { fine_value = p.0; seen = p.1 }

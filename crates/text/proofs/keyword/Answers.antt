@@ -1,21 +1,21 @@
 use mathlib.Core.Path.{sym, ◌∙◌}
-use Rattle.model.specs.Tests.{if◌then◌else◌}
+use Rattle.model.specs.Tests.{when◌then◌else◌}
 use Rattle.text.specs.Commands.{key_of}
 use Rattle.text.proofs.keyword.Goals as goal
 
 pub returns-then-same : goal.returns-then-same
-unfolding key_of if◌then◌else◌
+unfolding key_of when◌then◌else◌
 returns-then-same c = sym (rw (sym c.same.ensures ∙ c.if-same.true))
 
 pub returns-then-same-2 : goal.returns-then-same-2
-unfolding key_of if◌then◌else◌
+unfolding key_of when◌then◌else◌
 returns-then-same-2 c = sym (rw (
   sym c.same.ensures ∙ c.if-same.false,
   sym c.same-2.ensures ∙ c.if-same-2.true,
 ))
 
 pub returns-then-same-3 : goal.returns-then-same-3
-unfolding key_of if◌then◌else◌
+unfolding key_of when◌then◌else◌
 returns-then-same-3 c = sym (rw (
   sym c.same.ensures ∙ c.if-same.false,
   sym c.same-2.ensures ∙ c.if-same-2.false,
@@ -23,7 +23,7 @@ returns-then-same-3 c = sym (rw (
 ))
 
 pub returns-then-same-4 : goal.returns-then-same-4
-unfolding key_of if◌then◌else◌
+unfolding key_of when◌then◌else◌
 returns-then-same-4 c = sym (rw (
   sym c.same.ensures ∙ c.if-same.false,
   sym c.same-2.ensures ∙ c.if-same-2.false,
@@ -32,7 +32,7 @@ returns-then-same-4 c = sym (rw (
 ))
 
 pub returns-then-same-5 : goal.returns-then-same-5
-unfolding key_of if◌then◌else◌
+unfolding key_of when◌then◌else◌
 returns-then-same-5 c = sym (rw (
   sym c.same.ensures ∙ c.if-same.false,
   sym c.same-2.ensures ∙ c.if-same-2.false,
@@ -42,7 +42,7 @@ returns-then-same-5 c = sym (rw (
 ))
 
 pub returns-then-same-6 : goal.returns-then-same-6
-unfolding key_of if◌then◌else◌
+unfolding key_of when◌then◌else◌
 returns-then-same-6 c = sym (rw (
   sym c.same.ensures ∙ c.if-same.false,
   sym c.same-2.ensures ∙ c.if-same-2.false,
@@ -53,7 +53,7 @@ returns-then-same-6 c = sym (rw (
 ))
 
 pub returns-then-same-7 : goal.returns-then-same-7
-unfolding key_of if◌then◌else◌
+unfolding key_of when◌then◌else◌
 returns-then-same-7 c = sym (rw (
   sym c.same.ensures ∙ c.if-same.false,
   sym c.same-2.ensures ∙ c.if-same-2.false,
@@ -65,7 +65,7 @@ returns-then-same-7 c = sym (rw (
 ))
 
 pub returns : goal.returns
-unfolding key_of if◌then◌else◌
+unfolding key_of when◌then◌else◌
 returns c = sym (rw (
   sym c.same.ensures ∙ c.if-same.false,
   sym c.same-2.ensures ∙ c.if-same-2.false,
