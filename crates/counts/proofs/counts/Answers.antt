@@ -1,0 +1,19 @@
+use mathlib.Core.Path.{◌≡◌, sym, ap, ◌∙◌}
+use Prim.Native.Nat.{ℕ}
+use Rattle.model.specs.declared.Counts.{Counts}
+use Rattle.model.specs.World.{World}
+use Rattle.model.specs.Stores.{Shared}
+use Rattle.model.specs.Window.{tasks, window_size}
+use Rattle.model.specs.Calls.{lent, restarts_of}
+use Rattle.model.specs.Counts.{is_kind, out_first, is_lost, entries_in, count_below, sum_below, counts_of}
+use Rattle.model.proofs.Landing.{reads_memory}
+use Rattle.counts.proofs.counts.Goals as goal
+
+-- the counts, one by one
+counted : (W : World) (f h d w l r : ℕ) → f ≡ count_below (is_kind W.bench.words W.log 1) (entries_in W) → h ≡ count_below (is_kind W.bench.words W.log 2) (entries_in W) → d ≡ count_below (out_first W.bench.words W.log) (entries_in W) → w ≡ window_size W → l ≡ count_below (is_lost W (entries_in W)) (entries_in W) → r ≡ sum_below (restarts_of W.bench.restarts) 8 →
+    ◌≡◌ {A = Counts} (record { finished = f; handouts = h; different = d; restarts = r; window = w; lost = l }) (counts_of W)
+unfolding counts_of
+counted W f h d w l r ef eh ed ew el er = rw (ef, eh, ed, ew, el, er)
+
+pub returns : goal.returns
+returns c = let a = c.args in counted _ _ _ _ _ _ _ c.entries_of-finished.ensures c.entries_of-handouts.ensures c.different_out-different.ensures.value (c.window_size-window.ensures ∙ ap (λ (S : Shared). tasks a.bench.kind S.queue.anchor) (sym (reads_memory (lent a.bench a.store.now a.log.now) c.requires))) c.lost_of-lost.ensures c.restarts_of-restarts.ensures
