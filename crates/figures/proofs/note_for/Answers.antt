@@ -6,8 +6,5 @@ pub overflow_sub-anchor : goal.overflow_sub-anchor
 unfolding Ordered
 overflow_sub-anchor c = omega (arith, rw c.in-Fifo.is at c.requires)
 
--- no goal for enum_told
 
--- no goal for enum-told-2
 
--- no goal for enum-told-3
