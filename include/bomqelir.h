@@ -1,7 +1,7 @@
 /* The proved judge of a matcher's log, for C (from C99 on) and C++ (from C++11
  * on).
  *
- * Link target/staticlib/libjudge.a, which `rt staticlib judge` proves and
+ * Link target/staticlib/libjudge.a, which `tools/libjudge` proves and
  * builds. It needs memset and about 48 KiB of stack, allocates nothing, keeps
  * nothing between calls, and may be called from several threads at once.
  */

@@ -1,6 +1,6 @@
 // Judges a log that a running matcher wrote: whether its hand-outs are those of finished puts, and every finished put is handed
 // out or still stored.
-// Uses `model`, `judgement`, `puts` and `marks`. It is called from C and C++ (include/bomqelir.h); no crate uses it.
+// Uses `model`, `judgement`, `puts` and `marks`. It is used by `judge_c`, which C and C++ call (include/bomqelir.h).
 
 #![tactic(auto)]
 
@@ -99,16 +99,15 @@ fn verdict_number(verdict: Verdict) -> u64
     }
 }
 
-// For callers in C and C++: see include/bomqelir.h. The first is for tasks of one payload word.
-#[unsafe(no_mangle)]
-pub extern "C" fn bomqelir_judge(log: &[u8], list: &[u8]) -> u64
+// What callers in C and C++ are answered, by the exports of `judge_c`: see include/bomqelir.h. The first is for tasks of one payload
+// word.
+pub fn bomqelir_judge(log: &[u8], list: &[u8]) -> u64
     ensures { result ≡ verdict_number (judged 1 log.now list.now) }
 {
     verdict_number(judge(1, log, list))
 }
 
-#[unsafe(no_mangle)]
-pub extern "C" fn bomqelir_judge_words(words: u32, log: &[u8], list: &[u8]) -> u64
+pub fn bomqelir_judge_words(words: u32, log: &[u8], list: &[u8]) -> u64
     ensures { result ≡ verdict_number (judged words log.now list.now) }
 {
     verdict_number(judge(words, log, list))
