@@ -1,14 +1,12 @@
 -- A line of the owner committed while its stores are delayed: the stores join the waiting line, and the rest is done at once.
 use mathlib.Core.Bool.{Bool, true, false, true≢false}
-use mathlib.Core.List.{List, [], ◌∷◌}
+use mathlib.Core.List.{List, []}
 use mathlib.Core.Path.{◌≡◌, refl, sym, ap, ◌∙◌}
 use Prim.Native.Nat.{ℕ, ◌+◌, ◌≤◌, ◌<◌}
 use native.Mathlib.Omega.{arith}
 use lib.Dec.{ltb}
 use lib.ListN.{length, set}
 use borrow.Author.Tests.{ltb-true, eqb-true, ne_eqb, lt-ltb, le-ltb}
-use denote.Enum.Declared.{tag_of}
-use types.Run.{OneOf, miss}
 use Rattle.model.specs.declared.Kind.{Kind}
 use Rattle.model.specs.declared.Store.{Store}
 use Rattle.model.specs.declared.Line.{Line}
@@ -40,6 +38,7 @@ use Rattle.model.specs.declared.Queue.{Queue}
 use Rattle.model.specs.declared.Room.{Room}
 use Rattle.model.specs.declared.Waiting.{Waiting}
 use Rattle.model.specs.declared.Bench.{Bench}
+use Rattle.model.specs.declared.Answer.{Answer}
 use Rattle.model.specs.declared.Refusal.TheVariants.{WaitingFull, LogFull}
 use Rattle.model.specs.Tests.{when◌then◌else◌, ◌and◌}
 use Rattle.model.specs.Answers.{ends, entry_length, logged}
@@ -52,7 +51,6 @@ use Rattle.model.proofs.Landing.{joined_none}
 use Rattle.model.proofs.Attempts.{idle_not}
 use Rattle.lines.specs.declared.Action.{Action}
 use Rattle.lines.specs.declared.Action.TheVariants as action
-use Rattle.lines.specs.contracts.Action.{the_type}
 use Rattle.lines.specs.Actions.{stores_by, claims_by, PlacedIn, answer_by, fails_by, Does, Doable}
 use Rattle.lines.proofs.Views.{Same}
 use Rattle.machine.specs.Steps.{moved_by, left_by, acted_by, log_after}
@@ -120,15 +118,15 @@ answers_same (action.Stops x) = refl
 answers_same (action.Ends s x) = refl
 
 -- where it neither claims nor stops, it is nothing
-pub is_nothing : (d : Action) → OneOf (0 ∷ 1 ∷ 2 ∷ 3 ∷ 6 ∷ []) (tag_of the_type (at_once d)) → at_once d ≡ action.Nothing
+pub is_nothing : (d : Action) → ((a z : ℕ) → at_once d ≡ action.Claims a z → ⊥) → ((x : Answer) → at_once d ≡ action.Stops x → ⊥) → at_once d ≡ action.Nothing
 unfolding at_once
-is_nothing action.Nothing o = refl
-is_nothing action.Fails o = refl
-is_nothing (action.Stores s) o = refl
-is_nothing (action.Copies k t u) o = refl
-is_nothing (action.Claims a z) o = absurd (miss (0 ∷ 1 ∷ 2 ∷ 3 ∷ 6 ∷ []) 4 tt o)
-is_nothing (action.Stops x) o = absurd (miss (0 ∷ 1 ∷ 2 ∷ 3 ∷ 6 ∷ []) 5 tt o)
-is_nothing (action.Ends s x) o = absurd (miss (0 ∷ 1 ∷ 2 ∷ 3 ∷ 6 ∷ []) 5 tt o)
+is_nothing action.Nothing p q = refl
+is_nothing action.Fails p q = refl
+is_nothing (action.Stores s) p q = refl
+is_nothing (action.Copies k t u) p q = refl
+is_nothing (action.Claims a z) p q = absurd (p a z refl)
+is_nothing (action.Stops x) p q = absurd (q x refl)
+is_nothing (action.Ends s x) p q = absurd (q x refl)
 
 -- no line of the owner compares or links
 no_compare : (κ : Kind) (q : Queue) (i : ℕ) (y : Line) → is_owners y ≡ true → fails_compare κ q i y ≡ false

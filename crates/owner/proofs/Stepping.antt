@@ -1,14 +1,12 @@
 -- A step of the owner while its stores are delayed, by how it goes.
 use mathlib.Core.Bool.{Bool, true, false}
-use mathlib.Core.List.{List, [], ◌∷◌}
+use mathlib.Core.List.{List}
 use mathlib.Core.Path.{◌≡◌, refl, sym, ap, subst, ◌∙◌}
 use mathlib.Core.Logic.{◌⊎◌, inl, inr, ⊎_elim}
 use Prim.Native.Nat.{ℕ, ◌+◌, ◌≤◌, ◌<◌}
 use native.Mathlib.Omega.{arith}
 use lib.ListN.{length}
 use borrow.Author.Tests.{lt-ltb, ltb-true, eqb-true, ne_eqb}
-use denote.Enum.Declared.{tag_of}
-use types.Run.{OneOf, miss}
 use Rattle.model.specs.declared.Line.{Line}
 use Rattle.model.specs.declared.Queue.{Queue}
 use Rattle.model.specs.declared.Room.{Room}
@@ -32,7 +30,6 @@ use Rattle.model.proofs.Attempts.{rests}
 use Rattle.lines.specs.declared.Action.{Action}
 use Rattle.lines.specs.declared.Action.TheVariants as action
 use Rattle.lines.specs.Actions.{stores_by, claims_by, PlacedIn, answer_by, Does, Doable}
-use Rattle.lines.specs.contracts.Action as actions
 use Rattle.lines.proofs.Views.{Same, view_same}
 use Rattle.lines.proofs.FromLimits.{limits_of, crew_within, link_within}
 use Rattle.state.specs.declared.Returned.{Returned}
@@ -40,7 +37,6 @@ use Rattle.state.specs.Outcomes.{returned}
 use Rattle.machine.specs.declared.Made.{Made}
 use Rattle.machine.specs.declared.Made.TheVariants as made
 use Rattle.machine.specs.Steps.{moves, unasked, with_array, bench_after, answer_after, moved_by, log_by, left_by, acted_by, log_after, effect_on, PlannedBy}
-use Rattle.machine.specs.contracts.Made.{the_type}
 use Rattle.machine.proofs.Landing.{claims_land}
 use Rattle.machine.proofs.Moves.{link_kept}
 use Rattle.machine.proofs.Stepping.{idle_worker}
@@ -138,16 +134,14 @@ module _ {ρ : Room} (b : Bench) (m l : List ℕ) (v : Within ρ (lent b m l)) w
     not_fails f = ⊎_elim (λ g. fails_not_refused (sym f ∙ g)) (λ g. fails_not_waits (sym f ∙ g.1)) idle_or_waits
 
     -- nothing waits: refusal 8
-    pub idles : OneOf (0 ∷ 1 ∷ 2 ∷ 3 ∷ 4 ∷ 5 ∷ 6 ∷ 7 ∷ 8 ∷ []) (tag_of the_type c) → refuse (lent b m l) IdleWorker ≡ step_in ρ (lent b m l) 0
+    pub idles : ((d : Action) → c ≡ made.Waits d → ⊥) → refuse (lent b m l) IdleWorker ≡ step_in ρ (lent b m l) 0
     idles o = by (is_idle y) refl
       where
         by : (t : Bool) → is_idle y ≡ t → refuse (lent b m l) IdleWorker ≡ step_in ρ (lent b m l) 0
         by true f = idle_worker ρ b 0 y m l refl there f
         by false f =
             let (a, g, n, D, h) = plan.goes there f plain in
-            absurd
-            (miss (0 ∷ 1 ∷ 2 ∷ 3 ∷ 4 ∷ 5 ∷ 6 ∷ 7 ∷ 8 ∷ []) 9 tt
-            (subst (λ (z : Made). OneOf (0 ∷ 1 ∷ 2 ∷ 3 ∷ 4 ∷ 5 ∷ 6 ∷ 7 ∷ 8 ∷ []) (tag_of the_type z)) g o))
+            absurd (o a g)
 
   prompt : {x : Line} {d : Action} → Planned ρ b m l x d → Doable b.words b.queue (length m) (at_once d)
   prompt {x} {d} P = bare_doable b.words p b.queue (length m) d same P.safe
@@ -220,12 +214,12 @@ module _ {ρ : Room} (b : Bench) (m l : List ℕ) (v : Within ρ (lent b m l)) w
 
       -- the state left, by what is done at once; s is the line with the stores
       module _ {s : Waiting} (joins : s ≡ joined b.waiting (stores_by b.words d)) {m1 : List ℕ} where
-        pub goes_on_lem : OneOf (0 ∷ 1 ∷ 2 ∷ 3 ∷ 6 ∷ []) (tag_of actions.the_type (at_once d)) → m1 ≡ m
+        pub goes_on_lem : ((a z : ℕ) → at_once d ≡ action.Claims a z → ⊥) → ((t : Answer) → at_once d ≡ action.Stops t → ⊥) → m1 ≡ m
             → record { world = lent (moves (waits b s) 0 x b.queue b.restarts b.written) m1 l; answer = GoesOn } ≡ step_in ρ (lent b m l) 0
         unfolding acted_by log_after bench_after answer_after claims_by stores_by landed_all answer_by ◌and◌
-        goes_on_lem o back =
+        goes_on_lem not_claims not_stops back =
             ap (λ (t : List ℕ). record { world = lent (moves (waits b s) 0 x b.queue b.restarts b.written) t l; answer = GoesOn }) back
-            ∙ does (is_nothing d o) joins refl
+            ∙ does (is_nothing d not_claims not_stops) joins refl
 
         pub claims : {a z : ℕ} {m0 : List ℕ} → at_once d ≡ action.Claims a z → m0 ≡ m → m1 ≡ zeros m0 a z
             → record { world = lent (moves (unasked (waits b s)) 0 x (with_array b.queue a z) b.restarts b.written) m1 l; answer = GoesOn } ≡ step_in ρ (lent b m l) 0

@@ -1,3 +1,4 @@
+use Rattle.owner.specs.Reads.{at_once}
 use Rattle.owner.proofs.at_once.Goals as goal
 
 pub returns-in-Nothing : goal.returns-in-Nothing

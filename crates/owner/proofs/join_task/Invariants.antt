@@ -1,5 +1,4 @@
-use mathlib.Core.List.{◌∷◌}
-use mathlib.Core.Path.{◌≡◌, ◌∙◌}
+use mathlib.Core.Path.{◌≡◌}
 use Prim.Native.Nat.{◌+◌, ◌-◌, ◌≤◌}
 use Rattle.model.specs.Stores.{joined}
 use Rattle.lines.specs.Actions.{word_stores}
