@@ -9,22 +9,19 @@ use lib.ListN.{length}
 use borrow.Author.Tests.{leb-true}
 use Rattle.model.specs.declared.Room.{Room}
 use Rattle.model.specs.declared.Queue.{Queue}
-use Rattle.model.specs.declared.Bench.{Bench}
 use Rattle.model.specs.declared.Yard.{Yard}
 use Rattle.model.specs.declared.Store.{Store}
 use Rattle.model.specs.declared.Store.TheVariants.{StoreWord, StoreNote, StorePut, StoreOut, StoreHead, StoreTail}
-use Rattle.model.specs.Tests.{least, ◌and◌}
+use Rattle.model.specs.Tests.{◌and◌}
 use Rattle.model.specs.Memory.{usable}
-use Rattle.model.specs.Stores.{Shared, shared, landed, landed_all, in_line, taken, words_taken}
-use Rattle.model.specs.World.{owners_view}
+use Rattle.model.specs.Stores.{Shared, shared, landed, landed_all, in_line, words_taken}
 use Rattle.model.specs.Limits.{bench_ok, Within}
 use Rattle.model.specs.Calls.{lent}
-use Rattle.model.specs.Yard.{bench_at, queue_at, quota_at, owners_queue, held_by, claimed_words, aside_words, room_of, words_left, all_below, place_ok, yard_ok}
+use Rattle.model.specs.Yard.{bench_at, quota_at, owners_queue, held_by, claimed_words, aside_words, room_of, all_below, place_ok, yard_ok}
 use Rattle.model.proofs.Tests.{fails, and_left, and_right, and_assoc, and_false}
 use Rattle.model.proofs.Alone.{least_left, least_right, at_most_usable}
 use Rattle.plots.specs.Places.{keeps_at, Kept, lies_at, the_ground}
 use Rattle.plots.proofs.Every.{each, by_parts, part_of}
-use Rattle.plots.proofs.Kept.{within_quota}
 
 -- a place's limits are those that do not look at other queues, and those that do
 pub place_parts : (Y : Yard) (n : ℕ) → all_below (place_ok Y) n ≡ (all_below (keeps_at Y) n and all_below (lies_at Y) n)
