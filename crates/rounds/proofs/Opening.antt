@@ -4,8 +4,8 @@ use mathlib.Core.Bool.{Bool, true, false, not, true≢false}
 use mathlib.Core.List.{List, [], ◌∷◌, map}
 use Prim.Native.Nat.{ℕ, zero, suc, ◌+◌, ◌-◌, ◌≤◌, ◌<◌}
 use native.Mathlib.Omega.{arith}
-use lib.ListN.{length, set, get_or, drop, length-drop, length-map, get_or-map, get_or-eq_default}
-use lib.Seq.{set-get_or, set-set, get_or-set_same, get_or-set_other, get_or-drop, drop-drop}
+use lib.ListN.{length, set, get_or, drop, length-drop, length-map, get_or-map}
+use lib.Seq.{set-get_or, set-set, get_or-set_same, get_or-drop, drop-drop}
 use borrow.Author.Tests.{eqb-true}
 use Rattle.model.specs.declared.Line.{Line}
 use Rattle.model.specs.declared.Bench.{Bench}
@@ -13,12 +13,12 @@ use Rattle.model.specs.declared.Room.{Room}
 use Rattle.model.specs.declared.Worker.{Worker}
 use Rattle.model.specs.declared.Operation.{Operation}
 use Rattle.model.specs.declared.Operation.TheVariants.{Put, Take, Steal, Commit}
-use Rattle.model.specs.Tests.{when◌then◌else◌, ◌or◌}
+use Rattle.model.specs.Tests.{◌or◌}
 use Rattle.model.specs.Lines.{Effect}
 use Rattle.model.specs.Limits.{valid_of, Within}
 use Rattle.model.specs.World.{World, Outcome, resting, line_at, is_idle, room_alone}
 use Rattle.model.specs.Listing.{is_refused}
-use Rattle.model.specs.Calls.{lent, first_line, used_by, right_hand, begun, begin_of, stepped, next_effect, step_in, step_of, begin}
+use Rattle.model.specs.Calls.{lent, first_line, used_by, right_hand, next_effect, step_in, step_of, begin}
 use Rattle.model.proofs.Tests.{if_true, if_false}
 use Rattle.model.proofs.Alone.{within_alone}
 use Rattle.theorems.specs.Reached.{Reached}
@@ -127,7 +127,7 @@ module _ (b : Bench) (m l : List ℕ) (left : List (List Operation)) (t : List �
         after = left;
         moved = if_false _ e ∙ ap (λ (x : Bench). play (step_of (lent x m l) i).world left) (sym as_it_is);
         reached = subst (λ (x : Bench). Reached (lent x m l)) (sym as_it_is) G.reached;
-        stands = subst (λ (x : Bench). Stepped (lent x m l) i) (sym as_it_is) (M.goes_on_lem e);
+        stands = subst (λ (x : Bench). Stepped (lent x m l) i) (sym as_it_is) (M.goes_on e);
         fits = λ x. fits_step b.workers left t i x f (omega (arith, G.eight)) (omega (arith, eight)) e;
         owners = o;
       }
