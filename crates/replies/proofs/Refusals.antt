@@ -15,9 +15,9 @@ use Rattle.replies.specs.Choices.{asked_of}
 use Rattle.replies.proofs.Replies.{asks_steps}
 
 -- while the program waits, all but a `queue`
-pub waits_bad : (m l : List ℕ) (x : Command) → OneOf (1 ∷ 2 ∷ 3 ∷ 4 ∷ 5 ∷ 6 ∷ 7 ∷ []) (tag_of the_type x) → respond (waiting m l) x ≡ bad (waiting m l)
+pub waits_bad : (m l : List ℕ) (x : Command) → ((k w z n s v : ℕ) → x ≡ Open k w z n s v → ⊥) → respond (waiting m l) x ≡ bad (waiting m l)
 unfolding respond
-waits_bad m l (Open k w z n s v) h = absurd (miss (1 ∷ 2 ∷ 3 ∷ 4 ∷ 5 ∷ 6 ∷ 7 ∷ []) 0 tt h)
+waits_bad m l (Open k w z n s v) h = absurd (h k w z n s v refl)
 waits_bad m l (BeginPut v p) h = refl
 waits_bad m l BeginTake h = refl
 waits_bad m l (BeginSteal i) h = refl
