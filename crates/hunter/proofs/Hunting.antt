@@ -1,9 +1,9 @@
 -- What the loop of `walk` keeps: the orders still to be played, and the best so far.
 use mathlib.Core.Path.{◌≡◌, refl, sym, ◌∙◌, ap, subst}
 use mathlib.Core.Bool.{Bool, true, false, true≢false}
-use mathlib.Core.Logic.{◌⊎◌, inl, inr}
-use mathlib.Core.List.{List, [], ◌∷◌, ◌++◌}
-use Prim.Native.Nat.{ℕ, zero, suc, ◌+◌, ◌-◌, ◌≤◌, ◌<◌}
+use mathlib.Core.Logic.{inl, inr}
+use mathlib.Core.List.{List, [], ◌∷◌}
+use Prim.Native.Nat.{ℕ, zero, suc, ◌-◌, ◌≤◌, ◌<◌}
 use native.Mathlib.Omega.{arith}
 use lib.Dec.{eqb, ltb}
 use lib.ListN.{length, take, get_or}
@@ -15,11 +15,11 @@ use Rattle.orders.specs.declared.Verdict.TheVariants.{Hunted}
 use Rattle.orders.specs.Orders.{Play, Order, after_order, orders_of}
 use Rattle.orders.specs.Next.{first_of, next_of, behind_of, given}
 use Rattle.orders.specs.Claims.{Complete}
-use Rattle.orders.specs.Hunt.{Report, repeats_in, repeats_of, played_out, steps_made, all_out, best, takes_and_steals, distance_of, report_of}
+use Rattle.orders.specs.Hunt.{repeats_in, repeats_of, played_out, steps_made, all_out, best, takes_and_steals, distance_of, report_of}
 use Rattle.orders.proofs.AllOrders.{In, sound}
 use Rattle.orders.proofs.NextOrder.{orders_first, orders_next}
 use Rattle.orders.proofs.Turning.{Higher}
-use Rattle.orders.proofs.Walking.{Walking, walking_start, walking_on, Over, walking_over, walking_cut, kept}
+use Rattle.orders.proofs.Walking.{Walking, walking_start, walking_on, walking_over, walking_cut, kept}
 use Rattle.turns.specs.Turns.{Turned}
 use Rattle.turns.proofs.Ties.{turn_next}
 

@@ -1,15 +1,14 @@
 -- A hunt's first world, and its refusals.
 use mathlib.Core.Path.{◌≡◌, refl, sym, ◌∙◌, ap, subst}
-use mathlib.Core.Bool.{Bool, true, false, true≢false}
+use mathlib.Core.Bool.{Bool, true, false}
 use mathlib.Core.List.{List, [], ◌∷◌, ◌++◌, map}
-use Prim.Native.Nat.{ℕ, zero, suc, ◌+◌, ◌-◌, ◌*◌, ◌≤◌, ◌<◌}
+use Prim.Native.Nat.{ℕ, zero, suc, ◌+◌, ◌-◌, ◌≤◌, ◌<◌}
 use native.Mathlib.Omega.{arith}
 use lib.Dec.{eqb, ltb, leb}
 use borrow.Author.Tests.{eq-eqb, ne_eqb, le-leb, lt-leb, ltb-true, ltb-false}
-use lib.ListN.{length, get_or, take, drop, replicate, length-replicate, drop_of_length-le, replicate-append-replicate}
+use lib.ListN.{length, take, drop, replicate, length-replicate, drop_of_length-le, replicate-append-replicate}
 use Rattle.model.specs.declared.Setup.{Setup}
 use Rattle.model.specs.declared.Bench.{Bench}
-use Rattle.model.specs.declared.Worker.{Worker}
 use Rattle.model.specs.declared.Operation.{Operation}
 use Rattle.model.specs.declared.Refusal.{Refusal}
 use Rattle.model.specs.declared.Refusal.TheVariants.{NoSuchWorker}
@@ -26,10 +25,10 @@ use Rattle.opening.proofs.Admits.{outcome_of, admitted_in}
 use Rattle.orders.proofs.HandOuts.{fair_repeats, fresh_fair}
 use Rattle.model.proofs.Tests.{if_true, if_false}
 use Rattle.theorems.proofs.Fresh.{fresh_is, Admitted}
-use Rattle.orders.specs.declared.Verdict.TheVariants.{Hunted, Barred, ManyOperations, LargeBudget}
+use Rattle.orders.specs.declared.Verdict.TheVariants.{Barred, ManyOperations, LargeBudget}
 use Rattle.orders.specs.Orders.{Play, play, orders_of}
 use Rattle.orders.specs.Hunt.{repeats_in, hands_in, takes_and_steals, owners_next, operations, plan, opening, start_of, own_store, own_log, Report, report_of, refusal, unless_refused, hunt_plan, hunt_of}
-use Rattle.orders.proofs.Spends.{busy, idle_is}
+use Rattle.orders.proofs.Spends.{idle_is}
 use Rattle.orders.proofs.Reports.{Passed}
 use Rattle.orders.proofs.NoneRefused.{Good, start_good}
 use Rattle.turns.proofs.Fits.{Fits}

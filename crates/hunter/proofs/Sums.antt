@@ -1,16 +1,15 @@
 -- The sums that the checks and the distance need.
 use mathlib.Core.Path.{◌≡◌, refl, sym, ◌∙◌, ap}
-use mathlib.Core.Bool.{Bool, true, false, not}
+use mathlib.Core.Bool.{Bool, true, false}
 use mathlib.Core.List.{List, [], ◌∷◌, map}
 use Prim.Native.Nat.{ℕ, zero, suc, ◌+◌, ◌-◌, ◌/◌, ◌≤◌, ◌<◌}
 use native.Mathlib.Omega.{arith}
-use lib.Dec.{eqb, ltb, leb}
+use lib.Dec.{eqb, ltb}
 use lib.ListN.{length, get_or, drop, replicate, length-replicate, length-map, drop_of_length-le}
 use lib.Seq.{drop-cons}
 use borrow.Author.Tests.{eq-eqb, ne_eqb, le-leb, lt-leb}
-use Rattle.model.specs.declared.Operation.{Operation}
 use Rattle.model.specs.declared.Operation.TheVariants.{Steal}
-use Rattle.model.specs.Tests.{when◌then◌else◌, ◌or◌, least}
+use Rattle.model.specs.Tests.{◌or◌, least}
 use Rattle.model.specs.World.{World}
 use Rattle.model.proofs.Tests.{if_true, if_false}
 use Rattle.model.specs.Counts.{counts_of, count_below, is_kind, out_first}
