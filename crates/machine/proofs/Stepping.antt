@@ -1,14 +1,12 @@
 -- A step past the test of the limits, by how it goes.
 use mathlib.Core.Bool.{Bool, true, false, true≢false}
-use mathlib.Core.List.{List, [], ◌∷◌}
+use mathlib.Core.List.{List, []}
 use mathlib.Core.Path.{◌≡◌, refl, sym, ap, subst, ◌∙◌}
 use Prim.Native.Nat.{ℕ, zero, suc, ◌≤◌, ◌<◌}
 use native.Mathlib.Omega.{arith}
 use lib.Dec.{ltb}
 use lib.ListN.{length}
 use borrow.Author.Tests.{lt-ltb}
-use denote.Enum.Declared.{tag_of}
-use types.Run.{OneOf, miss}
 use Rattle.model.specs.declared.Kind.{Kind}
 use Rattle.model.specs.declared.Store.{Store}
 use Rattle.model.specs.declared.Line.{Line}
@@ -40,7 +38,6 @@ use Rattle.machine.specs.declared.Made.{Made}
 use Rattle.machine.specs.declared.Made.TheVariants as made
 use Rattle.machine.specs.declared.Moved.{Moved}
 use Rattle.machine.specs.Steps.{AtOnce, moves, bench_after, answer_after, moved_by, left_by, acted_by, log_after, Fits, Steppable, effect_on, PlannedBy}
-use Rattle.machine.specs.contracts.Made.{the_type}
 use Rattle.machine.proofs.Moves.{Leads, Prompt, roomy, acted, linked_line}
 
 -- in a state within the limits the stores of a thief land at once, and without the mode the owner's do
@@ -213,10 +210,10 @@ ends_not_refused (Grown i) e = refl
 ends_not_refused (Refused r) e = cc e
 
 pub made_not_refused : (v : ℕ) (q : Queue) (k : ℕ) (d : Made) → (Refused WaitingFull ≡ answer_after d → ⊥) → Fits v q k d
-    → OneOf (0 ∷ 2 ∷ 3 ∷ 4 ∷ 5 ∷ 6 ∷ 7 ∷ 8 ∷ 9 ∷ []) (tag_of the_type d) → is_refused (answer_after d) ≡ false
+    → ((r : Refusal) → d ≡ made.Refused r → ⊥) → is_refused (answer_after d) ≡ false
 unfolding Fits answer_after
 made_not_refused v q k made.Nothing n f h = refl
-made_not_refused v q k (made.Refused r) n f h = absurd (miss (0 ∷ 2 ∷ 3 ∷ 4 ∷ 5 ∷ 6 ∷ 7 ∷ 8 ∷ 9 ∷ []) 1 tt h)
+made_not_refused v q k (made.Refused r) n f h = absurd (h r refl)
 made_not_refused v q k made.Fails n f h = refl
 made_not_refused v q k made.Links n f h = refl
 made_not_refused v q k (made.Claims a z) n f h = refl

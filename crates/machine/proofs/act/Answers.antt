@@ -74,17 +74,3 @@ pub returns-else-log_answer-2 : goal.returns-else-log_answer-2
 unfolding log_after
 returns-else-log_answer-2 c = let a = c.args in
     let e = c.in-Ends.is in record { value = ends_full a.words a.written a.log.now a.queue c.log_answer-in-Ends.ensures.value e c.if-log_answer-2.false; store_after = λ ρ p. ends_leave ρ a.words a.queue a.store.now (length a.store.now) e c.requires.doable; log_after = c.log_answer-in-Ends.ensures.log_after ∙ sym (simp e) }
-
-
-
-
-
-
-
-
-
-
-
-
-
-

@@ -41,10 +41,3 @@ returns-in-StoreHead c = let e = c.in-StoreHead.is in record { value = simp e; s
 pub returns-in-StoreTail : goal.returns-in-StoreTail
 unfolding made_by
 returns-in-StoreTail c = let e = c.in-StoreTail.is in record { value = simp e; store_after = simp e }
-
-
-
-
-
-
-

@@ -77,13 +77,3 @@ returns-in-Ends c = simp (c.in-Ends.is, c.replaced-in-Ends.ensures, c.with_ancho
 pub returns-in-Grows : goal.returns-in-Grows
 unfolding bench_after answer_after
 returns-in-Grows c = simp (c.in-Grows.is, c.replaced-in-Grows.ensures, c.with_link-grown.ensures, c.publish-current-in-Grows.ensures)
-
-
-
-
-
-
-
-
-
-

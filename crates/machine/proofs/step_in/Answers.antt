@@ -87,7 +87,3 @@ returns c = let a = c.args in
       planned_by = λ joins. absurd (true≢false (sym joins ∙ c.if-joins.false));
       store_unchanged = λ joins. absurd (true≢false (sym joins ∙ c.if-joins.false));
     }
-
-
-
-
