@@ -1,8 +1,8 @@
 -- A call of queue q, with the store m and the log l: what its stop says of the yard and of the outcome.
-use mathlib.Core.Bool.{Bool, true}
+use mathlib.Core.Bool.{true}
 use mathlib.Core.List.{List, []}
 use mathlib.Core.Path.{◌≡◌, refl, sym, ap, subst, ◌∙◌}
-use Prim.Native.Nat.{ℕ, ◌≤◌, ◌<◌}
+use Prim.Native.Nat.{ℕ, ◌<◌}
 use native.Mathlib.Omega.{arith}
 use lib.Dec.{ltb}
 use lib.ListN.{get_or, set}
@@ -12,12 +12,11 @@ use Rattle.model.specs.declared.Bench.{Bench}
 use Rattle.model.specs.declared.Room.{Room}
 use Rattle.model.specs.declared.Yard.{Yard}
 use Rattle.model.specs.declared.Refusal.{Refusal}
-use Rattle.model.specs.declared.Tally.{Tally}
 use Rattle.model.specs.declared.Tally.TheVariants as tally
-use Rattle.model.specs.World.{World, Outcome}
+use Rattle.model.specs.World.{Outcome}
 use Rattle.model.specs.Limits.{Within}
 use Rattle.model.specs.Calls.{lent, who_in, Call, call_in}
-use Rattle.model.specs.Yard.{Ground, bench_at, room_of, yard_ok, sound_yard, Yields, refuse_all, leaves, on_of, who_at}
+use Rattle.model.specs.Yard.{bench_at, room_of, yard_ok, sound_yard, Yields, refuse_all, leaves, on_of, who_at}
 use Rattle.model.proofs.Tests.{if_true, and_left, and_right}
 use Rattle.state.specs.declared.Returned.{Returned}
 use Rattle.state.specs.declared.Stop.{Stop}

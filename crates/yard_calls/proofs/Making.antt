@@ -1,12 +1,12 @@
 -- A making: what its stop says of the yard and of the outcome.
-use mathlib.Core.Bool.{Bool, true}
+use mathlib.Core.Bool.{true}
 use mathlib.Core.List.{List, []}
 use mathlib.Core.Path.{◌≡◌, refl, sym, ap, subst, ◌∙◌}
 use Prim.Native.Nat.{ℕ, ◌+◌, ◌≤◌, ◌<◌}
 use native.Mathlib.Omega.{arith}
 use lib.Dec.{ltb, leb}
 use lib.ListN.{length}
-use borrow.Author.Tests.{leb-true, ltb-true}
+use borrow.Author.Tests.{ltb-true}
 use Rattle.model.specs.declared.Bench.{Bench}
 use Rattle.model.specs.declared.Setup.{Setup}
 use Rattle.model.specs.declared.Yard.{Yard}
@@ -15,12 +15,12 @@ use Rattle.model.specs.declared.Refusal.TheVariants.{ShortQuota}
 use Rattle.model.specs.declared.Answer.TheVariants.{Accepted}
 use Rattle.model.specs.Tests.{unless◌then◌else◌}
 use Rattle.model.specs.Memory.{zeros}
-use Rattle.model.specs.Calls.{new_bench, first_length, admitted}
+use Rattle.model.specs.Calls.{new_bench, first_length}
 use Rattle.model.specs.Yard.{claimed_words, words_left, yard_ok, sound_yard, Yields, refuse_all, making, make_of}
 use Rattle.model.proofs.Alone.{at_most_usable}
 use Rattle.state.specs.declared.Stop.{Stop}
 use Rattle.state.specs.declared.Stop.TheVariants.{No, Why}
-use Rattle.opening.proofs.Admits.{decided, one, past, outcome, Admitted, admitted_in}
+use Rattle.opening.proofs.Admits.{decided, one, past, outcome, admitted_in}
 use Rattle.plots.specs.Places.{the_ground}
 use Rattle.plots.proofs.Rooms.{fits}
 use Rattle.yard_calls.specs.declared.Yielded.{Yielded}

@@ -1,0 +1,25 @@
+use mathlib.Core.Path.{refl, ap, ◌∙◌}
+use Rattle.model.specs.declared.Bench.{Bench}
+use Rattle.model.specs.Calls.{lent, who_in}
+use Rattle.limits.proofs.Bounds.{bounds_of}
+use Rattle.state.specs.declared.Stop.TheVariants.{No, Why}
+use Rattle.yard_calls.proofs.Calling.{past_stop, inside_of, tallies}
+use Rattle.yard_calls.proofs.tally.Goals as goal
+
+pub returns-in-Why : goal.returns-in-Why
+returns-in-Why c = let a = c.args in
+    λ ls e. tallies a.yard a.queue a.store.now a.log.now ls e a.worker (Why _) c.stop-stop.ensures c.in-Why.is
+
+pub bench_at-requires : goal.bench_at-requires
+bench_at-requires c = (past_stop c.args.yard c.args.queue c.args.store.now c.args.log.now c.stop-stop.ensures c.in_default.is).place
+
+pub tally_in-requires : goal.tally_in-requires
+tally_in-requires c = let a = c.args in
+    (bounds_of (lent c.bench_at.result c.args.store.now c.args.log.now) (inside_of a.yard a.queue a.store.now a.log.now (past_stop c.args.yard c.args.queue c.args.store.now c.args.log.now c.stop-stop.ensures c.in_default.is) c.bench_at.ensures refl).limits).crew
+
+pub returns : goal.returns
+returns c = let a = c.args in
+    λ ls e.
+    c.tally_in.ensures a.store.now a.log.now
+    ∙ ap (λ (b : Bench). who_in (lent b a.store.now a.log.now) a.worker) c.bench_at.ensures
+    ∙ tallies a.yard a.queue a.store.now a.log.now ls e a.worker No c.stop-stop.ensures c.in_default.is
