@@ -1,4 +1,4 @@
-use Rattle.std.proofs.Common.{◌≡◌, subst, arith, length-take, length-drop}
+use Rattle.std.proofs.Common.{subst, arith, length-take, length-drop}
 use Rattle.listing.specs.Consuming.{Reachable}
 use Rattle.replies.proofs.Replies.{left_on}
 use Rattle.bench.proofs.play_some.Goals as goal
