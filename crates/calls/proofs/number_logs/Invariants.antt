@@ -1,4 +1,4 @@
-use Rattle.std.proofs.Common.{◌-◌, ◌≤◌, length}
+use Rattle.std.proofs.Common.{◌-◌, ◌≤◌}
 use Rattle.calls.proofs.number_logs.Given as goal
 
 abbrev pub invariant-loop-queue : goal.invariant-loop-queue
