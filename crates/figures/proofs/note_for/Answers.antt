@@ -5,6 +5,3 @@ use Rattle.figures.proofs.note_for.Goals as goal
 pub overflow_sub-anchor : goal.overflow_sub-anchor
 unfolding Ordered
 overflow_sub-anchor c = omega (arith, rw c.in-Fifo.is at c.requires)
-
-
-

@@ -3,4 +3,3 @@ use Rattle.memory.proofs.zero.Goals as goal
 
 pub returns : goal.returns
 returns c = zeroed _ _ _ _ c.requires c.clear.ensures
-
