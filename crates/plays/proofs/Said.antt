@@ -6,7 +6,7 @@ use borrow.Author.Tests.{eq-eqb, ne_eqb}
 use Rattle.model.specs.declared.Payload.{Payload}
 use Rattle.model.specs.declared.Operation.TheVariants.{Put, Take, Steal, Commit}
 use Rattle.model.specs.Tests.{when◌then◌else◌}
-use Rattle.model.specs.Calls.{Call, begin, step, drop_link, drain, ask, drop_ask}
+use Rattle.model.specs.Calls.{begin, step, drop_link, drain, ask, drop_ask}
 use Rattle.model.proofs.Tests.{if_true, if_false}
 use Rattle.plays.specs.Words.{call_by}
 
