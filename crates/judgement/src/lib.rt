@@ -71,6 +71,9 @@ pub fn same_task(words: usize, log: &[u8], entry: usize, other: usize) -> bool
     true
 }
 
+// The kind of a commit's entry, whose number is no put's.
+const COMMIT: u32 = 5;
+
 // Whether kinds are 1 to 5 and the numbers of kinds 1 and 4 rise. `floor` is one above the last of them, at first 0.
 pub fn in_order(words: usize, log: &[u8], entries: usize) -> bool
     requires { entry_bytes words * entries ≤ length log.now }
@@ -94,7 +97,7 @@ pub fn in_order(words: usize, log: &[u8], entries: usize) -> bool
             j += 1;
             continue;
         }
-        if kind == 5 {
+        if kind == COMMIT {
             j += 1;
             continue;
         }

@@ -161,7 +161,8 @@ fn lies(queue: Queue, yard: Yard, place: u32, claimed: u64) -> bool
     let at = queue.claimed - 1;
     let last = slots::region_at(queue, at);
     let end = last.offset as u64 + last.length as u64;
-    if claimed < end {
+    let beyond = claimed < end;
+    if beyond {
         return false;
     }
     clear_of_earlier(queue, yard, place)

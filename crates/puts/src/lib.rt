@@ -117,7 +117,8 @@ pub fn repeated(
         return count;
     }
     let place = puts[k] as usize;
-    if j <= place {
+    let early = j <= place;
+    if early {
         return count;
     }
     if !judgement::same_task(words, log, place, j) {

@@ -30,9 +30,9 @@ loop-j-preserved-then-kind-eq3 c =
     (omega arith, floor_skip c.args.words (words_of c.args.log.now) _ _ c.loop-j.invariant.1 (known_by c.args.words (words_of c.args.log.now) _ _ c.kind_at-kind.ensures (omega (arith, t)) (omega (arith, t))) (plain_by c.args.words (words_of c.args.log.now) _ _ c.kind_at-kind.ensures (λ x. omega (arith, t, x)) (λ x. omega (arith, t, x))))
 
 -- src/lib.rt:81:5
-pub loop-j-preserved-then-kind-eq5 : goal.loop-j-preserved-then-kind-eq5
-loop-j-preserved-then-kind-eq5 c =
-    let t : c.kind_at-kind.result ≡ 5 = c.if-kind-eq5.true in
+pub loop-j-preserved-then-kind-eq-COMMIT : goal.loop-j-preserved-then-kind-eq-COMMIT
+loop-j-preserved-then-kind-eq-COMMIT c =
+    let t : c.kind_at-kind.result ≡ 5 = c.if-kind-eq-COMMIT.true in
     (omega arith, floor_skip c.args.words (words_of c.args.log.now) _ _ c.loop-j.invariant.1 (known_by c.args.words (words_of c.args.log.now) _ _ c.kind_at-kind.ensures (omega (arith, t)) (omega (arith, t))) (plain_by c.args.words (words_of c.args.log.now) _ _ c.kind_at-kind.ensures (λ x. omega (arith, t, x)) (λ x. omega (arith, t, x))))
 
 -- src/lib.rt:103:13
@@ -40,14 +40,14 @@ pub returns-then-number-floor : goal.returns-then-number-floor
 returns-then-number-floor c =
     let r = c.number_at-number.ensures in
     let t = c.if-number-floor.true in
-    not_rising c.args.words (words_of c.args.log.now) _ _ c.loop-j.invariant.1 c.args.entries c.loop-j-test.true (numbered_by c.args.words (words_of c.args.log.now) _ _ c.kind_at-kind.ensures (omega arith) (omega arith) c.if-kind-eq2.false c.if-kind-eq3.false c.if-kind-eq5.false) (omega (arith, r, t))
+    not_rising c.args.words (words_of c.args.log.now) _ _ c.loop-j.invariant.1 c.args.entries c.loop-j-test.true (numbered_by c.args.words (words_of c.args.log.now) _ _ c.kind_at-kind.ensures (omega arith) (omega arith) c.if-kind-eq2.false c.if-kind-eq3.false c.if-kind-eq-COMMIT.false) (omega (arith, r, t))
 
 -- src/lib.rt:81:5
 pub loop-j-preserved : goal.loop-j-preserved
 loop-j-preserved c =
     let r = c.number_at-number.ensures in
     let t = c.if-number-floor.false in
-    (omega arith, subst (λ (x : ℕ). Floor c.args.words (words_of c.args.log.now) (c.loop-j.j + 1) (x + 1)) (sym r) (floor_next c.args.words (words_of c.args.log.now) _ _ c.loop-j.invariant.1 (known_by c.args.words (words_of c.args.log.now) _ _ c.kind_at-kind.ensures (omega arith) (omega arith)) (numbered_by c.args.words (words_of c.args.log.now) _ _ c.kind_at-kind.ensures (omega arith) (omega arith) c.if-kind-eq2.false c.if-kind-eq3.false c.if-kind-eq5.false) (omega (arith, r, t))))
+    (omega arith, subst (λ (x : ℕ). Floor c.args.words (words_of c.args.log.now) (c.loop-j.j + 1) (x + 1)) (sym r) (floor_next c.args.words (words_of c.args.log.now) _ _ c.loop-j.invariant.1 (known_by c.args.words (words_of c.args.log.now) _ _ c.kind_at-kind.ensures (omega arith) (omega arith)) (numbered_by c.args.words (words_of c.args.log.now) _ _ c.kind_at-kind.ensures (omega arith) (omega arith) c.if-kind-eq2.false c.if-kind-eq3.false c.if-kind-eq-COMMIT.false) (omega (arith, r, t))))
 
 -- src/lib.rt:75:1
 pub returns : goal.returns
