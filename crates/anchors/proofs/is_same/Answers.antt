@@ -21,9 +21,3 @@ returns-else-c-read-2 c = simp (c.in-Deque.is, eq-eqb _ _ c.if-h-read.true, ne_e
 pub returns-else-h-read : goal.returns-else-h-read
 unfolding ◌and◌ when◌then◌else◌
 returns-else-h-read c = simp (c.in-Deque.is, ne_eqb _ _ c.if-h-read.false)
-
--- no goal for enum_told
-
--- no goal for enum-told-2
-
--- no goal for enum-told-3

@@ -11,5 +11,3 @@ print-requires c = let a = c.args in let l = c.loop-n in
 pub returns : goal.returns
 returns c = let a = c.args in let l = c.loop-n in
     omega (arith, c.print.ensures.ends, line_most a.letter (take l.n l.row), length-take-le l.n l.row (omega arith))
-
--- no goal for same_length

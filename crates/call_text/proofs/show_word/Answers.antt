@@ -8,5 +8,3 @@ decimal-requires c = simp length-set (omega (arith, decimal_most c.args.n))
 
 pub returns : goal.returns
 returns c = omega (arith, decimal_most c.args.n, c.decimal.ensures.ends)
-
--- no goal for same_length

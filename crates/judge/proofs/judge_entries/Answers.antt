@@ -9,27 +9,21 @@ use Rattle.puts.proofs.Gathering.{rising_by}
 use Rattle.judge.proofs.Keeping.{kept_whole, firsts_fewer}
 use Rattle.judge.proofs.Whole.{not_in_order, not_all_justified, not_all_kept, all_accepted}
 
--- src/lib.rt:28:9
 pub returns-then-not-in_order : goal.returns-then-not-in_order
 returns-then-not-in_order c = not_in_order c.args.words (words_of c.args.log.now) c.args.entries (words_of c.args.list.now) c.args.numbers (sym c.in_order.ensures ∙ c.if-not-in_order.true)
 
--- src/lib.rt:31:9
 pub hand_outs-outs-requires-clause-rising : goal.hand_outs-outs-requires-clause-rising
 hand_outs-outs-requires-clause-rising c = rising_by c.args.words (words_of c.args.log.now) c.args.entries _ _ c.gather-count.ensures (and_right _ _ (sym c.in_order.ensures ∙ c.if-not-in_order.false))
 
--- src/lib.rt:33:9
 pub returns-then-not-outs : goal.returns-then-not-outs
 returns-then-not-outs c = not_all_justified c.args.words (words_of c.args.log.now) c.args.entries (words_of c.args.list.now) c.args.numbers (refused c.hand_outs-outs.ensures.fine c.if-not-outs.true)
 
--- src/lib.rt:36:5
 pub mark_listed-requires-clause-rising : goal.mark_listed-requires-clause-rising
 mark_listed-requires-clause-rising c = rising_by c.args.words (words_of c.args.log.now) c.args.entries _ _ c.gather-count.ensures (and_right _ _ (sym c.in_order.ensures ∙ c.if-not-in_order.false))
 
--- src/lib.rt:38:9
 pub returns-then-not-all_marked : goal.returns-then-not-all_marked
 returns-then-not-all_marked c = not_all_kept c.args.words (words_of c.args.log.now) c.args.entries (words_of c.args.list.now) c.args.numbers (sym (kept_whole c.args.words (words_of c.args.log.now) c.args.entries (words_of c.args.list.now) c.args.numbers _ _ c.mark_listed.new.seen c.gather-count.ensures c.mark_listed.ensures false (sym c.all_marked.ensures ∙ c.if-not-all_marked.true)))
 
--- src/lib.rt:41:19
 pub overflow_sub-repeats : goal.overflow_sub-repeats
 overflow_sub-repeats c =
     let a = (c.hand_outs-outs.ensures.handouts (not-false _ c.if-not-outs.false)) in
@@ -37,7 +31,6 @@ overflow_sub-repeats c =
     let f = firsts_fewer c.args.words (words_of c.args.log.now) c.args.entries in
     omega (arith, a, b, f)
 
--- src/lib.rt:13:1
 pub returns : goal.returns
 returns c =
     all_accepted c.args.words (words_of c.args.log.now) c.args.entries (words_of c.args.list.now) c.args.numbers _ _ (sym c.in_order.ensures ∙ c.if-not-in_order.false) (passed c.hand_outs-outs.ensures.fine c.if-not-outs.false)

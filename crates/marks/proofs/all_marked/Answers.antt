@@ -6,14 +6,11 @@ use mathlib.Core.Bool.{not}
 use borrow.Author.Tests.{eq-eqb, ne_eqb}
 use Rattle.judgement.proofs.All.{all_none, all_fails, all_next}
 
--- src/lib.rt:102:5
 pub loop-k-init : goal.loop-k-init
 loop-k-init c = (omega arith, all_none (is_marked c.args.seen.now))
 
--- src/lib.rt:104:13
 pub returns-then-seen-k-eq0 : goal.returns-then-seen-k-eq0
 returns-then-seen-k-eq0 c = sym (all_fails (is_marked c.args.seen.now) c.args.count c.loop-k.k (omega arith) (ap not (eq-eqb _ 0 c.if-seen-k-eq0.true)))
 
--- src/lib.rt:102:5
 pub loop-k-preserved : goal.loop-k-preserved
 loop-k-preserved c = (omega arith, all_next (is_marked c.args.seen.now) c.loop-k.k c.loop-k.invariant.1 (ap not (ne_eqb _ 0 c.if-seen-k-eq0.false)))

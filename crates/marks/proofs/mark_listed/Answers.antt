@@ -8,13 +8,11 @@ use Rattle.puts.specs.Puts.{FoundBy}
 use Rattle.puts.proofs.Repeating.{one_place}
 use Rattle.marks.proofs.Listed.{lists_none, lists_one}
 
--- src/lib.rt:85:5
 pub loop-i-preserved-then-k-count : goal.loop-i-preserved-then-k-count
 loop-i-preserved-then-k-count c =
     let F = subst (λ (x : ℕ). FoundBy c.args.words (words_of c.args.log.now) c.args.puts.now c.args.count x c.look_up-k.result) c.word-number.ensures c.look_up-k.ensures in
     (omega arith, c.loop-i.invariant.1, lists_none c.args.words (words_of c.args.log.now) c.args.entries (words_of c.args.list.now) c.loop-i.i c.args.puts.now c.args.count c.loop-i.seen c.loop-i.invariant.2 (subst (λ (x : ℕ). FoundBy c.args.words (words_of c.args.log.now) c.args.puts.now c.args.count (get_or (words_of c.args.list.now) c.loop-i.i 0) x) c.if-k-count.true F))
 
--- src/lib.rt:85:5
 pub loop-i-preserved : goal.loop-i-preserved
 loop-i-preserved c =
     let F = subst (λ (x : ℕ). FoundBy c.args.words (words_of c.args.log.now) c.args.puts.now c.args.count x c.look_up-k.result) c.word-number.ensures c.look_up-k.ensures in

@@ -8,7 +8,6 @@ use lib.Dec.{eqb}
 use borrow.Author.Tests.{eq-eqb}
 use Rattle.puts.proofs.Gathering.{gathered_put}
 
--- src/lib.rt:88:5
 pub loop-j-preserved : goal.loop-j-preserved
 loop-j-preserved c =
     let f = c.loop-j.invariant.2.few in

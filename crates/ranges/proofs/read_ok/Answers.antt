@@ -38,9 +38,3 @@ returns-else-count-tasks-2 c = simp (c.in-Deque.is, lt-ltb _ _ c.if-head-lt2048.
 pub returns-else-head-lt2048 : goal.returns-else-head-lt2048
 unfolding ◌and◌
 returns-else-head-lt2048 c = simp (c.in-Deque.is, le-ltb _ _ c.if-head-lt2048.false)
-
--- no goal for enum_told
-
--- no goal for enum-told-2
-
--- no goal for enum-told-3

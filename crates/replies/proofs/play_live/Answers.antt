@@ -25,6 +25,6 @@ unfolding respond
 returns-in-End c = rw c.in-End.is c.total.ensures
 
 pub returns-in_default : goal.returns-in_default
-returns-in_default c = let a = c.args in
-    played_as (plays_bad _ a.command c.requires.command_value c.in_default.in_default-own.keys6 ∙ ap bad (sym (program_live a.session a.store.now a.log.now c.requires.at_in_bounds.1)))
+returns-in_default c = let a = c.args in let d = c.in_default in
+    played_as (plays_bad _ a.command c.requires.command_value d.not-BeginPut d.not-BeginTake d.not-BeginSteal d.not-Who d.not-End ∙ ap bad (sym (program_live a.session a.store.now a.log.now c.requires.at_in_bounds.1)))
     (c.refuse.ensures a.store.now a.log.now)

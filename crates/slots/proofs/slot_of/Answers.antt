@@ -9,9 +9,3 @@ returns-in-Fifo c = let a = c.args in let (e, q) = c.requires in masked e a.inde
 
 pub returns-in-Deque : goal.returns-in-Deque
 returns-in-Deque c = let a = c.args in let (e, q) = c.requires in masked e a.index q ∙ sym (ap (λ (κ : Kind). slot κ a.size a.index) c.in-Deque.is)
-
--- no goal for enum_told
-
--- no goal for enum-told-2
-
--- no goal for enum-told-3

@@ -98,19 +98,3 @@ pub returns-else-n-ne0-2 : goal.returns-else-n-ne0-2
 unfolding formed ◌and◌ when◌then◌else◌
 returns-else-n-ne0-2 c = let a = c.args in let six : length a.v ≡ 6 = search rules in let h : a.n ≤ length a.v = omega arith in
     sym (rw (c.in-End.is, count_is a.v a.n 0 h c.if-n-ne0-2.false))
-
--- no goal for enum_told
-
--- no goal for enum-told-2
-
--- no goal for enum-told-3
-
--- no goal for enum-told-4
-
--- no goal for enum-told-5
-
--- no goal for enum-told-6
-
--- no goal for enum-told-7
-
--- no goal for enum-told-8

@@ -75,17 +75,3 @@ returns c = sym (rw (
   sym c.same-6.ensures ∙ c.if-same-6.false,
   sym c.same-7.ensures ∙ c.if-same-7.false,
 ))
-
--- no goal for slice-aggregate-same
-
--- no goal for slice-aggregate-same-2
-
--- no goal for slice-aggregate-same-3
-
--- no goal for slice-aggregate-same-4
-
--- no goal for slice-aggregate-same-5
-
--- no goal for slice-aggregate-same-6
-
--- no goal for slice-aggregate-same-7

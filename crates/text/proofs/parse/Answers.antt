@@ -50,7 +50,3 @@ pub returns : goal.returns
 returns c = let l = c.loop-at in let line = c.args.line.now in
     c.form.ensures ∙ ap (λ k. formed k (take l.n l.v)) (c.keyword-key.ensures ∙ ap key_of (front_is line _ c.word_end-at.ensures))
     ∙ sym (read_end line l.at (take l.n l.v) (omega arith) l.invariant.3)
-
--- no goal for enum-known-x
-
--- no goal for enum_told

@@ -44,5 +44,3 @@ pub returns : goal.returns
 returns c = let a = c.args in let l = c.loop-i in
     let e : take l.i a.values.now ≡ a.values.now = lib.Seq.take_all l.i a.values.now (omega arith) in
     line_placed a.out.now a.at a.letter a.values.now l.end l.out (rw e at l.invariant.1)
-
--- no goal for same_length

@@ -3,14 +3,11 @@ use mathlib.Core.Path.{sym, ◌∙◌}
 use native.Mathlib.Omega.{arith}
 use Rattle.turns.proofs.Busy.{busy_hit, busy_miss, busy_none}
 
--- src/lib.rt:18:13
 pub returns-then-todo-k-gt0 : goal.returns-then-todo-k-gt0
 returns-then-todo-k-gt0 c = sym (c.loop-i.invariant ∙ busy_hit c.args.todo.now c.loop-i.i (omega arith) (omega (arith, c.if-todo-k-gt0.true)))
 
--- src/lib.rt:15:5
 pub loop-i-preserved : goal.loop-i-preserved
 loop-i-preserved c = c.loop-i.invariant ∙ busy_miss c.args.todo.now c.loop-i.i (omega arith) (omega (arith, c.if-todo-k-gt0.false))
 
--- src/lib.rt:10:1
 pub returns : goal.returns
 returns c = sym (c.loop-i.invariant ∙ busy_none c.args.todo.now c.loop-i.i (omega arith))

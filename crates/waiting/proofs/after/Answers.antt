@@ -9,15 +9,3 @@ use Rattle.waiting.proofs.after.Goals as goal
 
 pub publish-requires : goal.publish-requires
 publish-requires c = let e = subst (λ (s : Store). note_ok s ≡ true) c.in-StoreNote.is (its_note _ c.requires) in omega (arith, leb-true c.in-StoreNote.place 10 e)
-
--- no goal for enum_told
-
--- no goal for enum-known-landing
-
--- no goal for enum-told-2
-
--- no goal for enum-told-3
-
--- no goal for enum-told-4
-
--- no goal for enum-told-5
