@@ -2,7 +2,7 @@
 // whether a commit has been asked for.
 // Uses `model`. It is used by `limits` and `opening`.
 
-#![tactic(auto)]
+#![tactic(auto, using(model::proofs::Tests::tests))]
 
 ghost use Rattle.std.specs.Prelude.{◌≡◌, ltb, leb};
 ghost use Rattle.model.specs.Tests.{◌and◌};

@@ -11,94 +11,69 @@ ghost use Rattle.model.specs.Tasks.{no_task, word_in, with_word, first_words, no
 use model::{Payload, Task};
 
 // Word `word` of the task: word 0 is the put number.
+#[tactic(auto, unfolding(model::specs::Tasks::word_in))]
 pub fn word_in(task: Task, word: u32) -> u32
     requires { word ≤ 4 }
     ensures { result ≡ word_in task word }
 {
     let p = task.payload;
-    if word == 0 {
-        return task.number;
+    match word {
+        0 => task.number,
+        1 => p.first,
+        2 => p.second,
+        3 => p.third,
+        _ => p.fourth,
     }
-    if word == 1 {
-        return p.first;
-    }
-    if word == 2 {
-        return p.second;
-    }
-    if word == 3 {
-        return p.third;
-    }
-    p.fourth
 }
 
-// A task of its words.
-pub fn task_of(number: u32, first: u32, second: u32, third: u32, fourth: u32) -> Task
-    ensures { result ≡ record { number = number; payload = record { first = first; second = second; third = third; fourth = fourth } } }
-{
-    Task {
-        number,
-        payload: Payload {
-            first,
-            second,
-            third,
-            fourth,
-        },
-    }
-}
+const NO_PAYLOAD: Payload = Payload {
+    first: 0,
+    second: 0,
+    third: 0,
+    fourth: 0,
+};
 
 // No word read yet.
 pub fn no_task() -> Task
     ensures { result ≡ no_task }
 {
-    task_of(0, 0, 0, 0, 0)
+    Task {
+        number: 0,
+        payload: NO_PAYLOAD,
+    }
 }
 
 // The task with another word `word`.
+#[tactic(auto, unfolding(model::specs::Tasks::with_word))]
 pub fn with_word(task: Task, word: u32, value: u32) -> Task
     requires { word ≤ 4 }
     ensures { result ≡ with_word task word value }
 {
-    let n = task.number;
-    let p = task.payload;
-    if word == 0 {
-        return task_of(value, p.first, p.second, p.third, p.fourth);
+    let mut next = task;
+    match word {
+        0 => next.number = value,
+        1 => next.payload.first = value,
+        2 => next.payload.second = value,
+        3 => next.payload.third = value,
+        _ => next.payload.fourth = value,
     }
-    if word == 1 {
-        return task_of(n, value, p.second, p.third, p.fourth);
-    }
-    if word == 2 {
-        return task_of(n, p.first, value, p.third, p.fourth);
-    }
-    if word == 3 {
-        return task_of(n, p.first, p.second, value, p.fourth);
-    }
-    task_of(n, p.first, p.second, p.third, value)
+    next
 }
 
 // The task with `words` payload words; the others are 0.
+#[tactic(auto, unfolding(model::specs::Tasks::gathered, model::specs::Tasks::word_in))]
 pub fn cut(task: Task, words: u32) -> Task
     requires { (0 < words) × (words ≤ 4) }
     ensures { result ≡ first_words (words + 1) task }
 {
-    let n = task.number;
     let p = task.payload;
-    if words == 1 {
-        return task_of(n, p.first, 0, 0, 0);
-    }
-    if words == 2 {
-        return task_of(n, p.first, p.second, 0, 0);
-    }
-    if words == 3 {
-        return task_of(n, p.first, p.second, p.third, 0);
-    }
-    task_of(n, p.first, p.second, p.third, p.fourth)
-}
-
-// Both of two tests, where both can be made.
-fn both(first: bool, second: bool) -> bool
-    ensures { result ≡ (first and second) }
-{
-    first && second
+    let payload = match words {
+        1 => Payload { first: p.first, ..NO_PAYLOAD },
+        2 => Payload { third: 0, fourth: 0, ..p },
+        3 => Payload { fourth: 0, ..p },
+        _ => p,
+    };
+    Task { payload, ..task }
 }
 
 // Word `word` is among the first `known`, or 0.
@@ -113,12 +88,9 @@ pub fn none_from(known: u32, task: Task) -> bool
     ensures { result ≡ none_from known task }
 {
     let p = task.payload;
-    let last = both(kept(known, 3, p.third), kept(known, 4, p.fourth));
-    both(
-        kept(known, 0, task.number),
-        both(
-            kept(known, 1, p.first),
-            both(kept(known, 2, p.second), last),
-        ),
-    )
+    kept(known, 0, task.number)
+        && kept(known, 1, p.first)
+        && kept(known, 2, p.second)
+        && kept(known, 3, p.third)
+        && kept(known, 4, p.fourth)
 }

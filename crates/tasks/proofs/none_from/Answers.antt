@@ -1,6 +1,12 @@
+use Rattle.std.proofs.Common.{arith}
 use Rattle.tasks.proofs.Zeros.{none_is}
-use mathlib.Core.Path.{sym}
+use Rattle.model.specs.Tests.{◌and◌, ◌or◌}
 use Rattle.tasks.proofs.none_from.Goals as goal
 
-pub returns : goal.returns
-returns c = rw (c.both-3.ensures, c.both-2.ensures, c.both.ensures, c.kept-5.ensures, c.kept-4.ensures, c.kept-3.ensures, c.both-last.ensures, c.kept-2.ensures, c.kept.ensures) (let a = c.args in sym (none_is a.known a.task))
+pub returns-then-kept-4 : goal.returns-then-kept-4
+unfolding ◌and◌
+returns-then-kept-4 c = rw (none_is c.args.known c.args.task) (grind arith)
+
+pub returns-else-kept-4 : goal.returns-else-kept-4
+unfolding ◌and◌
+returns-else-kept-4 c = rw (none_is c.args.known c.args.task) (grind arith)
