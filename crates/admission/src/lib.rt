@@ -21,16 +21,11 @@ pub fn kind_ok(kind: u32) -> bool
 pub fn kind_of(kind: u32) -> Kind
     ensures { result ≡ kind_of kind }
 {
-    if kind == 1 {
-        return Kind::Lifo;
+    match kind {
+        1 | 4 => Kind::Lifo,
+        2 => Kind::Fifo,
+        _ => Kind::Deque,
     }
-    if kind == 4 {
-        return Kind::Lifo;
-    }
-    if kind == 2 {
-        return Kind::Fifo;
-    }
-    Kind::Deque
 }
 
 pub fn linked_of(kind: u32) -> bool
@@ -49,10 +44,7 @@ pub fn width_ok(width: u32) -> bool
 pub fn is_size(tasks: u32) -> bool
     ensures { result ≡ is_size 10 tasks }
 {
-    match tasks {
-        1 | 2 | 4 | 8 | 16 | 32 | 64 | 128 | 256 | 512 | 1024 => true,
-        _ => false,
-    }
+    matches!(tasks, 1 | 2 | 4 | 8 | 16 | 32 | 64 | 128 | 256 | 512 | 1024)
 }
 
 pub fn crew_ok(crew: u32) -> bool
@@ -73,10 +65,8 @@ pub fn right_hand(worker: u32, operation: Operation) -> bool
     ensures { result ≡ right_hand worker operation }
 {
     match operation {
-        Operation::Put { payload: _ } => worker == 0,
-        Operation::Take => worker == 0,
+        Operation::Put { .. } | Operation::Take | Operation::Commit => worker == 0,
         Operation::Steal => 0 < worker,
-        Operation::Commit => worker == 0,
     }
 }
 
@@ -84,10 +74,8 @@ pub fn numbers_left(operation: Operation, used: u32) -> bool
     ensures { result ≡ numbers_left operation used }
 {
     match operation {
-        Operation::Put { payload: _ } => used < 65535,
-        Operation::Take => true,
-        Operation::Steal => true,
-        Operation::Commit => true,
+        Operation::Put { .. } => used < 65535,
+        _ => true,
     }
 }
 
@@ -96,9 +84,7 @@ pub fn asked(operation: Operation, aside: u32) -> bool
     ensures { result ≡ asked operation aside }
 {
     match operation {
-        Operation::Put { payload: _ } => true,
-        Operation::Take => true,
-        Operation::Steal => true,
         Operation::Commit => 0 < aside,
+        _ => true,
     }
 }

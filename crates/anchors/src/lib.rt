@@ -3,7 +3,7 @@
 // line 1.
 // Uses `model`. It is used by `lines`, `waiting`, `limits` and `machine`.
 
-#![tactic(auto)]
+#![tactic(auto, using(model::proofs::Tests::tests))]
 
 ghost use Rattle.std.specs.Prelude.{◌≡◌, ◌+◌, ◌%◌, ◌≤◌, true};
 ghost use Rattle.model.specs.declared.Store.TheVariants.{StorePut, StoreOut};
@@ -106,13 +106,8 @@ pub fn after_store(anchor: Anchor, store: Store) -> Anchor
     ensures { result ≡ after_store anchor store }
 {
     match store {
-        Store::StoreWord {
-            place: _,
-            slot: _,
-            word: _,
-            value: _,
-        } => anchor,
-        Store::StoreNote { place: _ } => anchor,
+        Store::StoreWord { .. } => anchor,
+        Store::StoreNote { .. } => anchor,
         Store::StorePut { value } => value,
         Store::StoreOut { value } => value,
         Store::StoreHead { value } => anchor_of(value, anchor.count, anchor.tag),

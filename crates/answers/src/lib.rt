@@ -64,13 +64,13 @@ pub fn entry_of(answer: Answer) -> Entry
     let none = tasks::no_task();
     match answer {
         Answer::Accepted => entry_with(0, 0, none),
-        Answer::Numbered { number: _ } => entry_with(0, 0, none),
+        Answer::Numbered { .. } => entry_with(0, 0, none),
         Answer::GoesOn => entry_with(0, 0, none),
         Answer::Finished { worker, task } => entry_with(1, worker, task),
         Answer::HandedOut { worker, task } => entry_with(2, worker, task),
         Answer::Empty { worker } => entry_with(3, worker, none),
         Answer::Full { worker, task } => entry_with(4, worker, task),
         Answer::Grown { worker } => entry_with(5, worker, none),
-        Answer::Refused { why: _ } => entry_with(0, 0, none),
+        Answer::Refused { .. } => entry_with(0, 0, none),
     }
 }

@@ -2,7 +2,7 @@
 // anchor as a worker read it at line 1. What becomes of the anchor is told by `anchors`, where an index lies by `slots`.
 // Uses `model`. It is used by `lines`.
 
-#![tactic(auto)]
+#![tactic(auto, using(model::proofs::Tests::tests))]
 
 ghost use Rattle.std.specs.Prelude.{◌≡◌, ◌≤◌};
 ghost use Rattle.model.specs.declared.Line.TheVariants.{Claim, PutWord};

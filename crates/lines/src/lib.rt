@@ -2,7 +2,7 @@
 // beside, an action (decide): its claim, its stores and its answer. Landing the stores is another crate's.
 // Uses `model`, `tasks`, `anchors`, `figures` and `slots`. It is used by `machine` and `owner`.
 
-#![tactic(auto)]
+#![tactic(auto, using(model::proofs::Tests::tests))]
 
 ghost use Rattle.std.specs.Prelude.{◌≡◌, true, false, not, List, [], ◌∷◌, ℕ, ◌+◌, ◌-◌, ◌*◌, ◌^◌, ◌≤◌, ◌<◌, length};
 ghost use Rattle.model.specs.declared.Line.{Line};
@@ -195,7 +195,7 @@ fn publish(queue: Queue, worker: u32, why: Growth) -> Action
         place: queue.published,
     };
     match why {
-        Growth::ForPut { task: _ } => Action::Stores { store: note },
+        Growth::ForPut { .. } => Action::Stores { store: note },
         Growth::ForCommit => Action::Ends {
             store: note,
             answer: Answer::Grown { worker },
@@ -238,7 +238,7 @@ pub fn next_line(
         // put 3a, 3b ..; 4a, 4b ..
         Line::PutWord { task, read, word } => figures::put_on(words, task, read, word),
         // put 4; 5
-        Line::PutFinish { task: _, read: _ } => Line::Idle,
+        Line::PutFinish { .. } => Line::Idle,
         // X1
         Line::Claim { why } => past_claim(room, queue, why),
         // X2
@@ -271,7 +271,7 @@ pub fn next_line(
             figures::take_on(words, read, known, word)
         }
         // take 4; 5
-        Line::TakeFinish { read: _, task: _ } => Line::Idle,
+        Line::TakeFinish { .. } => Line::Idle,
         // steal 1; 1
         Line::StealRead => figures::steal_read(kind, anchor),
         // FIFO's steal 2
@@ -304,11 +304,7 @@ pub fn next_line(
             }
         }
         // steal 5, in figure 3 steal 6; 6
-        Line::StealCompare {
-            read,
-            next: _,
-            task: _,
-        } => past_compare(kind, queue, worker, read),
+        Line::StealCompare { read, .. } => past_compare(kind, queue, worker, read),
     }
 }
 
@@ -335,9 +331,9 @@ pub fn decide(
     let at = here as usize;
     match line {
         Line::Idle => Action::Nothing,
-        Line::PutRead { task: _ } => Action::Nothing,
-        Line::PutTail { task: _, head: _ } => Action::Nothing,
-        Line::PutTest { task: _, read: _ } => Action::Nothing,
+        Line::PutRead { .. } => Action::Nothing,
+        Line::PutTail { .. } => Action::Nothing,
+        Line::PutTest { .. } => Action::Nothing,
         // put 3a, 3b ..; 4a, 4b ..
         Line::PutWord { task, read, word } => {
             let slot = slots::put_slot(kind, queue, at, read);
@@ -361,14 +357,9 @@ pub fn decide(
         }
         // X1
         Line::Claim { why } => claim(room, queue, worker, why),
-        Line::Note { why: _ } => Action::Nothing,
+        Line::Note { .. } => Action::Nothing,
         // X3
-        Line::Copy {
-            why: _,
-            head,
-            noted: _,
-            copied,
-        } => {
+        Line::Copy { head, copied, .. } => {
             let index = head + copied;
             let task = slots::read_task(kind, words, queue, at, index, store);
             let place = queue.published;
@@ -379,14 +370,10 @@ pub fn decide(
         // X4
         Line::Publish { why } => publish(queue, worker, why),
         Line::TakeRead => Action::Nothing,
-        Line::TakeTail { head: _ } => Action::Nothing,
+        Line::TakeTail { .. } => Action::Nothing,
         // take 2; 3
         Line::TakeTest { read } => stop_empty(kind, worker, read),
-        Line::TakeWord {
-            read: _,
-            task: _,
-            word: _,
-        } => Action::Nothing,
+        Line::TakeWord { .. } => Action::Nothing,
         // take 4; 5
         Line::TakeFinish { read, task } => {
             let left = anchors::take_store(kind, read);
@@ -396,17 +383,12 @@ pub fn decide(
             }
         }
         Line::StealRead => Action::Nothing,
-        Line::StealTail { head: _ } => Action::Nothing,
+        Line::StealTail { .. } => Action::Nothing,
         // steal 2; 3
         Line::StealTest { read } => stop_empty(kind, worker, read),
-        Line::StealNote { read: _ } => Action::Nothing,
-        Line::StealWord {
-            read: _,
-            place: _,
-            task: _,
-            word: _,
-        } => Action::Nothing,
-        Line::StealNext { read: _, task: _ } => Action::Nothing,
+        Line::StealNote { .. } => Action::Nothing,
+        Line::StealWord { .. } => Action::Nothing,
+        Line::StealNext { .. } => Action::Nothing,
         // steal 5, in figure 3 steal 6; 6
         Line::StealCompare { read, next, task } => compare(kind, queue, worker, read, next, task),
     }

@@ -5,7 +5,7 @@
 // Uses `model`, `answers`, `stages`, `anchors`, `slots`, `lines`, `memory` and `state`. It is used by `owner`, `steps`,
 // `queues` and `listing`.
 
-#![tactic(auto)]
+#![tactic(auto, using(model::proofs::Tests::tests))]
 
 ghost use Rattle.std.specs.Prelude.{◌≡◌, Bool, true, false, not, List, ℕ, ◌≤◌, ◌<◌, length};
 ghost use Rattle.model.specs.declared.Room.{Room};
@@ -96,11 +96,11 @@ fn land(words: u32, queue: Queue, landing: Store, store: &mut [u32]) -> Made
             store[at] = value;
             Made::Nothing
         }
-        Store::StoreNote { place: _ } => Made::Publishes,
-        Store::StorePut { value: _ } => Made::Nothing,
-        Store::StoreOut { value: _ } => Made::Nothing,
-        Store::StoreHead { value: _ } => Made::Nothing,
-        Store::StoreTail { value: _ } => Made::Nothing,
+        Store::StoreNote { .. } => Made::Publishes,
+        Store::StorePut { .. } => Made::Nothing,
+        Store::StoreOut { .. } => Made::Nothing,
+        Store::StoreHead { .. } => Made::Nothing,
+        Store::StoreTail { .. } => Made::Nothing,
     }
 }
 
@@ -109,7 +109,7 @@ fn concluded(anchor: Anchor, landing: Store, answer: Answer) -> Made
     ensures { result ≡ concluded_by anchor landing answer }
 {
     let left = anchors::after_store(anchor, landing);
-    if let Store::StoreNote { place: _ } = landing {
+    if let Store::StoreNote { .. } = landing {
         return Made::Grows { answer };
     }
     Made::Ends {
@@ -328,7 +328,7 @@ pub fn settled(bench: Bench, place: usize, line: Line, made: Made) -> Returned
                 answer,
             }
         }
-        Made::Waits { action: _ } => state::refused(bench, Refusal::WaitingFull),
+        Made::Waits { .. } => state::refused(bench, Refusal::WaitingFull),
         Made::Ends { anchor, answer } => {
             let left = state::with_anchor(queue, anchor);
             let length = written + (3 + bench.words);

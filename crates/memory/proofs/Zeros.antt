@@ -1,4 +1,4 @@
--- Zeroed words: a list filled to its end, and a part put back with zeros in it.
+-- Zeroed words: a part put back with zeros in it.
 use mathlib.Core.Path.{◌≡◌, ap, ◌∙◌}
 use mathlib.Core.List.{List, ◌++◌, append-nil}
 use Prim.Native.Nat.{ℕ, ◌+◌, ◌-◌, ◌≤◌}
@@ -7,9 +7,6 @@ use native.Mathlib.Omega.{arith}
 use lib.ListN.{length, drop, replicate, drop_of_length-le}
 use borrow.Rule.Slice.PartMut.{put_mid, mid_of, mid_len, Post-is}
 use Rattle.model.specs.Memory.{zeros}
-
-pub filled : (i : ℕ) (d : List ℕ) → i ≡ length d → replicate i 0 ++ drop i d ≡ replicate (length d) 0
-filled i d e = rw (drop_of_length-le d {i = i} (omega arith)) (append-nil _ ∙ ap (λ (n : ℕ). replicate n 0) e)
 
 pub zeroed : (s ys : List ℕ) (from n : ℕ) → from + n ≤ length s
     → ys ≡ replicate (length (mid_of from ((from + n) - from) s)) 0

@@ -2,7 +2,7 @@
 // definition's short name, as code.
 // Uses `model` and `answers`. It is used by `opening`, `machine`, `owner` and `queues`.
 
-#![tactic(auto)]
+#![tactic(auto, using(model::proofs::Tests::tests))]
 
 ghost use Rattle.std.specs.Prelude.{◌≡◌, ◌+◌, ◌≤◌, ◌<◌, leb, length, replicate, take};
 ghost use Rattle.model.specs.Tests.{◌and◌};
@@ -15,23 +15,13 @@ ghost use Rattle.answers.specs.Entries.{as_defined};
 use answers::Entry;
 use model::{Bench, Task};
 
-fn clear(words: &mut [u32])
-    ensures { words.new ≡ replicate (length words.old) 0 }
-{
-    let mut i: usize = 0;
-    while i < words.len() {
-        words[i] = 0;
-        i += 1;
-    }
-}
-
 // The `count` words from `from` on become 0.
 pub fn zero(store: &mut [u32], from: usize, count: usize)
     requires { from + count ≤ length store.old }
     ensures { store.new ≡ zeros store.old from count }
 {
     let end = from + count;
-    clear(&mut store[from..end]);
+    store[from..end].fill(0);
 }
 
 // The written front of the log, a part of the caller's slice.

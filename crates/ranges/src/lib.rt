@@ -2,7 +2,7 @@
 // state holds any 32-bit values, so a sum of two of them is worked out in 64 bits.
 // Uses `model` and `tasks`. It is used by `limits`.
 
-#![tactic(auto)]
+#![tactic(auto, using(model::proofs::Tests::tests))]
 
 ghost use Rattle.std.specs.Prelude.{◌≡◌, ℕ, ◌+◌, ◌≤◌, ◌<◌, ltb, leb};
 ghost use Rattle.model.specs.declared.Queue.{Queue};

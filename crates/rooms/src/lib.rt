@@ -1,7 +1,7 @@
 // The room that a step of a lone queue is handed. X1 alone looks at it, so it is worked out at X1 alone.
 // Uses `model` and `slots`. It is used by `queues` and `listing`.
 
-#![tactic(auto)]
+#![tactic(auto, using(model::proofs::Tests::tests))]
 
 ghost use Rattle.std.specs.Prelude.{◌≡◌, ◌≤◌, ◌<◌, length};
 ghost use Rattle.model.specs.Memory.{usable};
@@ -17,7 +17,7 @@ pub fn room_at(line: Line, queue: Queue, store: &[u32]) -> Room
     requires queue_bound { taken queue ≤ usable store.now }
     ensures { result ≡ at_claim line (room_in (usable store.now) (words_taken queue) 0 (words_taken queue) (length store.now)) (no_room store.now) }
 {
-    if let Line::Claim { why: _ } = line {
+    if let Line::Claim { .. } = line {
         return slots::room_alone(queue, store);
     }
     let next = slots::usable(store);

@@ -1,7 +1,7 @@
 // Where a worker stands in its operation, what a thief has read, the tag's bits, and one restart more.
 // Uses `model`. It is used by `limits`, `opening`, `events`, `machine`, `queues` and `listing`.
 
-#![tactic(auto)]
+#![tactic(auto, using(model::proofs::Tests::tests))]
 
 ghost use Rattle.std.specs.Prelude.{◌≡◌};
 ghost use Rattle.model.specs.Tests.{when◌then◌else◌};
@@ -15,7 +15,7 @@ fn claim_stage(why: Growth) -> u32
     ensures { result ≡ claim_stage why }
 {
     match why {
-        Growth::ForPut { task: _ } => 3,
+        Growth::ForPut { .. } => 3,
         Growth::ForCommit => 1,
     }
 }
@@ -26,49 +26,25 @@ pub fn stage(line: Line) -> u32
 {
     match line {
         Line::Idle => 0,
-        Line::PutRead { task: _ } => 3,
-        Line::PutTail { task: _, head: _ } => 3,
-        Line::PutTest { task: _, read: _ } => 3,
-        Line::PutWord {
-            task: _,
-            read: _,
-            word: _,
-        } => 3,
-        Line::PutFinish { task: _, read: _ } => 3,
         Line::Claim { why } => claim_stage(why),
-        Line::Note { why: _ } => 2,
-        Line::Copy {
-            why: _,
-            head: _,
-            noted: _,
-            copied: _,
-        } => 2,
-        Line::Publish { why: _ } => 2,
-        Line::TakeRead => 3,
-        Line::TakeTail { head: _ } => 3,
-        Line::TakeTest { read: _ } => 3,
-        Line::TakeWord {
-            read: _,
-            task: _,
-            word: _,
-        } => 3,
-        Line::TakeFinish { read: _, task: _ } => 3,
+        Line::Note { .. } | Line::Copy { .. } | Line::Publish { .. } => 2,
+        Line::PutRead { .. }
+        | Line::PutTail { .. }
+        | Line::PutTest { .. }
+        | Line::PutWord { .. }
+        | Line::PutFinish { .. }
+        | Line::TakeRead
+        | Line::TakeTail { .. }
+        | Line::TakeTest { .. }
+        | Line::TakeWord { .. }
+        | Line::TakeFinish { .. } => 3,
         Line::StealRead => 4,
-        Line::StealTail { head: _ } => 5,
-        Line::StealTest { read: _ } => 5,
-        Line::StealNote { read: _ } => 5,
-        Line::StealWord {
-            read: _,
-            place: _,
-            task: _,
-            word: _,
-        } => 5,
-        Line::StealNext { read: _, task: _ } => 5,
-        Line::StealCompare {
-            read: _,
-            next: _,
-            task: _,
-        } => 5,
+        Line::StealTail { .. }
+        | Line::StealTest { .. }
+        | Line::StealNote { .. }
+        | Line::StealWord { .. }
+        | Line::StealNext { .. }
+        | Line::StealCompare { .. } => 5,
     }
 }
 
@@ -83,20 +59,11 @@ pub fn read_by(line: Line) -> Anchor
     ensures { result ≡ read_by line }
 {
     match line {
-        Line::StealTest { read } => read,
-        Line::StealNote { read } => read,
-        Line::StealWord {
-            read,
-            place: _,
-            task: _,
-            word: _,
-        } => read,
-        Line::StealNext { read, task: _ } => read,
-        Line::StealCompare {
-            read,
-            next: _,
-            task: _,
-        } => read,
+        Line::StealTest { read }
+        | Line::StealNote { read }
+        | Line::StealWord { read, .. }
+        | Line::StealNext { read, .. }
+        | Line::StealCompare { read, .. } => read,
         _ => Anchor {
             head: 0,
             count: 0,
@@ -116,8 +83,5 @@ pub fn tag_bits(linked: bool, width: u32) -> u32
 pub fn one_more(restarts: u32) -> u32
     ensures { result ≡ one_more restarts }
 {
-    if restarts == 4294967295 {
-        return restarts;
-    }
-    restarts + 1
+    restarts.saturating_add(1)
 }

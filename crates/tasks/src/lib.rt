@@ -2,7 +2,7 @@
 // 0.
 // Uses `model`. It is used by `answers`, `ranges`, `slots`, `lines`, `owner` and `opening`.
 
-#![tactic(auto)]
+#![tactic(auto, using(model::proofs::Tests::tests))]
 
 ghost use Rattle.std.specs.Prelude.{◌≡◌, ◌+◌, ◌≤◌, ◌<◌, eqb, ltb};
 ghost use Rattle.model.specs.Tests.{◌and◌, ◌or◌};

@@ -2,4 +2,4 @@ use Rattle.memory.proofs.Zeros.{zeroed}
 use Rattle.memory.proofs.zero.Goals as goal
 
 pub returns : goal.returns
-returns c = zeroed _ _ _ _ c.requires c.clear.ensures
+returns c = zeroed _ _ _ _ c.requires (c.fill.ensures.after (λ y e. e))
