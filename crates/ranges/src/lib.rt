@@ -38,18 +38,11 @@ pub fn number_ok(number: u32) -> bool
     number <= 65535
 }
 
-// Both of two limits, where both can be tested.
-fn both(first: bool, second: bool) -> bool
-    ensures { result ≡ (first and second) }
-{
-    first && second
-}
-
 // A task of which `known` words are known: the others are 0.
 fn task_ok(known: u32, task: Task) -> bool
     ensures { result ≡ task_ok known task }
 {
-    both(number_ok(task.number), tasks::none_from(known, task))
+    number_ok(task.number) && tasks::none_from(known, task)
 }
 
 // Why the array grows: a put's task is whole.
@@ -95,20 +88,13 @@ pub fn anchor_ok(kind: Kind, width: u32, tasks: u32, anchor: Anchor) -> bool
     requires { width ≤ 16 }
     ensures { result ≡ anchor_ok kind width tasks anchor }
 {
-    both(
-        read_ok(kind, width, tasks, anchor),
-        near_ok(kind, tasks, anchor),
-    )
+    read_ok(kind, width, tasks, anchor) && near_ok(kind, tasks, anchor)
 }
 
 fn head_ok(kind: Kind, head: u32) -> bool
     ensures { result ≡ head_ok kind head }
 {
-    match kind {
-        Kind::Lifo => false,
-        Kind::Fifo => head <= 65535,
-        Kind::Deque => false,
-    }
+    matches!(kind, Kind::Fifo) && head <= 65535
 }
 
 // Past a put's test there is room for its task.
@@ -160,20 +146,13 @@ fn place_ok(kind: Kind, published: u32, first: u32, read: Anchor, place: u32) ->
     requires { published ≤ 11 }
     ensures { (v : ℕ) (q : Queue) → q.published ≡ published → Doubles v q first → result ≡ place_ok kind v q read place }
 {
-    if published <= place {
-        return false;
-    }
-    slot_ok(kind, first << place, read)
+    place < published && slot_ok(kind, first << place, read)
 }
 
 fn is_deque(kind: Kind) -> bool
     ensures { result ≡ is_deque kind }
 {
-    match kind {
-        Kind::Lifo => false,
-        Kind::Fifo => false,
-        Kind::Deque => true,
-    }
+    matches!(kind, Kind::Deque)
 }
 
 fn next_ok(kind: Kind, next: u32) -> bool
@@ -186,15 +165,12 @@ fn next_ok(kind: Kind, next: u32) -> bool
     }
 }
 
-// The anchor that a take or a steal past its test for EMPTY read, and what else it holds.
-fn past_empty(kind: Kind, width: u32, tasks: u32, read: Anchor, other: bool) -> bool
+// The anchor that a take or a steal past its test for EMPTY read.
+fn past_empty(kind: Kind, width: u32, tasks: u32, read: Anchor) -> bool
     requires { width ≤ 16 }
-    ensures { result ≡ (read_ok kind width tasks read and some_ok kind read and other) }
+    ensures { result ≡ (read_ok kind width tasks read and some_ok kind read) }
 {
-    both(
-        read_ok(kind, width, tasks, read),
-        both(some_ok(kind, read), other),
-    )
+    read_ok(kind, width, tasks, read) && some_ok(kind, read)
 }
 
 // The anchor and the task of a put past its test; a task has `all` words.
@@ -202,35 +178,7 @@ fn past_test(kind: Kind, width: u32, all: u32, tasks: u32, task: Task, read: Anc
     requires { width ≤ 16 }
     ensures { result ≡ (task_ok all task and read_ok kind width tasks read and room_ok kind tasks read) }
 {
-    both(
-        task_ok(all, task),
-        both(
-            read_ok(kind, width, tasks, read),
-            room_ok(kind, tasks, read),
-        ),
-    )
-}
-
-// And the word that it writes.
-fn writes_ok(
-    kind: Kind,
-    width: u32,
-    all: u32,
-    tasks: u32,
-    task: Task,
-    read: Anchor,
-    other: bool,
-) -> bool
-    requires { width ≤ 16 }
-    ensures { result ≡ (task_ok all task and read_ok kind width tasks read and room_ok kind tasks read and other) }
-{
-    both(
-        task_ok(all, task),
-        both(
-            read_ok(kind, width, tasks, read),
-            both(room_ok(kind, tasks, read), other),
-        ),
-    )
+    task_ok(all, task) && read_ok(kind, width, tasks, read) && room_ok(kind, tasks, read)
 }
 
 // What X3 holds.
@@ -246,20 +194,14 @@ fn copy_ok(
     requires { words ≤ 4 }
     ensures { result ≡ (growth_ok words why and noted_ok kind head noted and leb noted tasks and ltb copied noted) }
 {
-    both(
-        growth_ok(words, why),
-        both(
-            noted_ok(kind, head, noted),
-            both(noted <= tasks, copied < noted),
-        ),
-    )
+    growth_ok(words, why) && noted_ok(kind, head, noted) && noted <= tasks && copied < noted
 }
 
 // The task of a take or a steal of which word `word` is to be read.
 fn reads_ok(words: u32, task: Task, word: u32) -> bool
     ensures { result ≡ (task_ok word task and leb word words) }
 {
-    both(task_ok(word, task), word <= words)
+    task_ok(word, task) && word <= words
 }
 
 // What a worker at the line has read; the current array has `tasks` slots, a task `words` payload words.
@@ -281,61 +223,44 @@ pub fn line_ok(
     match line {
         Line::Idle => true,
         Line::PutRead { task } => task_ok(all, task),
-        Line::PutTail { task, head } => both(task_ok(all, task), head_ok(kind, head)),
-        Line::PutTest { task, read } => both(task_ok(all, task), read_ok(kind, width, tasks, read)),
-        Line::PutWord { task, read, word } => writes_ok(
-            kind,
-            width,
-            all,
-            tasks,
-            task,
-            read,
-            word <= words,
-        ),
+        Line::PutTail { task, head } => task_ok(all, task) && head_ok(kind, head),
+        Line::PutTest { task, read } => task_ok(all, task) && read_ok(kind, width, tasks, read),
+        Line::PutWord { task, read, word } => {
+            past_test(kind, width, all, tasks, task, read) && word <= words
+        }
         Line::PutFinish { task, read } => past_test(kind, width, all, tasks, task, read),
-        Line::Claim { why } => growth_ok(words, why),
-        Line::Note { why } => growth_ok(words, why),
+        Line::Claim { why } | Line::Note { why } | Line::Publish { why } => growth_ok(words, why),
         Line::Copy {
             why,
             head,
             noted,
             copied,
         } => copy_ok(kind, words, tasks, why, head, noted, copied),
-        Line::Publish { why } => growth_ok(words, why),
-        Line::TakeRead => true,
-        Line::TakeTail { head } => head_ok(kind, head),
-        Line::TakeTest { read } => read_ok(kind, width, tasks, read),
-        Line::TakeWord { read, task, word } => past_empty(
-            kind,
-            width,
-            tasks,
-            read,
-            reads_ok(words, task, word),
-        ),
-        Line::TakeFinish { read, task } => past_empty(kind, width, tasks, read, task_ok(all, task)),
-        Line::StealRead => true,
-        Line::StealTail { head } => head_ok(kind, head),
-        Line::StealTest { read } => read_ok(kind, width, tasks, read),
-        Line::StealNote { read } => both(read_ok(kind, width, tasks, read), some_ok(kind, read)),
+        Line::TakeRead | Line::StealRead => true,
+        Line::TakeTail { head } | Line::StealTail { head } => head_ok(kind, head),
+        Line::TakeTest { read } | Line::StealTest { read } => read_ok(kind, width, tasks, read),
+        Line::TakeWord { read, task, word } => {
+            past_empty(kind, width, tasks, read) && reads_ok(words, task, word)
+        }
+        Line::TakeFinish { read, task } => {
+            past_empty(kind, width, tasks, read) && task_ok(all, task)
+        }
+        Line::StealNote { read } => read_ok(kind, width, tasks, read) && some_ok(kind, read),
         Line::StealWord {
             read,
             place,
             task,
             word,
         } => {
-            let holds = both(
-                place_ok(kind, published, first, read, place),
-                reads_ok(words, task, word),
-            );
-            past_empty(kind, width, tasks, read, holds)
+            past_empty(kind, width, tasks, read)
+                && place_ok(kind, published, first, read, place)
+                && reads_ok(words, task, word)
         }
         Line::StealNext { read, task } => {
-            let holds = both(is_deque(kind), task_ok(all, task));
-            past_empty(kind, width, tasks, read, holds)
+            past_empty(kind, width, tasks, read) && is_deque(kind) && task_ok(all, task)
         }
         Line::StealCompare { read, next, task } => {
-            let holds = both(next_ok(kind, next), task_ok(all, task));
-            past_empty(kind, width, tasks, read, holds)
+            past_empty(kind, width, tasks, read) && next_ok(kind, next) && task_ok(all, task)
         }
     }
 }
@@ -343,21 +268,14 @@ pub fn line_ok(
 fn has_anchor(kind: Kind) -> bool
     ensures { result ≡ has_anchor kind }
 {
-    match kind {
-        Kind::Lifo => true,
-        Kind::Fifo => false,
-        Kind::Deque => true,
-    }
+    !matches!(kind, Kind::Fifo)
 }
 
 // A task's word 0 is a put number; the words behind it are any.
 fn value_ok(word: u32, value: u32) -> bool
     ensures { result ≡ (ltb 0 word or number_ok value) }
 {
-    if 0 < word {
-        return true;
-    }
-    number_ok(value)
+    0 < word || number_ok(value)
 }
 
 // A waiting word: its array is claimed, and has the slot.
@@ -373,11 +291,7 @@ fn word_ok(
     requires { claimed ≤ 11 }
     ensures { (q : Queue) → q.claimed ≡ claimed → Doubled words q.arrays claimed first → result ≡ (ltb place q.claimed and ltb slot (size_at words q.arrays place) and leb word words and (ltb 0 word or number_ok value)) }
 {
-    if claimed <= place {
-        return false;
-    }
-    let tasks = first << place;
-    both(slot < tasks, both(word <= words, value_ok(word, value)))
+    place < claimed && slot < first << place && word <= words && value_ok(word, value)
 }
 
 // A waiting store's place and value. The owner reads a queue with `published` arrays of the `claimed` ones, `tasks` slots in the
@@ -405,9 +319,10 @@ pub fn store_ok(
             value,
         } => word_ok(words, claimed, first, place, slot, word, value),
         Store::StoreNote { place } => place < published,
-        Store::StorePut { value } => both(has_anchor(kind), read_ok(kind, width, tasks, value)),
-        Store::StoreOut { value } => both(has_anchor(kind), read_ok(kind, width, tasks, value)),
-        Store::StoreHead { value } => both(head_ok(kind, value), value <= count),
+        Store::StorePut { value } | Store::StoreOut { value } => {
+            has_anchor(kind) && read_ok(kind, width, tasks, value)
+        }
+        Store::StoreHead { value } => head_ok(kind, value) && value <= count,
         Store::StoreTail { value } => head_ok(kind, value),
     }
 }
