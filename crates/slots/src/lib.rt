@@ -63,8 +63,7 @@ fn steal_index(kind: Kind, read: Anchor) -> u32
 {
     match kind {
         Kind::Lifo => read.count - 1,
-        Kind::Fifo => read.head,
-        Kind::Deque => read.head,
+        Kind::Fifo | Kind::Deque => read.head,
     }
 }
 
@@ -147,6 +146,7 @@ fn read_word(
 }
 
 // X3: the whole task, of `words` payload words.
+#[tactic(auto, using(model::proofs::Tests::tests, model::proofs::Tasks::no_words, model::proofs::Tasks::next_word))]
 pub fn read_task(kind: Kind, words: u32, queue: Queue, at: usize, index: u32, store: &[u32]) -> Task
     requires wide { Wide words }
     requires at_bound { at < 11 }
@@ -154,21 +154,12 @@ pub fn read_task(kind: Kind, words: u32, queue: Queue, at: usize, index: u32, st
     requires inside { Inside words queue (length store.now) at }
     ensures { result ≡ gathered (words + 1) (word_of kind words queue store.now at index) }
 {
-    let number = read_word(kind, words, queue, at, index, 0, store);
-    let first = read_word(kind, words, queue, at, index, 1, store);
-    if words == 1 {
-        return tasks::task_of(number, first, 0, 0, 0);
+    let mut task = tasks::no_task();
+    for word in 0..words + 1 {
+        let value = read_word(kind, words, queue, at, index, word, store);
+        task = tasks::with_word(task, word, value);
     }
-    let second = read_word(kind, words, queue, at, index, 2, store);
-    if words == 2 {
-        return tasks::task_of(number, first, second, 0, 0);
-    }
-    let third = read_word(kind, words, queue, at, index, 3, store);
-    if words == 3 {
-        return tasks::task_of(number, first, second, third, 0);
-    }
-    let fourth = read_word(kind, words, queue, at, index, 4, store);
-    tasks::task_of(number, first, second, third, fourth)
+    task
 }
 
 // Put 3a, 3b .. (FIFO 4a, 4b ..): the slot whose words are written, in the array at place `at`.
@@ -259,11 +250,7 @@ pub fn region_at(queue: Queue, place: u32) -> Region
 pub fn usable(store: &[u32]) -> u32
     ensures { result ≡ usable store.now }
 {
-    let n = store.len();
-    if n <= 10235 {
-        return n as u32;
-    }
-    10235
+    store.len().min(10235) as u32
 }
 
 // X1's room in a queue that is alone: its arrays lie end to end, so that the next free word is where the last one ends, and what
