@@ -14,10 +14,6 @@ returns-then-worker-ge8 c = let a = c.args in
     let eight : length a.queue.links ≡ 8 = search rules in
     simp linked (sym (get_or-eq_default a.queue.links false {n = a.worker} (let l : length a.queue.links ≤ a.worker = omega (arith, eight, c.if-worker-ge8.true) in l)))
 
-pub returns-then-queue : goal.returns-then-queue
-unfolding when◌then◌else◌
-returns-then-queue c = simp c.if-queue.true
-
 pub returns : goal.returns
 unfolding when◌then◌else◌
 returns c = simp c.if-queue.false c.is_same.ensures

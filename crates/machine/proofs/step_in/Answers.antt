@@ -49,9 +49,6 @@ returns-then-links c = let a = c.args in
       store_unchanged = λ joins. (refl, refl);
     }
 
-pub decide-action-requires : goal.decide-action-requires
-decide-action-requires c = record { width_bound = few_bits c.args.queue.linked c.args.width c.tag_bits-bits.ensures c.requires.narrow; left_in_bounds = c.requires.room; the_ground = c.requires.the_ground; ready = c.requires.ready c.if-crew-worker.false }
-
 pub returns-then-joins : goal.returns-then-joins
 unfolding Fits
 returns-then-joins c = let a = c.args in
