@@ -25,10 +25,10 @@ fn stealing() -> Line {
     }
 }
 
-fn try_drop(out: Stdout, tried: &[u8], state: model::Bench, worker: u32) {
+fn try_drop(out: Stdout, tried: &str, state: model::Bench, worker: u32) {
     let store = [0u32; 30];
     let log = [0u32; 8];
-    let bench = Bench { state: state };
+    let bench = Bench { state };
     let reply = bench.drop_link(worker, &store, &log);
     let answer = reply.answer;
     report(out, tried, answer);
@@ -36,31 +36,31 @@ fn try_drop(out: Stdout, tried: &[u8], state: model::Bench, worker: u32) {
 
 // A link fails for no reason, and calls that several refusals fit.
 pub fn drops(out: Stdout) {
-    try_drop(out, b"a held link fails", linked(1, 1, stealing(), true), 1);
+    try_drop(out, "a held link fails", linked(1, 1, stealing(), true), 1);
     try_drop(
         out,
-        b"a link that is not held",
+        "a link that is not held",
         linked(1, 1, stealing(), false),
         1,
     );
     try_drop(
         out,
-        b"the link of a thief at line 1",
+        "the link of a thief at line 1",
         linked(1, 1, Line::StealRead, false),
         1,
     );
-    try_drop(out, b"the link of an idle thief", base(5), 1);
-    try_drop(out, b"the owner's link", base(4), 0);
+    try_drop(out, "the link of an idle thief", base(5), 1);
+    try_drop(out, "the owner's link", base(4), 0);
     try_drop(
         out,
-        b"the link of a queue with a tag",
+        "the link of a queue with a tag",
         with_line(base(1), 1, stealing()),
         1,
     );
-    try_drop(out, b"the link of worker 3 of 3", base(4), 3);
+    try_drop(out, "the link of worker 3 of 3", base(4), 3);
     try_drop(
         out,
-        b"the link of worker 9 in a foreign state",
+        "the link of worker 9 in a foreign state",
         played(65536, false),
         9,
     );
@@ -70,34 +70,34 @@ pub fn drops(out: Stdout) {
 pub fn held(out: Stdout) {
     try_state(
         out,
-        b"a link held past line 1",
+        "a link held past line 1",
         linked(1, 1, stealing(), true),
     );
     try_state(
         out,
-        b"a link held at line 1",
+        "a link held at line 1",
         linked(1, 1, Line::StealRead, true),
     );
     try_state(
         out,
-        b"a link held by an idle thief",
+        "a link held by an idle thief",
         linked(1, 1, Line::Idle, true),
     );
     try_state(
         out,
-        b"a link held by the owner",
+        "a link held by the owner",
         linked(1, 0, Line::Idle, true),
     );
     try_state(
         out,
-        b"a link past a write of the anchor",
+        "a link past a write of the anchor",
         linked(2, 1, stealing(), true),
     );
     let mut state = linked(1, 1, stealing(), true);
     let mut queue = state.queue;
     queue.linked = false;
     state.queue = queue;
-    try_state(out, b"a link of a queue with a tag", state);
+    try_state(out, "a link of a queue with a tag", state);
 }
 
 pub fn marks(out: Stdout) {
@@ -105,7 +105,7 @@ pub fn marks(out: Stdout) {
     let mut queue = state.queue;
     queue.linked = true;
     state.queue = queue;
-    try_state(out, b"a linked FIFO queue", state);
-    try_anchor(out, b"a linked queue without a tag", 4, 0, 1, 0);
-    try_anchor(out, b"a linked queue with a tag", 4, 0, 1, 1);
+    try_state(out, "a linked FIFO queue", state);
+    try_anchor(out, "a linked queue without a tag", 4, 0, 1, 0);
+    try_anchor(out, "a linked queue with a tag", 4, 0, 1, 1);
 }

@@ -2,7 +2,7 @@
 use model::{Line, Tally};
 use queues::Bench;
 use std::io::Stdout;
-use tries::{anchor, base, played, say_tally, task, text, with_line};
+use tries::{anchor, base, played, task, with_line, Counted};
 
 // A bench on which thief 1 of 3 is at its compare, and the anchor is not the one that it read. Its restarts so far are `count`, the
 // owner's 9 and thief 2's 5.
@@ -17,22 +17,20 @@ fn beaten(count: u32) -> model::Bench {
     state
 }
 
-fn tell(out: Stdout, tried: &[u8], tally: Tally) {
-    text(out, tried);
-    text(out, b": ");
-    say_tally(out, tally);
-    text(out, b"\n");
+fn tell(out: Stdout, tried: &str, tally: Tally) {
+    let counted = Counted(tally);
+    let _written = println!(out; "{tried}: {counted}");
 }
 
-fn try_who(out: Stdout, tried: &[u8], state: model::Bench, worker: u32) {
+fn try_who(out: Stdout, tried: &str, state: model::Bench, worker: u32) {
     let store = [0u32; 30];
     let log = [0u32; 8];
-    let bench = Bench { state: state };
+    let bench = Bench { state };
     tell(out, tried, bench.who(worker, &store, &log));
 }
 
 // The same after a step of worker 1, whose compare fails.
-fn try_beaten(out: Stdout, tried: &[u8], count: u32, worker: u32) {
+fn try_beaten(out: Stdout, tried: &str, count: u32, worker: u32) {
     let mut store = [0u32; 30];
     let mut log = [0u32; 8];
     let bench = Bench {
@@ -45,12 +43,12 @@ fn try_beaten(out: Stdout, tried: &[u8], count: u32, worker: u32) {
 
 // A worker's count, and calls that several refusals fit.
 pub fn counts(out: Stdout) {
-    try_who(out, b"the owner's restarts", beaten(7), 0);
-    try_who(out, b"restarts of the last of the crew", beaten(7), 2);
-    try_who(out, b"restarts of worker 3 of 3", beaten(7), 3);
+    try_who(out, "the owner's restarts", beaten(7), 0);
+    try_who(out, "restarts of the last of the crew", beaten(7), 2);
+    try_who(out, "restarts of worker 3 of 3", beaten(7), 3);
     try_who(
         out,
-        b"restarts of worker 9 in a foreign state",
+        "restarts of worker 9 in a foreign state",
         played(65536, false),
         9,
     );
@@ -58,9 +56,9 @@ pub fn counts(out: Stdout) {
 
 // A compare that fails raises its own worker's count, up to the ceiling.
 pub fn ceilings(out: Stdout) {
-    try_beaten(out, b"a compare fails, its own count of 7", 7, 1);
-    try_beaten(out, b"a compare fails, the owner's count", 7, 0);
-    try_beaten(out, b"a compare fails, the next thief's count", 7, 2);
-    try_beaten(out, b"a count of 4294967294", 4294967294, 1);
-    try_beaten(out, b"a count of 4294967295", 4294967295, 1);
+    try_beaten(out, "a compare fails, its own count of 7", 7, 1);
+    try_beaten(out, "a compare fails, the owner's count", 7, 0);
+    try_beaten(out, "a compare fails, the next thief's count", 7, 2);
+    try_beaten(out, "a count of 4294967294", 4294967294, 1);
+    try_beaten(out, "a count of 4294967295", 4294967295, 1);
 }

@@ -8,95 +8,68 @@ ghost use Rattle.std.specs.Prelude.{◌<◌};
 
 use model::{Anchor, Answer, Growth, Line, Operation, Payload, Region, Setup, Tally, Task, Worker};
 use queues::{Bench, Reply};
+use std::fmt;
 use std::io::{Print, Stdout};
 
-pub fn text(out: Stdout, bytes: &[u8]) {
-    let _written = out.write_all(bytes);
+pub fn text(out: Stdout, words: &str) {
+    let _written = print!(out; "{words}");
 }
 
-pub fn count(out: Stdout, n: u64) {
-    let _written = print!(out; "{n}");
+// A put's number behind what was done with it; a task that no put made has 0, and none is shown.
+fn with_number<W: fmt::Write>(f: &mut fmt::Formatter<W>, done: &str, number: u32) -> fmt::Result {
+    if number == 0 {
+        return f.write_str(done);
+    }
+    write!(f, "{done}{number}")
 }
 
-pub fn number(out: Stdout, n: u32) {
-    count(out, n as u64);
-}
-
-// What an answer says, in numbers: 0 accepted, 1 to 5 the kind of its log entry, 6 goes on, 7 refused, 8 accepted with a put
-// number; and beside it the put's number or the refusal's.
+// What an answer says, in words.
 #[derive(Clone, Copy)]
-struct Said {
-    kind: u32,
-    number: u32,
-}
+pub struct Said(pub Answer);
 
-fn said_as(kind: u32, number: u32) -> Said {
-    Said { kind, number }
-}
-
-fn said_by(answer: Answer) -> Said {
-    match answer {
-        Answer::Accepted => said_as(0, 0),
-        Answer::Numbered { number } => said_as(8, number),
-        Answer::GoesOn => said_as(6, 0),
-        Answer::Finished { worker: _, task } => said_as(1, task.number),
-        Answer::HandedOut { worker: _, task } => said_as(2, task.number),
-        Answer::Empty { worker: _ } => said_as(3, 0),
-        Answer::Full { worker: _, task } => said_as(4, task.number),
-        Answer::Grown { worker: _ } => said_as(5, 0),
-        Answer::Refused { why } => said_as(7, queues::number_of(why)),
-    }
-}
-
-fn said_text(out: Stdout, said: Said) {
-    let kind = said.kind;
-    match kind {
-        1 => text(out, b"finished put "),
-        2 => text(out, b"handed out put "),
-        3 => text(out, b"EMPTY"),
-        4 => text(out, b"FULL for put "),
-        5 => text(out, b"grown"),
-        6 => text(out, b"goes on"),
-        7 => text(out, b"refused "),
-        8 => text(out, b"accepted as put "),
-        _ => text(out, b"accepted"),
-    }
-    if 0 < said.number {
-        number(out, said.number);
-    }
-}
-
-pub fn say(out: Stdout, answer: Answer) {
-    said_text(out, said_by(answer));
-}
-
-pub fn say_of(out: Stdout, call: &[u8], reply: Reply) {
-    let answer = reply.answer;
-    text(out, call);
-    say(out, answer);
-}
-
-pub fn say_tally(out: Stdout, tally: Tally) {
-    match tally {
-        Tally::Counted { restarts } => number(out, restarts),
-        Tally::Refused { why } => {
-            text(out, b"refused ");
-            number(out, queues::number_of(why));
+impl fmt::Display for Said {
+    fn fmt<W: fmt::Write>(&self, f: &mut fmt::Formatter<W>) -> fmt::Result {
+        match self.0 {
+            Answer::Accepted => f.write_str("accepted"),
+            Answer::Numbered { number } => with_number(f, "accepted as put ", number),
+            Answer::GoesOn => f.write_str("goes on"),
+            Answer::Finished { task, .. } => with_number(f, "finished put ", task.number),
+            Answer::HandedOut { task, .. } => with_number(f, "handed out put ", task.number),
+            Answer::Empty { .. } => f.write_str("EMPTY"),
+            Answer::Full { task, .. } => with_number(f, "FULL for put ", task.number),
+            Answer::Grown { .. } => f.write_str("grown"),
+            Answer::Refused { why } => with_number(f, "refused ", queues::number_of(why)),
         }
     }
 }
 
+// A worker's restarts, or why they are not told.
+#[derive(Clone, Copy)]
+pub struct Counted(pub Tally);
+
+impl fmt::Display for Counted {
+    fn fmt<W: fmt::Write>(&self, f: &mut fmt::Formatter<W>) -> fmt::Result {
+        match self.0 {
+            Tally::Counted { restarts } => write!(f, "{restarts}"),
+            Tally::Refused { why } => write!(f, "refused {}", queues::number_of(why)),
+        }
+    }
+}
+
+pub fn say_of(out: Stdout, call: &str, reply: Reply) {
+    let said = Said(reply.answer);
+    let _written = print!(out; "{call}{said}");
+}
+
 // A line of output.
-pub fn report(out: Stdout, tried: &[u8], answer: Answer) {
-    text(out, tried);
-    text(out, b": ");
-    say(out, answer);
-    text(out, b"\n");
+pub fn report(out: Stdout, tried: &str, answer: Answer) {
+    let said = Said(answer);
+    let _written = println!(out; "{tried}: {said}");
 }
 
 pub fn begun_on(state: model::Bench, worker: u32, operation: Operation, store: &[u32]) -> Answer {
     let log = [0u32; 8];
-    let bench = Bench { state: state };
+    let bench = Bench { state };
     let reply = bench.begin(worker, operation, store, &log);
     reply.answer
 }
@@ -109,13 +82,13 @@ pub fn begun(state: model::Bench, worker: u32, operation: Operation) -> Answer {
 pub fn stepped(state: model::Bench, worker: u32) -> Answer {
     let mut store = [0u32; 30];
     let mut log = [0u32; 8];
-    let bench = Bench { state: state };
+    let bench = Bench { state };
     let reply = bench.step(worker, &mut store, &mut log);
     reply.answer
 }
 
 // The owner takes: a state within the limits is refused for no other reason than a busy owner, 7.
-pub fn try_state(out: Stdout, tried: &[u8], state: model::Bench) {
+pub fn try_state(out: Stdout, tried: &str, state: model::Bench) {
     let answer = begun(state, 0, Operation::Take);
     report(out, tried, answer);
 }
@@ -176,7 +149,7 @@ pub fn with_line(state: model::Bench, worker: usize, line: Line) -> model::Bench
     requires { worker < 8 }
 {
     let mut next = state;
-    next.workers[worker] = Worker { line: line };
+    next.workers[worker] = Worker { line };
     next
 }
 
@@ -188,7 +161,7 @@ pub fn with_anchor(state: model::Bench, anchor: Anchor) -> model::Bench {
     next
 }
 
-pub fn try_anchor(out: Stdout, tried: &[u8], kind: u32, head: u32, count: u32, tag: u32) {
+pub fn try_anchor(out: Stdout, tried: &str, kind: u32, head: u32, count: u32, tag: u32) {
     try_state(
         out,
         tried,
@@ -210,8 +183,8 @@ pub fn with_pair(
     let mut next = state;
     let mut queue = next.queue;
     queue.arrays[place] = Region {
-        offset: offset,
-        length: length,
+        offset,
+        length,
     };
     queue.published = published;
     queue.claimed = claimed;
@@ -224,15 +197,15 @@ pub fn with_pair(
 
 pub fn anchor(head: u32, count: u32, tag: u32) -> Anchor {
     Anchor {
-        head: head,
-        count: count,
-        tag: tag,
+        head,
+        count,
+        tag,
     }
 }
 
 pub fn task(number: u32) -> Task {
     Task {
-        number: number,
+        number,
         payload: payload(7),
     }
 }
@@ -246,7 +219,7 @@ pub fn for_put() -> Growth {
 // A task of which no payload word is read.
 pub fn numbered(number: u32) -> Task {
     Task {
-        number: number,
+        number,
         payload: payload(0),
     }
 }
@@ -254,9 +227,7 @@ pub fn numbered(number: u32) -> Task {
 // So many steps of the owner, on what a call left.
 pub fn steps(reply: Reply, lines: u32, store: &mut [u32], log: &mut [u32]) -> Reply {
     let mut last = reply;
-    let mut line: u32 = 0;
-    while line < lines {
-        line += 1;
+    for _ in 0..lines {
         last = last.bench.step(0, store, log);
     }
     last
