@@ -1,5 +1,5 @@
 // The restarts of each worker: who is refused, and what a compare that fails counts.
-use model::{Line, Tally};
+use model::{Line, Refusal};
 use queues::Bench;
 use std::io::Stdout;
 use tries::{anchor, base, played, task, with_line, Counted};
@@ -17,7 +17,7 @@ fn beaten(count: u32) -> model::Bench {
     state
 }
 
-fn tell(out: Stdout, tried: &str, tally: Tally) {
+fn tell(out: Stdout, tried: &str, tally: Result<u32, Refusal>) {
     let counted = Counted(tally);
     let _written = println!(out; "{tried}: {counted}");
 }

@@ -7,8 +7,7 @@ use model::{Growth, Line, Operation, Setup};
 use queues::{Bench, Reply};
 use std::io::Stdout;
 use tries::{
-    base, base_of, for_put, played, put, say_of, say_tally, steps, text, with_line,
-    with_pair,
+    base, base_of, for_put, played, put, say_of, steps, text, with_line, with_pair, Counted,
 };
 
 // So many words are set aside.
@@ -131,8 +130,8 @@ fn other_calls(out: Stdout, bench: Bench, store: &[u32]) {
     let log = [0u32; 8];
     let mut reply = bench.drop_link(2, store, &log);
     say_of(out, ", drop ", reply);
-    text(out, ", who ");
-    say_tally(out, reply.bench.who(2, store, &log));
+    let counted = Counted(reply.bench.who(2, store, &log));
+    let _written = print!(out; ", who {counted}");
     reply = reply.bench.ask(0, store, &log);
     say_of(out, ", ask ", reply);
     reply = reply.bench.drop_ask(0, store, &log);
@@ -432,15 +431,8 @@ fn try_empty(out: Stdout, tried: &str, kind: u32) {
 
 // The words of an entry.
 fn entry(out: Stdout, log: [u32; 4]) {
-    text(out, ", the log has ");
-    number(out, log[0]);
-    text(out, " ");
-    number(out, log[1]);
-    text(out, " ");
-    number(out, log[2]);
-    text(out, " ");
-    number(out, log[3]);
-    text(out, "\n");
+    let [kind, worker, number, first] = log;
+    let _written = println!(out; ", the log has {kind} {worker} {number} {first}");
 }
 
 // With no task X4 follows X2; LIFO copies every slot.

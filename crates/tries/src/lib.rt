@@ -6,7 +6,9 @@
 
 ghost use Rattle.std.specs.Prelude.{◌<◌};
 
-use model::{Anchor, Answer, Growth, Line, Operation, Payload, Region, Setup, Tally, Task, Worker};
+use model::{
+    Anchor, Answer, Growth, Line, Operation, Payload, Refusal, Region, Setup, Task, Worker,
+};
 use queues::{Bench, Reply};
 use std::fmt;
 use std::io::{Print, Stdout};
@@ -45,13 +47,13 @@ impl fmt::Display for Said {
 
 // A worker's restarts, or why they are not told.
 #[derive(Clone, Copy)]
-pub struct Counted(pub Tally);
+pub struct Counted(pub Result<u32, Refusal>);
 
 impl fmt::Display for Counted {
     fn fmt<W: fmt::Write>(&self, f: &mut fmt::Formatter<W>) -> fmt::Result {
         match self.0 {
-            Tally::Counted { restarts } => write!(f, "{restarts}"),
-            Tally::Refused { why } => write!(f, "refused {}", queues::number_of(why)),
+            Ok(restarts) => write!(f, "{restarts}"),
+            Err(why) => write!(f, "refused {}", queues::number_of(why)),
         }
     }
 }
