@@ -1,6 +1,6 @@
 -- Every finished put is kept exactly if every one is marked; and there are no more first hand-outs than hand-outs.
 use mathlib.Core.Path.{◌≡◌, refl, sym, ap, ◌∙◌}
-use mathlib.Core.Bool.{Bool, true, false, not}
+use mathlib.Core.Bool.{Bool, true, false}
 use mathlib.Core.List.{List}
 use Prim.Native.Nat.{ℕ, zero, suc, ◌+◌, ◌≤◌, ◌<◌}
 use native.Mathlib.Omega.{arith}
@@ -12,7 +12,7 @@ use Rattle.judgement.specs.Judgement.{all_below, kept, listed}
 use Rattle.puts.specs.Puts.{Gathered}
 use Rattle.marks.specs.Marks.{Marked, is_marked}
 use Rattle.judgement.proofs.All.{all_fails, all_at, all_true}
-use Rattle.puts.proofs.Gathering.{clash}
+use Rattle.puts.proofs.Gathering.{clash, place_of}
 
 -- a test that not all pass fails somewhere
 fail_at : (p : ℕ → Bool) (n : ℕ) (y : Bool) → p n ≡ y → (p n and all_below p n) ≡ false → (all_below p n ≡ false → (i : ℕ) × (i < n) × (p i ≡ false)) → (i : ℕ) × (i < suc n) × (p i ≡ false)
@@ -26,17 +26,13 @@ unfolding all_below
 some_fails p zero e = absurd (clash e)
 some_fails p (suc n) e = fail_at p n (p n) refl e (some_fails p n)
 
-module _ (v : ℕ) (l : List ℕ) (n : ℕ) (stored : List ℕ) (m : ℕ) (puts : List ℕ) (c : ℕ) (seen : List ℕ) (G : Gathered v l n puts c) (M : Marked v l n stored m puts c seen) where
+module _ (v : ℕ) (l : List ℕ) (n : ℕ) (stored : List ℕ) (m : ℕ) (puts : List ℕ) (c : ℕ) (seen : List Bool) (G : Gathered v l n puts c) (M : Marked v l n stored m puts c seen) where
   out_or_listed : ℕ → Bool
   out_or_listed j = some_below (out_whole v l (entry_at v l j).task) n or some_below (listed stored (entry_at v l j).task.number) m
 
-  twice : (y : Bool) → not (not y) ≡ y
-  twice true = refl
-  twice false = refl
-
   marked_is : (k : ℕ) → k < c → is_marked seen k ≡ out_or_listed (get_or puts k 0)
   unfolding out_or_listed
-  marked_is k h = ap not (M k h) ∙ twice _
+  marked_is k h = M k h
 
   kept_put : (j : ℕ) → is_kind v l 1 j ≡ true → kept v l n stored m j ≡ out_or_listed j
   unfolding ◌or◌ out_or_listed
@@ -48,7 +44,7 @@ module _ (v : ℕ) (l : List ℕ) (n : ℕ) (stored : List ℕ) (m : ℕ) (puts 
 
   kept_by : all_below (is_marked seen) c ≡ true → (j : ℕ) (y : Bool) → is_kind v l 1 j ≡ y → j < n → kept v l n stored m j ≡ true
   kept_by a j true e h =
-      let g = G.all j h e in
+      let g = place_of v l n puts c G j h e in
       kept_put j e ∙ sym (ap out_or_listed g.2) ∙ sym (marked_is g.0 g.1) ∙ all_at (is_marked seen) c g.0 a g.1
   kept_by a j false e h = kept_other j e
 

@@ -1,12 +1,12 @@
 -- The refusals before the judgement, 16 before 15 before 14; the entries that the bytes have; and the tables as they are at first.
 use mathlib.Core.Path.{◌≡◌, refl, sym, ap, ◌∙◌}
-use mathlib.Core.Bool.{Bool, true}
+use mathlib.Core.Bool.{Bool, true, false}
 use mathlib.Core.List.{List}
 use Prim.Native.Nat.{ℕ, zero, suc, ◌*◌, ◌/◌, ◌%◌, ◌≤◌, ◌<◌}
 use native.Mathlib.Omega.{arith}
 use native.Mathlib.Nat.{mul-le-mul_right, mul-div-le}
 use lib.Dec.{eqb, leb, ltb}
-use lib.ListN.{length, get_or, replicate}
+use lib.ListN.{length, get_or, replicate, take}
 use borrow.Author.Tests.{le-leb, lt-leb, lt-ltb, le-ltb, eq-eqb, ne_eqb}
 use Rattle.model.specs.Tests.{◌and◌}
 use Rattle.model.specs.Limits.{words_ok}
@@ -66,8 +66,9 @@ entries_few v len o h =
     let m : 1 * (len / entry_bytes v) ≤ v * (len / entry_bytes v) = mul-le-mul_right (len / entry_bytes v) o in
     omega (arith, w, m, h)
 
--- a table of zeros
-pub zeros_at : (n k : ℕ) → ◌≡◌ {A = ℕ} (get_or {A = ℕ} (replicate n 0) k 0) 0
-zeros_at zero k = refl
-zeros_at (suc n) zero = refl
-zeros_at (suc n) (suc k) = zeros_at n k
+-- the front of a table without a mark
+pub falses_at : (c n k : ℕ) → get_or (take c (replicate n false)) k false ≡ false
+falses_at zero n k = refl
+falses_at (suc c) zero k = refl
+falses_at (suc c) (suc n) zero = refl
+falses_at (suc c) (suc n) (suc k) = falses_at c n k

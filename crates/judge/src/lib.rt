@@ -4,84 +4,63 @@
 
 #![tactic(auto)]
 
-ghost use Rattle.std.specs.Prelude.{◌≡◌, ℕ, ◌*◌, ◌≤◌, length, get_or};
-ghost use Rattle.judgement.specs.Judgement.{words_of, judged_words, judged, verdict_number, entry_bytes};
+ghost use Rattle.std.specs.Prelude.{◌≡◌, ◌/◌, length};
+ghost use Rattle.judgement.specs.Judgement.{words_of, judged_words, judged, verdict_number};
 
-use judgement::Verdict;
+use judgement::{Log, Verdict};
+use puts::Puts;
 
-// The judgement of a log of so many entries and a list of so many numbers; `puts`, `hints` and `seen` are its tables, `seen` all 0.
-fn judge_entries(
-    words: usize,
-    log: &[u8],
-    entries: usize,
-    list: &[u8],
-    numbers: usize,
-    puts: &mut [u32],
-    hints: &mut [u32],
-    seen: &mut [u32],
-) -> Verdict
-    requires entries_in_bounds { (entry_bytes words * entries ≤ length log.now) × (entries ≤ 4096) × (4 * numbers ≤ length list.now) × (entries ≤ length puts.old) × (entries ≤ length seen.old) × (length hints.old ≡ 4096) × (words ≤ 4) }
-    requires by_index { (k : ℕ) → get_or seen.old k 0 ≡ 0 }
-    ensures { result ≡ judged_words words (words_of log.now) entries (words_of list.now) numbers }
+// The judgement of a log's entries and a list's numbers.
+fn judge_entries(log: Log, list: &[u8]) -> Verdict
+    ensures { result ≡ judged_words log.entry.words (words_of log.entry.bytes.now) log.entry.entries (words_of list.now) (length list.now / 4) }
 {
-    if !judgement::in_order(words, log, entries) {
+    if !log.in_order() {
         return Verdict::No;
     }
-    let count = puts::gather(words, log, entries, puts);
-    let outs = marks::hand_outs(words, log, entries, puts, count, seen);
-    if !outs.fine {
+    let mut places = [0; 4096];
+    let puts = Puts::gather(log, &mut places);
+    let mut seen = [false; 4096];
+    let seen = &mut seen[..puts.places.len()];
+    let Some(outs) = marks::hand_outs(&puts, seen) else {
+        return Verdict::No;
+    };
+    let mut hints = [0; 4096];
+    puts.note_hints(&mut hints);
+    marks::mark_listed(list, &puts, &hints, seen);
+    if !marks::all_marked(seen) {
         return Verdict::No;
     }
-    puts::note_hints(words, log, puts, count, hints);
-    marks::mark_listed(list, numbers, words, log, entries, puts, count, hints, seen);
-    if !marks::all_marked(seen, count) {
-        return Verdict::No;
+    Verdict::Accepted {
+        handouts: outs.handouts,
+        repeats: outs.handouts - outs.different,
     }
-    let handouts = outs.handouts;
-    let repeats = handouts - outs.different;
-    Verdict::Accepted { repeats, handouts }
 }
+
+// The most bytes of a log or a list.
+const LONGEST: usize = 65536;
 
 // The judgement of a log's bytes, with so many payload words in an entry and the put numbers that are said to be stored still. Any
 // count, bytes and lengths will do.
 pub fn judge(words: u32, log: &[u8], list: &[u8]) -> Verdict
     ensures { result ≡ judged words log.now list.now }
 {
-    if words < 1 {
+    if !(1..=4).contains(&words) {
         return Verdict::PayloadWords;
     }
-    if 4 < words {
-        return Verdict::PayloadWords;
-    }
-    let bytes = log.len();
-    let more = list.len();
-    if 65536 < bytes {
-        return Verdict::TooLong;
-    }
-    if 65536 < more {
+    if LONGEST < log.len() || LONGEST < list.len() {
         return Verdict::TooLong;
     }
     let payload = words as usize;
     let long = 4 * (3 + payload);
-    if bytes % long != 0 {
+    if log.len() % long != 0 || list.len() % 4 != 0 {
         return Verdict::BadLength;
     }
-    if more % 4 != 0 {
-        return Verdict::BadLength;
-    }
-    let mut puts = [0u32; 4096];
-    let mut hints = [0u32; 4096];
-    let mut seen = [0u32; 4096];
-    judge_entries(
-        payload,
-        log,
-        bytes / long,
-        list,
-        more / 4,
-        &mut puts,
-        &mut hints,
-        &mut seen,
-    )
+    let log = Log {
+        words: payload,
+        bytes: log,
+        entries: log.len() / long,
+    };
+    judge_entries(log, list)
 }
 
 // A verdict as one number: the refusal, 0 for no, else 2^32 plus 65,536 times the hand-outs plus the repeats.
@@ -94,7 +73,7 @@ fn verdict_number(verdict: Verdict) -> u64
         Verdict::BadLength => 14,
         Verdict::No => 0,
         Verdict::Accepted { handouts, repeats } => {
-            4294967296 + 65536 * (handouts as u64) + repeats as u64
+            4294967296 + 65536 * u64::from(handouts) + u64::from(repeats)
         }
     }
 }

@@ -6,40 +6,42 @@ use mathlib.Core.Logic.{◌⊎◌, inl, inr}
 use Prim.Native.Nat.{ℕ, ◌+◌, ◌≤◌, ◌<◌}
 use native.Mathlib.Omega.{arith}
 use lib.Dec.{eqb, ltb, leb}
-use borrow.Author.Tests.{le-leb, lt-leb, lt-ltb, le-ltb, eq-eqb, ne_eqb, eqb-false, ltb-true, ltb-false}
+use borrow.Author.Tests.{le-leb, lt-leb, lt-ltb, le-ltb, ltb-true, ltb-false}
 use Rattle.model.specs.Tests.{◌and◌, ◌or◌}
 use Rattle.model.specs.Counts.{entry_at}
 use Rattle.model.proofs.Tests.{fails, and_both, and_false}
+use Rattle.judgement.specs.declared.kind.EntryKind.{EntryKind}
+use Rattle.judgement.specs.declared.kind.EntryKind.TheVariants.{Finished, HandOut, Empty, Full, Commit}
 use Rattle.judgement.specs.Judgement.{all_below, known, numbered, rises}
+use Rattle.judgement.specs.Kinds.{number_of}
 use Rattle.judgement.proofs.All.{all_fails, all_true, all_next}
 
 module _ (v : ℕ) (l : List ℕ) where
   module _ (j k : ℕ) (e : k ≡ (entry_at v l j).kind) where
-    pub known_by : 1 ≤ k → k ≤ 5 → known v l j ≡ true
+    known_by : 1 ≤ k → k ≤ 5 → known v l j ≡ true
     known_by a b = subst (λ (x : ℕ). (leb 1 x and leb x 5) ≡ true) e (and_both _ _ (le-leb 1 k a) (le-leb k 5 b))
 
-    pub too_low : k < 1 → known v l j ≡ false
+    too_low : k < 1 → known v l j ≡ false
     too_low a = subst (λ (x : ℕ). (leb 1 x and leb x 5) ≡ false) e (fails (leb k 5) (lt-leb 1 k a))
 
-    pub too_high : 5 < k → known v l j ≡ false
+    too_high : 5 < k → known v l j ≡ false
     too_high a =
         subst (λ (x : ℕ). (leb 1 x and leb x 5) ≡ false) e (ap (λ (y : Bool). leb 1 k and y) (lt-leb k 5 a) ∙ and_false (leb 1 k))
 
-    pub plain_by : (k ≡ 1 → ⊥) → (k ≡ 4 → ⊥) → numbered v l j ≡ false
-    unfolding ◌or◌
-    plain_by a b = subst (λ (x : ℕ). (eqb x 1 or eqb x 4) ≡ false) e (rw (ne_eqb k 1 a, ne_eqb k 4 b))
+    pub unknown : (k < 1) ⊎ (5 < k) → known v l j ≡ false
+    unknown (inl a) = too_low a
+    unknown (inr a) = too_high a
 
-    numbered_case : (y : Bool) → eqb k 1 ≡ y → 1 ≤ k → k ≤ 4 → (k ≡ 2 → ⊥) → (k ≡ 3 → ⊥) → (eqb k 1 or eqb k 4) ≡ true
-    unfolding ◌or◌
-    numbered_case true h a b c d = rw h
-    numbered_case false h a b c d =
-        rw (h, eq-eqb k 4 (let g = eqb-false k 1 h in omega (arith, a, b, c, d, g)))
+    pub numbered_is : {y : Bool} → y ≡ (eqb k 1 or eqb k 4) → numbered v l j ≡ y
+    numbered_is h = sym (h ∙ ap (λ (x : ℕ). eqb x 1 or eqb x 4) e)
 
-    four : k ≤ 5 → (k ≡ 5 → ⊥) → k ≤ 4
-    four b f = omega (arith, b, f)
-
-    pub numbered_by : 1 ≤ k → k ≤ 5 → (k ≡ 2 → ⊥) → (k ≡ 3 → ⊥) → (k ≡ 5 → ⊥) → numbered v l j ≡ true
-    numbered_by a b c d f = subst (λ (x : ℕ). (eqb x 1 or eqb x 4) ≡ true) e (numbered_case (eqb k 1) refl a (four b f) c d)
+  -- an entry's kind is one of the five
+  pub kind_known : (j : ℕ) (κ : EntryKind) → number_of κ ≡ (entry_at v l j).kind → known v l j ≡ true
+  kind_known j Finished e = known_by j 1 e (omega arith) (omega arith)
+  kind_known j HandOut e = known_by j 2 e (omega arith) (omega arith)
+  kind_known j Empty e = known_by j 3 e (omega arith) (omega arith)
+  kind_known j Full e = known_by j 4 e (omega arith) (omega arith)
+  kind_known j Commit e = known_by j 5 e (omega arith) (omega arith)
 
   abbrev over : ℕ → ℕ → Bool
   over j i = not (numbered v l i) or ltb (entry_at v l i).task.number (entry_at v l j).task.number

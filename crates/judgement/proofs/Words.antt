@@ -4,6 +4,7 @@ use mathlib.Core.Path.{◌≡◌, refl, sym, ap, ◌∙◌}
 use Prim.Native.Nat.{ℕ, zero, suc, ◌+◌, ◌*◌, ◌<◌}
 use native.Mathlib.Omega.{arith}
 use lib.ListN.{length, get_or}
+use Rattle.std.specs.Int.{w32, from_le_bytes}
 use Rattle.judgement.specs.Judgement.{words_of}
 
 -- the four bytes from byte i on
@@ -21,15 +22,13 @@ word_is (a ∷ b ∷ c ∷ d ∷ s) (suc k) h =
     let e : suc (suc (suc (suc (4 * k)))) ≡ 4 * suc k = omega arith in
     word_is s k (omega (arith, h)) ∙ ap (λ (i : ℕ). four (a ∷ b ∷ c ∷ d ∷ s) i) e
 
--- a word put together from its four bytes
-pub word_at : (s : List ℕ) (k a b c d : ℕ) → 4 * k + 3 < length s → a ≡ get_or s (4 * k) 0 → b ≡ get_or s (4 * k + 1) 0
-    → c ≡ get_or s (4 * k + 2) 0 → d ≡ get_or s (4 * k + 3) 0
-    → a + 256 * b + 65536 * c + 16777216 * d ≡ get_or (words_of s) k 0
-word_at s k a b c d h e f g i =
+four_bytes : (a b c d : ℕ) → a + 256 * b + 65536 * c + 16777216 * d ≡ from_le_bytes w32 (a ∷ b ∷ c ∷ d ∷ [])
+four_bytes a b c d = omega arith
+
+-- a word as the library reads it from its four bytes
+pub word_at : (s : List ℕ) (k : ℕ) → 4 * k + 3 < length s → from_le_bytes w32 (get_or s (4 * k) 0 ∷ get_or s (4 * k + 1) 0 ∷ get_or s (4 * k + 2) 0 ∷ get_or s (4 * k + 3) 0 ∷ []) ≡ get_or (words_of s) k 0
+word_at s k h =
     let one : 4 * k + 1 ≡ suc (4 * k) = omega arith in
     let two : 4 * k + 2 ≡ suc (suc (4 * k)) = omega arith in
     let three : 4 * k + 3 ≡ suc (suc (suc (4 * k))) = omega arith in
-    let f' : b ≡ get_or s (suc (4 * k)) 0 = f ∙ ap (λ (n : ℕ). get_or s n 0) one in
-    let g' : c ≡ get_or s (suc (suc (4 * k))) 0 = g ∙ ap (λ (n : ℕ). get_or s n 0) two in
-    let i' : d ≡ get_or s (suc (suc (suc (4 * k)))) 0 = i ∙ ap (λ (n : ℕ). get_or s n 0) three in
-    rw (e, f', g', i') (sym (word_is s k h))
+    rw (one, two, three) (sym (word_is s k h ∙ four_bytes _ _ _ _))

@@ -1,4 +1,5 @@
-// The judgement of a log that a running matcher wrote (specs/), the verdict's type, and the reading of words and of the entries' order.
+// The judgement of a log that a running matcher wrote (specs/), the verdict's type, and the log's entries: their kinds, numbers and
+// order.
 // Uses `model`. It is used by `puts`, `marks`, `judge` and `accepted`.
 
 #![tactic(auto)]
@@ -6,8 +7,13 @@
 ghost use Rattle.std.specs.Prelude.{◌≡◌, ◌+◌, ◌*◌, ◌≤◌, ◌<◌, length, get_or};
 ghost use Rattle.model.specs.Tests.{◌and◌};
 ghost use Rattle.model.specs.Tasks.{same_task};
-ghost use Rattle.model.specs.Counts.{entry_at};
+ghost use Rattle.model.specs.Counts.{entry_at, is_kind};
 ghost use Rattle.judgement.specs.Judgement.{words_of, all_below, known, rises, entry_bytes};
+ghost use Rattle.judgement.specs.Kinds.{number_of};
+
+pub use kind::{EntryKind, UnknownKind};
+
+mod kind;
 
 // What the judge answers: no such count of payload words; a list is too long, or its length is none of whole entries (of whole
 // numbers); the log is not accepted; or it is, with its hand-outs and, among them, the repeats.
@@ -20,93 +26,81 @@ pub enum Verdict {
     Accepted { handouts: u32, repeats: u32 },
 }
 
-fn wide(byte: u8) -> u32
-    ensures { (result ≡ byte) × (result ≤ 255) }
-{
-    byte as u32
-}
-
 // Word `k` of the bytes, lowest byte first.
 pub fn word(bytes: &[u8], k: usize) -> u32
     requires { 4 * k + 3 < length bytes.now }
     ensures { result ≡ get_or (words_of bytes.now) k 0 }
 {
     let at = 4 * k;
-    let a = wide(bytes[at]);
-    let b = wide(bytes[at + 1]);
-    let c = wide(bytes[at + 2]);
-    let d = wide(bytes[at + 3]);
-    a + 256 * b + 65536 * c + 16777216 * d
+    u32::from_le_bytes([bytes[at], bytes[at + 1], bytes[at + 2], bytes[at + 3]])
 }
 
-// The kind of an entry, and its put number, in a log of so many payload words.
-pub fn kind_at(words: usize, log: &[u8], entry: usize) -> u32
-    requires { entry_bytes words * (entry + 1) ≤ length log.now }
-    ensures { result ≡ (entry_at words (words_of log.now) entry).kind }
-{
-    word(log, (3 + words) * entry)
+// The bytes of a log and its whole entries, each with so many payload words.
+#[derive(Clone, Copy)]
+pub struct Log<'a> {
+    pub words: usize,
+    pub bytes: &'a [u8],
+    pub entries: usize,
+    pub ghost narrow: { words ≤ 4 },
+    pub ghost few: { entries ≤ 4096 },
+    pub ghost whole: { entry_bytes words * entries ≤ length bytes.now },
 }
 
-pub fn number_at(words: usize, log: &[u8], entry: usize) -> u32
-    requires { entry_bytes words * (entry + 1) ≤ length log.now }
-    ensures { result ≡ (entry_at words (words_of log.now) entry).task.number }
-{
-    word(log, (3 + words) * entry + 2)
-}
-
-// Whether two entries have one task, number and payload.
-pub fn same_task(words: usize, log: &[u8], entry: usize, other: usize) -> bool
-    requires { (words ≤ 4) × (entry_bytes words * (entry + 1) ≤ length log.now) × (entry_bytes words * (other + 1) ≤ length log.now) }
-    ensures { result ≡ same_task (entry_at words (words_of log.now) entry).task (entry_at words (words_of log.now) other).task }
-{
-    let mut k: usize = 0;
-    while k <= words {
-        let here = word(log, (3 + words) * entry + 2 + k);
-        let there = word(log, (3 + words) * other + 2 + k);
-        if here != there {
-            return false;
-        }
-        k += 1;
+impl Log<'_> {
+    // Word `k` of an entry.
+    fn word_of(&self, entry: usize, k: usize) -> u32
+        requires { (entry < self.now.entries) × (k < 3 + self.now.words) }
+        ensures { result ≡ get_or (words_of self.now.bytes.now) ((3 + self.now.words) * entry + k) 0 }
+    {
+        word(self.bytes, (3 + self.words) * entry + k)
     }
-    true
-}
 
-// The kind of a commit's entry, whose number is no put's.
-const COMMIT: u32 = 5;
-
-// Whether kinds are 1 to 5 and the numbers of kinds 1 and 4 rise. `floor` is one above the last of them, at first 0.
-pub fn in_order(words: usize, log: &[u8], entries: usize) -> bool
-    requires { entry_bytes words * entries ≤ length log.now }
-    ensures { result ≡ (all_below (known words (words_of log.now)) entries and all_below (rises words (words_of log.now)) entries) }
-{
-    let mut floor: u64 = 0;
-    let mut j: usize = 0;
-    while j < entries {
-        let kind = kind_at(words, log, j);
-        if kind < 1 {
-            return false;
-        }
-        if 5 < kind {
-            return false;
-        }
-        if kind == 2 {
-            j += 1;
-            continue;
-        }
-        if kind == 3 {
-            j += 1;
-            continue;
-        }
-        if kind == COMMIT {
-            j += 1;
-            continue;
-        }
-        let number = number_at(words, log, j) as u64;
-        if number < floor {
-            return false;
-        }
-        floor = number + 1;
-        j += 1;
+    // Whether an entry is of this kind.
+    pub fn is_kind(&self, kind: EntryKind, entry: usize) -> bool
+        requires { entry < self.now.entries }
+        ensures { result ≡ is_kind self.now.words (words_of self.now.bytes.now) (number_of kind) entry }
+    {
+        self.word_of(entry, 0) == kind as u32
     }
-    true
+
+    // The put number of an entry.
+    pub fn number_at(&self, entry: usize) -> u32
+        requires { entry < self.now.entries }
+        ensures { result ≡ (entry_at self.now.words (words_of self.now.bytes.now) entry).task.number }
+    {
+        self.word_of(entry, 2)
+    }
+
+    // Whether two entries have one task, number and payload.
+    pub fn same_task(&self, entry: usize, other: usize) -> bool
+        requires { (entry < self.now.entries) × (other < self.now.entries) }
+        ensures { result ≡ same_task (entry_at self.now.words (words_of self.now.bytes.now) entry).task (entry_at self.now.words (words_of self.now.bytes.now) other).task }
+    {
+        for k in 0..=self.words {
+            if self.word_of(entry, 2 + k) != self.word_of(other, 2 + k) {
+                return false;
+            }
+        }
+        true
+    }
+
+    // Whether kinds are 1 to 5 and the numbers of kinds 1 and 4 rise. `floor` is one above the last of them, at first 0.
+    pub fn in_order(&self) -> bool
+        ensures { result ≡ (all_below (known self.now.words (words_of self.now.bytes.now)) self.now.entries and all_below (rises self.now.words (words_of self.now.bytes.now)) self.now.entries) }
+    {
+        let mut floor: u64 = 0;
+        for j in 0..self.entries {
+            let Ok(kind) = EntryKind::try_from(self.word_of(j, 0)) else {
+                return false;
+            };
+            if kind.is_numbered() {
+                let number = u64::from(self.number_at(j));
+                if number < floor {
+                    return false;
+                }
+                floor = number + 1;
+            }
+        }
+        true
+    }
 }

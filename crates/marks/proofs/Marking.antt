@@ -8,7 +8,7 @@ use native.Mathlib.Numerals.{add-one}
 use lib.Dec.{eqb}
 use lib.ListN.{length, get_or, set}
 use lib.Seq.{get_or-set_same, get_or-set_other}
-use borrow.Author.Tests.{eq-eqb, ne_eqb, eqb-true, eqb-false}
+use borrow.Author.Tests.{ne_eqb, eqb-true, eqb-false}
 use Rattle.model.specs.Tests.{when◌then◌else◌, ◌and◌, ◌or◌}
 use Rattle.model.specs.declared.Task.{Task}
 use Rattle.model.specs.Tasks.{same_task}
@@ -18,23 +18,23 @@ use Rattle.model.proofs.Tests.{holds, fails, and_left, and_right, and_both, and_
 use Rattle.model.proofs.Below.{some_at, up_miss, some_same}
 use Rattle.judgement.specs.Judgement.{all_below, finished_as, justified, listed}
 use Rattle.puts.specs.Puts.{number_of_put, Rising, Gathered, RepeatsPut}
-use Rattle.marks.specs.Marks.{Marked, OutsBy}
+use Rattle.marks.specs.Marks.{Marked, OutsFine}
 use Rattle.judgement.proofs.All.{all_at, all_next, all_fails, some_found}
 use Rattle.puts.proofs.Repeating.{one_place, same_put}
 
-pub mark_start : (v : ℕ) (l stored puts : List ℕ) (c : ℕ) (seen : List ℕ) → ((k : ℕ) → get_or seen k 0 ≡ 0) → Marked v l 0 stored 0 puts c seen
+pub mark_start : (v : ℕ) (l stored puts : List ℕ) (c : ℕ) (seen : List Bool) → ((k : ℕ) → get_or seen k false ≡ false) → Marked v l 0 stored 0 puts c seen
 unfolding some_below ◌or◌
-mark_start v l stored puts c seen z k h = eq-eqb (get_or seen k 0) 0 (z k)
+mark_start v l stored puts c seen z k h = z k
 
 -- what is known after j entries: all hand-outs justified, so many of them, of so many puts, and these marked
 module _ (v : ℕ) (l puts : List ℕ) (c : ℕ) where
-  pub record Told (j outs firsts : ℕ) (seen : List ℕ) : Type 0 where
+  pub record Told (j outs firsts : ℕ) (seen : List Bool) : Type 0 where
     pub fine : all_below (justified v l) j ≡ true
     pub outs_are : outs ≡ count_below (is_kind v l 2) j
     pub firsts_are : firsts ≡ count_below (out_first v l) j
     pub marks : (stored : List ℕ) → Marked v l j stored 0 puts c seen
 
-  pub told_start : (seen : List ℕ) → ((k : ℕ) → get_or seen k 0 ≡ 0) → Told 0 0 0 seen
+  pub told_start : (seen : List Bool) → ((k : ℕ) → get_or seen k false ≡ false) → Told 0 0 0 seen
   unfolding all_below count_below
   told_start seen z = record { fine = refl; outs_are = refl; firsts_are = refl; marks = λ stored. mark_start v l stored puts c seen z }
 
@@ -73,9 +73,9 @@ module _ (v : ℕ) (l : List ℕ) (n : ℕ) (puts : List ℕ) (c : ℕ) (G : Gat
     pub no_first : out_first v l j ≡ false
     no_first = fails _ e
 
-    pub still_marked : (stored seen : List ℕ) (i : ℕ) → Marked v l j stored i puts c seen → Marked v l (j + 1) stored i puts c seen
+    pub still_marked : (stored : List ℕ) (seen : List Bool) (i : ℕ) → Marked v l j stored i puts c seen → Marked v l (j + 1) stored i puts c seen
     still_marked stored seen i M k h =
-        M k h ∙ ap (λ (y : Bool). not (y or some_below (listed stored (number_of_put v l puts k)) i))
+        M k h ∙ ap (λ (y : Bool). y or some_below (listed stored (number_of_put v l puts k)) i)
         (sym (up_miss (out_whole v l (entry_at v l (get_or puts k 0)).task) j j refl refl (fails _ e)))
 
   -- hand-out j, which repeats the k-th put
@@ -109,13 +109,13 @@ module _ (v : ℕ) (l : List ℕ) (n : ℕ) (puts : List ℕ) (c : ℕ) (G : Gat
         one x h q = one_place v l n puts c G R x k h b (sym q)
 
     other_still : (stored : List ℕ) (i x : ℕ) → x < c → (x ≡ k → ⊥)
-        → not (some_below (out_whole v l (entry_at v l (get_or puts x 0)).task) j or some_below (listed stored (number_of_put v l puts x)) i)
-        ≡ not (some_below (out_whole v l (entry_at v l (get_or puts x 0)).task) (j + 1) or some_below (listed stored (number_of_put v l puts x)) i)
+        → (some_below (out_whole v l (entry_at v l (get_or puts x 0)).task) j or some_below (listed stored (number_of_put v l puts x)) i)
+        ≡ (some_below (out_whole v l (entry_at v l (get_or puts x 0)).task) (j + 1) or some_below (listed stored (number_of_put v l puts x)) i)
     other_still stored i x h d =
-        ap (λ (y : Bool). not (y or some_below (listed stored (number_of_put v l puts x)) i))
+        ap (λ (y : Bool). y or some_below (listed stored (number_of_put v l puts x)) i)
         (sym (up_miss (out_whole v l (entry_at v l (get_or puts x 0)).task) j j refl refl (no_other x h d)))
 
-    marked_now : (stored : List ℕ) (i : ℕ) → false ≡ not (some_below (out_whole v l (entry_at v l (get_or puts k 0)).task) (j + 1) or some_below (listed stored (number_of_put v l puts k)) i)
+    marked_now : (stored : List ℕ) (i : ℕ) → true ≡ (some_below (out_whole v l (entry_at v l (get_or puts k 0)).task) (j + 1) or some_below (listed stored (number_of_put v l puts k)) i)
     unfolding ◌or◌
     marked_now stored i = rw out_now
 
@@ -123,8 +123,8 @@ module _ (v : ℕ) (l : List ℕ) (n : ℕ) (puts : List ℕ) (c : ℕ) (G : Gat
     first_by o y q =
         holds e ∙ ap not (ap (λ (x : ℕ). some_below (out_as v l x) j) (sym number_is) ∙ same_outs j k (omega (arith, within)) b o ∙ q)
 
-    was_out : (stored seen : List ℕ) (y z : Bool) → some_below (out_whole v l (entry_at v l (get_or puts k 0)).task) j ≡ z → Marked v l j stored 0 puts c seen
-        → eqb (get_or seen k 0) 0 ≡ y → not z ≡ y
+    was_out : (stored : List ℕ) (seen : List Bool) (y z : Bool) → some_below (out_whole v l (entry_at v l (get_or puts k 0)).task) j ≡ z → Marked v l j stored 0 puts c seen
+        → get_or seen k false ≡ y → z ≡ y
     unfolding some_below ◌or◌
     was_out stored seen y true q M s = let m = M k b in sym (rw q at m) ∙ s
     was_out stored seen y false q M s = let m = M k b in sym (rw q at m) ∙ s
@@ -137,7 +137,7 @@ module _ (v : ℕ) (l : List ℕ) (n : ℕ) (puts : List ℕ) (c : ℕ) (G : Gat
   unfolding count_below when◌then◌else◌
   count_more p j m e h = rw (add-one j, h, e)
 
-  module _ (j outs firsts : ℕ) (seen : List ℕ) (T : Told v l puts c j outs firsts seen) where
+  module _ (j outs firsts : ℕ) (seen : List Bool) (T : Told v l puts c j outs firsts seen) where
     pub told_skip : is_kind v l 2 j ≡ false → Told v l puts c (j + 1) outs firsts seen
     told_skip e =
         record {
@@ -148,41 +148,41 @@ module _ (v : ℕ) (l : List ℕ) (n : ℕ) (puts : List ℕ) (c : ℕ) (G : Gat
         }
 
     module _ (k : ℕ) (within : j < n) (e : is_kind v l 2 j ≡ true) (P : RepeatsPut v l puts c j k) (b : k < c) where
-      again_at : (stored : List ℕ) → eqb (get_or seen k 0) 0 ≡ false → (x : ℕ) (y : Bool) → eqb x k ≡ y → x < c → eqb (get_or seen x 0) 0
-          ≡ not (some_below (out_whole v l (entry_at v l (get_or puts x 0)).task) (j + 1) or some_below (listed stored (number_of_put v l puts x)) 0)
+      again_at : (stored : List ℕ) → get_or seen k false ≡ true → (x : ℕ) (y : Bool) → eqb x k ≡ y → x < c → get_or seen x false
+          ≡ (some_below (out_whole v l (entry_at v l (get_or puts x 0)).task) (j + 1) or some_below (listed stored (number_of_put v l puts x)) 0)
       again_at stored s x true q h =
-          subst (λ (i : ℕ). eqb (get_or seen i 0) 0 ≡ not (some_below (out_whole v l (entry_at v l (get_or puts i 0)).task) (j + 1) or some_below (listed stored (number_of_put v l puts i)) 0))
+          subst (λ (i : ℕ). get_or seen i false ≡ (some_below (out_whole v l (entry_at v l (get_or puts i 0)).task) (j + 1) or some_below (listed stored (number_of_put v l puts i)) 0))
           (sym (eqb-true x k q)) (s ∙ marked_now j k within e P b stored 0)
       again_at stored s x false q h = T.marks stored x h ∙ other_still j k within e P b stored 0 x h (eqb-false x k q)
 
-      pub told_again : eqb (get_or seen k 0) 0 ≡ false → Told v l puts c (j + 1) (outs + 1) firsts seen
+      pub told_again : get_or seen k false ≡ true → Told v l puts c (j + 1) (outs + 1) firsts seen
       told_again s =
           record {
             fine = all_next (justified v l) j T.fine (repeats_justified j k within e P b);
             outs_are = count_more (is_kind v l 2) j outs T.outs_are e;
             firsts_are =
                 count_same (out_first v l) j firsts T.firsts_are
-                (first_by j k within e P b T.fine _ refl ∙ was_out j k within e P b [] seen false _ refl (T.marks []) s);
+                (first_by j k within e P b T.fine _ refl ∙ ap not (was_out j k within e P b [] seen true _ refl (T.marks []) s));
             marks = λ stored x h. again_at stored s x (eqb x k) refl h;
           }
 
-      first_at : (stored : List ℕ) → k < length seen → (x : ℕ) (y : Bool) → eqb x k ≡ y → x < c → eqb (get_or (set seen k 1) x 0) 0
-          ≡ not (some_below (out_whole v l (entry_at v l (get_or puts x 0)).task) (j + 1) or some_below (listed stored (number_of_put v l puts x)) 0)
+      first_at : (stored : List ℕ) → k < length seen → (x : ℕ) (y : Bool) → eqb x k ≡ y → x < c → get_or (set seen k true) x false
+          ≡ (some_below (out_whole v l (entry_at v l (get_or puts x 0)).task) (j + 1) or some_below (listed stored (number_of_put v l puts x)) 0)
       first_at stored r x true q h =
-          subst (λ (i : ℕ). eqb (get_or (set seen k 1) i 0) 0 ≡ not (some_below (out_whole v l (entry_at v l (get_or puts i 0)).task) (j + 1) or some_below (listed stored (number_of_put v l puts i)) 0))
-          (sym (eqb-true x k q)) (ap (λ (u : ℕ). eqb u 0) (get_or-set_same seen k 1 0 r) ∙ marked_now j k within e P b stored 0)
+          subst (λ (i : ℕ). get_or (set seen k true) i false ≡ (some_below (out_whole v l (entry_at v l (get_or puts i 0)).task) (j + 1) or some_below (listed stored (number_of_put v l puts i)) 0))
+          (sym (eqb-true x k q)) (get_or-set_same seen k true false r ∙ marked_now j k within e P b stored 0)
       first_at stored r x false q h =
-          ap (λ (u : ℕ). eqb u 0) (get_or-set_other seen k x 1 0 (eqb-false x k q))
+          get_or-set_other seen k x true false (eqb-false x k q)
           ∙ T.marks stored x h ∙ other_still j k within e P b stored 0 x h (eqb-false x k q)
 
-      pub told_first : eqb (get_or seen k 0) 0 ≡ true → k < length seen → Told v l puts c (j + 1) (outs + 1) (firsts + 1) (set seen k 1)
+      pub told_first : get_or seen k false ≡ false → k < length seen → Told v l puts c (j + 1) (outs + 1) (firsts + 1) (set seen k true)
       told_first s r =
           record {
             fine = all_next (justified v l) j T.fine (repeats_justified j k within e P b);
             outs_are = count_more (is_kind v l 2) j outs T.outs_are e;
             firsts_are =
                 count_more (out_first v l) j firsts T.firsts_are
-                (first_by j k within e P b T.fine _ refl ∙ was_out j k within e P b [] seen true _ refl (T.marks []) s);
+                (first_by j k within e P b T.fine _ refl ∙ ap not (was_out j k within e P b [] seen false _ refl (T.marks []) s));
             marks = λ stored x h. first_at stored r x (eqb x k) refl h;
           }
 
@@ -191,12 +191,12 @@ module _ (v : ℕ) (l : List ℕ) (n : ℕ) (puts : List ℕ) (c : ℕ) (G : Gat
   unfolding ◌or◌
   unjustified j e h = rw (e, h)
 
-  pub not_justified : (j : ℕ) → j < n → is_kind v l 2 j ≡ true → RepeatsPut v l puts c j c → false ≡ all_below (justified v l) n
-  not_justified j h e P = sym (all_fails (justified v l) n j h (unjustified j e (P.none refl)))
+  pub not_justified : (j : ℕ) → j < n → is_kind v l 2 j ≡ true → RepeatsPut v l puts c j c → all_below (justified v l) n ≡ false
+  not_justified j h e P = all_fails (justified v l) n j h (unjustified j e (P.none refl))
 
 -- after the last entry
-pub outs_told : (v : ℕ) (l : List ℕ) (n : ℕ) (puts : List ℕ) (c j outs firsts : ℕ) (seen : List ℕ) → j ≡ n → Told v l puts c j outs firsts seen
-    → OutsBy v l n puts c (record { fine = true; handouts = outs; different = firsts }) seen
+pub outs_told : (v : ℕ) (l : List ℕ) (n : ℕ) (puts : List ℕ) (c j outs firsts : ℕ) (seen : List Bool) → j ≡ n → Told v l puts c j outs firsts seen
+    → OutsFine v l n puts c (record { handouts = outs; different = firsts }) seen
 outs_told v l n puts c j outs firsts seen e T =
-    subst (λ (m : ℕ). OutsBy v l m puts c (record { fine = true; handouts = outs; different = firsts }) seen) e
-    (record { fine = sym T.fine; handouts = λ _. T.outs_are; different = λ _. T.firsts_are; marked = λ _. T.marks })
+    subst (λ (m : ℕ). OutsFine v l m puts c (record { handouts = outs; different = firsts }) seen) e
+    (record { fine = T.fine; handouts = T.outs_are; different = T.firsts_are; marked = T.marks })

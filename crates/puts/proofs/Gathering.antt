@@ -2,17 +2,19 @@
 use mathlib.Core.Path.{◌≡◌, refl, sym, ap, ◌∙◌, subst}
 use mathlib.Core.Bool.{Bool, true, false, not}
 use mathlib.Core.List.{List}
-use Prim.Native.Nat.{ℕ, ◌+◌, ◌<◌}
+use Prim.Native.Nat.{ℕ, ◌+◌, ◌≤◌, ◌<◌}
 use native.Mathlib.Omega.{arith}
-use lib.Dec.{ltb}
-use lib.ListN.{length, get_or, set}
+use lib.Dec.{eqb, ltb}
+use lib.ListN.{length, get_or, set, take}
+use Rattle.std.proofs.lemmas.List.{get_or-take, length-take-le}
 use lib.Seq.{get_or-set_same, get_or-set_other}
-use borrow.Author.Tests.{ltb-true, ltb-false}
+use borrow.Author.Tests.{ltb-true, ltb-false, eqb-true, eq-eqb}
 use Rattle.model.specs.Tests.{◌or◌}
-use Rattle.model.specs.Counts.{entry_at, is_kind}
+use Rattle.model.specs.Counts.{entry_at, is_kind, some_below}
+use Rattle.model.proofs.Below.{some_at}
 use Rattle.judgement.specs.Judgement.{all_below, numbered, rises}
 use Rattle.puts.specs.Puts.{Rising, Gathered}
-use Rattle.judgement.proofs.All.{all_at}
+use Rattle.judgement.proofs.All.{all_at, some_found}
 
 pub clash : true ≡ false → ⊥
 clash e = let z : ◌≡◌ {A = ℕ} 0 1 = cc in omega (arith, z)
@@ -29,7 +31,11 @@ module _ (v : ℕ) (l : List ℕ) where
       }
 
   module _ (j : ℕ) (puts : List ℕ) (c : ℕ) (G : Gathered v l j puts c) where
-    old : (i : ℕ) (y : Bool) → ltb i j ≡ y → i < j + 1 → is_kind v l 1 j ≡ false → is_kind v l 1 i ≡ true → (k : ℕ) × (k < c) × (get_or puts k 0 ≡ i)
+    -- the finished put at place i is one of them
+    pub place_of : (i : ℕ) → i < j → is_kind v l 1 i ≡ true → (k : ℕ) × (k < c) × (get_or puts k 0 ≡ i)
+    place_of i h e = let g = some_found (λ (k : ℕ). eqb (get_or puts k 0) i) c (G.all i h e) in (g.0, g.1, eqb-true _ _ g.2)
+
+    old : (i : ℕ) (y : Bool) → ltb i j ≡ y → i < j + 1 → is_kind v l 1 j ≡ false → is_kind v l 1 i ≡ true → some_below (λ k. eqb (get_or puts k 0) i) c ≡ true
     old i true e h n p = G.all i (ltb-true i j e) p
     old i false e h n p =
         let d = ltb-false i j e in
@@ -76,12 +82,15 @@ module _ (v : ℕ) (l : List ℕ) where
           (let t : i < c = omega (arith, h, q) in
           let a = before i t in let b = here in let r = G.placed i t in omega (arith, a, b, r))
 
-      new : (i : ℕ) (y : Bool) → ltb i j ≡ y → i < j + 1 → is_kind v l 1 i ≡ true → (k : ℕ) × (k < c + 1) × (get_or (set puts c j) k 0 ≡ i)
+      at_place : (i k : ℕ) → k < c + 1 → get_or (set puts c j) k 0 ≡ i → some_below (λ k. eqb (get_or (set puts c j) k 0) i) (c + 1) ≡ true
+      at_place i k h e = sym (some_at (λ (k : ℕ). eqb (get_or (set puts c j) k 0) i) (c + 1) k h refl (eq-eqb _ _ e))
+
+      new : (i : ℕ) (y : Bool) → ltb i j ≡ y → i < j + 1 → is_kind v l 1 i ≡ true → some_below (λ k. eqb (get_or (set puts c j) k 0) i) (c + 1) ≡ true
       new i true e h n =
-          let g = G.all i (ltb-true i j e) n in (g.0, (let a = g.1 in omega (arith, a)), before g.0 g.1 ∙ g.2)
+          let g = place_of i (ltb-true i j e) n in at_place i g.0 (let a = g.1 in omega (arith, a)) (before g.0 g.1 ∙ g.2)
       new i false e h n =
           let d = ltb-false i j e in
-          let q : j ≡ i = omega (arith, d, h) in (c, omega arith, here ∙ q)
+          let q : j ≡ i = omega (arith, d, h) in at_place i c (omega arith) (here ∙ q)
 
       pub gathered_put : Gathered v l (j + 1) (set puts c j) (c + 1)
       gathered_put =
@@ -110,3 +119,24 @@ module _ (v : ℕ) (l : List ℕ) where
       let t : i < c = omega (arith, h, g) in
       rise (get_or puts i 0) (get_or puts k 0) (numbers_a_put _ (G.put i t)) (numbers_a_put _ (G.put k g)) (G.rowed i k h g)
       (all_at (rises v l) n (get_or puts k 0) R (G.placed k g))
+
+  -- the part of the room that was filled
+  module _ (n : ℕ) (room : List ℕ) (c : ℕ) (G : Gathered v l n room c) where
+    taken : (k : ℕ) → k < c → get_or (take c room) k 0 ≡ get_or room k 0
+    taken k h = get_or-take c room k 0 h
+
+    found_in : (i : ℕ) → (k : ℕ) × (k < c) × (get_or room k 0 ≡ i) → some_below (λ k. eqb (get_or (take c room) k 0) i) c ≡ true
+    found_in i g = sym (some_at (λ (k : ℕ). eqb (get_or (take c room) k 0) i) c g.0 g.1 refl (eq-eqb _ _ (taken g.0 g.1 ∙ g.2)))
+
+    gathered_taken : Gathered v l n (take c room) c
+    gathered_taken =
+        record {
+          few = G.few;
+          placed = λ k h. subst (λ (x : ℕ). x < n) (sym (taken k h)) (G.placed k h);
+          put = λ k h. ap (is_kind v l 1) (taken k h) ∙ G.put k h;
+          rowed = λ i k h g. let a = taken i (omega (arith, h, g)) in let b = taken k g in let r = G.rowed i k h g in omega (arith, a, b, r);
+          all = λ i h e. found_in i (place_of n room c G i h e);
+        }
+
+    pub gathered_whole : c ≤ length room → Gathered v l n (take c room) (length (take c room))
+    gathered_whole h = subst (λ (m : ℕ). Gathered v l n (take c room) m) (sym (length-take-le c room h)) gathered_taken

@@ -12,6 +12,7 @@ use Rattle.model.specs.Tasks.{same_task}
 use Rattle.model.specs.Counts.{entry_at, is_kind, some_below}
 use Rattle.model.proofs.Tests.{and_left, and_right, and_both}
 use Rattle.judgement.specs.Judgement.{finished_as}
+use Rattle.puts.proofs.Gathering.{place_of}
 use Rattle.puts.specs.Puts.{number_of_put, Rising, FoundBy, Gathered, RepeatsPut}
 
 pub none_below : (p : ℕ → Bool) (n : ℕ) → ((i : ℕ) → i < n → p i ≡ false) → some_below p n ≡ false
@@ -31,7 +32,7 @@ module _ (v : ℕ) (l : List ℕ) (n : ℕ) (puts : List ℕ) (c : ℕ) (G : Gat
   -- the finished put with the number of the k-th is the k-th
   pub same_put : (i k : ℕ) → i < n → is_kind v l 1 i ≡ true → k < c → (entry_at v l i).task.number ≡ number_of_put v l puts k → i ≡ get_or puts k 0
   same_put i k h p b q =
-      let g = G.all i h p in
+      let g = place_of v l n puts c G i h p in
       sym g.2 ∙ ap (λ (x : ℕ). get_or puts x 0)
       (one_place g.0 k g.1 b (ap (λ (x : ℕ). (entry_at v l x).task.number) g.2 ∙ q))
 
@@ -58,7 +59,7 @@ module _ (v : ℕ) (l : List ℕ) (n : ℕ) (puts : List ℕ) (c : ℕ) (G : Gat
       where
         clash : (i : ℕ) → i < j → is_kind v l 1 i ≡ true → (entry_at v l i).task.number ≡ (entry_at v l j).task.number → ⊥
         clash i h p q =
-            let g = G.all i (omega (arith, h, within)) p in
+            let g = place_of v l n puts c G i (omega (arith, h, within)) p in
             eqb-false _ _ (F.none refl g.0 g.1) (ap (λ (x : ℕ). (entry_at v l x).task.number) g.2 ∙ q)
 
     module _ (k : ℕ) (b : k < c) (e : number_of_put v l puts k ≡ (entry_at v l j).task.number) where

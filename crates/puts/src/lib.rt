@@ -3,126 +3,106 @@
 
 #![tactic(auto)]
 
-ghost use Rattle.std.specs.Prelude.{◌≡◌, ℕ, ◌+◌, ◌*◌, ◌≤◌, ◌<◌, length, get_or};
-ghost use Rattle.judgement.specs.Judgement.{words_of, entry_bytes};
-ghost use Rattle.puts.specs.Puts.{Rising, FoundBy, Gathered, RepeatsPut};
+ghost use Rattle.std.specs.Prelude.{◌≡◌, true, ℕ, ◌+◌, ◌*◌, ◌≤◌, ◌<◌, length, get_or};
+ghost use Rattle.judgement.specs.Judgement.{words_of, all_below, rises};
+ghost use Rattle.puts.specs.Puts.{number_of_put, Rising, Gathered, Found, Repeated};
 
-// Which of the first `count` finished puts has the number, found by halving, for their numbers rise; `count` if none has.
-fn find(words: usize, log: &[u8], puts: &[u32], count: usize, number: u32) -> usize
-    requires count_in_bounds { count ≤ length puts.now }
-    requires by_index { (k : ℕ) → k < count → entry_bytes words * (get_or puts.now k 0 + 1) ≤ length log.now }
-    requires rising { Rising words (words_of log.now) puts.now count }
-    ensures { FoundBy words (words_of log.now) puts.now count number result }
-{
-    let mut low: usize = 0;
-    let mut high = count;
-    while low < high {
-        let middle = low + (high - low) / 2;
-        let here = judgement::number_at(words, log, puts[middle] as usize);
-        if here == number {
-            return middle;
+use judgement::{EntryKind, Log};
+use std::cmp::Ordering;
+
+// The finished puts of a log whose put numbers rise: their places among its entries, in order.
+#[derive(Clone, Copy)]
+pub struct Puts<'a> {
+    pub log: Log<'a>,
+    pub places: &'a [u32],
+    pub ghost gathered: { Gathered log.words (words_of log.bytes.now) log.entries places.now (length places.now) },
+    pub ghost rising: { Rising log.words (words_of log.bytes.now) places.now (length places.now) },
+}
+
+impl<'a> Puts<'a> {
+    // Those of the log, at most as many as it has entries, are written to `room`.
+    pub fn gather(log: Log<'a>, room: &'a mut [u32]) -> Self
+        requires { (log.entries ≤ length room.old) × (all_below (rises log.words (words_of log.bytes.now)) log.entries ≡ true) }
+        ensures { result.log ≡ log.entry }
+    {
+        let mut count = 0;
+        for j in 0..log.entries {
+            if log.is_kind(EntryKind::Finished, j) {
+                room[count] = j as u32;
+                count += 1;
+            }
         }
-        if here < number {
-            low = middle + 1;
-        } else {
-            high = middle;
-        }
-    }
-    count
-}
-
-// Where each of the first `count` finished puts may be found, by its number's remainder: a hint, the last one's where several
-// share it.
-pub fn note_hints(words: usize, log: &[u8], puts: &[u32], count: usize, hints: &mut [u32])
-    requires count_in_bounds { (count ≤ length puts.now) × (count ≤ 4096) × (length hints.old ≡ 4096) }
-    requires by_index { (k : ℕ) → k < count → entry_bytes words * (get_or puts.now k 0 + 1) ≤ length log.now }
-    ensures { length hints.new ≡ 4096 }
-{
-    let mut k: usize = 0;
-    while k < count {
-        let number = judgement::number_at(words, log, puts[k] as usize);
-        let at = (number % 4096) as usize;
-        hints[at] = k as u32;
-        k += 1;
-    }
-}
-
-fn index(word: u32) -> usize
-    ensures { result ≡ word }
-{
-    word as usize
-}
-
-// As `find`, where the hint is right without halving. Any hints will do: what one says is read again at its place.
-pub fn look_up(
-    words: usize,
-    log: &[u8],
-    puts: &[u32],
-    count: usize,
-    hints: &[u32],
-    number: u32,
-) -> usize
-    requires count_in_bounds { (count ≤ length puts.now) × (length hints.now ≡ 4096) }
-    requires by_index { (k : ℕ) → k < count → entry_bytes words * (get_or puts.now k 0 + 1) ≤ length log.now }
-    requires rising { Rising words (words_of log.now) puts.now count }
-    ensures { FoundBy words (words_of log.now) puts.now count number result }
-{
-    let at = (number % 4096) as usize;
-    let hint = index(hints[at]);
-    if hint < count {
-        let here = judgement::number_at(words, log, puts[hint] as usize);
-        if here == number {
-            return hint;
+        Puts {
+            log,
+            places: &room[..count],
         }
     }
-    find(words, log, puts, count, number)
 }
 
-// The places of the finished puts, in order; how many there are.
-pub fn gather(words: usize, log: &[u8], entries: usize, puts: &mut [u32]) -> usize
-    requires { (entry_bytes words * entries ≤ length log.now) × (entries ≤ length puts.old) × (entries ≤ 4096) }
-    ensures { Gathered words (words_of log.now) entries puts.new result }
-{
-    let mut count: usize = 0;
-    let mut j: usize = 0;
-    while j < entries {
-        let kind = judgement::kind_at(words, log, j);
-        if kind != 1 {
-            j += 1;
-            continue;
+impl Puts<'_> {
+    // The entry of the `k`-th of them.
+    fn entry(&self, k: usize) -> usize
+        requires { k < length self.now.places.now }
+        ensures { (result ≡ get_or self.now.places.now k 0) × (result < self.now.log.entries) }
+    {
+        self.places[k] as usize
+    }
+
+    // Its number.
+    fn number(&self, k: usize) -> u32
+        requires { k < length self.now.places.now }
+        ensures { result ≡ number_of_put self.now.log.words (words_of self.now.log.bytes.now) self.now.places.now k }
+    {
+        self.log.number_at(self.entry(k))
+    }
+
+    // Which of them has the number, found by halving, for their numbers rise. The library's search would call a closure with any
+    // word, where only places of entries can be read.
+    fn find(&self, number: u32) -> Option<usize>
+        ensures { Found self.now.log.words (words_of self.now.log.bytes.now) self.now.places.now number result }
+    {
+        let mut low = 0;
+        let mut high = self.places.len();
+        while low < high {
+            let middle = low + (high - low) / 2;
+            match self.number(middle).cmp(&number) {
+                Ordering::Equal => return Some(middle),
+                Ordering::Less => low = middle + 1,
+                Ordering::Greater => high = middle,
+            }
         }
-        puts[count] = j as u32;
-        count += 1;
-        j += 1;
+        None
     }
-    count
-}
 
-// Which of the finished puts hand-out `j` repeats, number and payload, if that put stands before it; `count` if none.
-pub fn repeated(
-    words: usize,
-    log: &[u8],
-    entries: usize,
-    puts: &[u32],
-    count: usize,
-    j: usize,
-) -> usize
-    requires entries_in_bounds { (entry_bytes words * entries ≤ length log.now) × (entries ≤ 4096) × (count ≤ length puts.now) × (j < entries) × (words ≤ 4) }
-    requires gathered { Gathered words (words_of log.now) entries puts.now count }
-    requires rising { Rising words (words_of log.now) puts.now count }
-    ensures { RepeatsPut words (words_of log.now) puts.now count j result }
-{
-    let k = find(words, log, puts, count, judgement::number_at(words, log, j));
-    if k == count {
-        return count;
+    // Where each of them may be found, by its number's remainder: a hint, the last one's where several share it.
+    pub fn note_hints(&self, hints: &mut [u32; 4096]) {
+        for k in 0..self.places.len() {
+            hints[(self.number(k) % 4096) as usize] = k as u32;
+        }
     }
-    let place = puts[k] as usize;
-    let early = j <= place;
-    if early {
-        return count;
+
+    // As `find`, where the hint is right without halving. Any hints will do: what one says is read again at its place.
+    pub fn look_up(&self, hints: &[u32; 4096], number: u32) -> Option<usize>
+        ensures { Found self.now.log.words (words_of self.now.log.bytes.now) self.now.places.now number result }
+    {
+        let hint = hints[(number % 4096) as usize] as usize;
+        if hint < self.places.len() && self.number(hint) == number {
+            return Some(hint);
+        }
+        self.find(number)
     }
-    if !judgement::same_task(words, log, place, j) {
-        return count;
+
+    // Which of them hand-out `j` repeats, number and payload, if that put stands before it.
+    pub fn repeated(&self, j: usize) -> Option<usize>
+        requires { j < self.now.log.entries }
+        ensures { Repeated self.now.log.words (words_of self.now.log.bytes.now) self.now.places.now j result }
+    {
+        let k = self.find(self.log.number_at(j))?;
+        let put = self.entry(k);
+        let early = j <= put;
+        if early || !self.log.same_task(put, j) {
+            return None;
+        }
+        Some(k)
     }
-    k
 }
