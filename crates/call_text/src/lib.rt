@@ -7,7 +7,6 @@
 ghost use Rattle.std.specs.Prelude.{◌≡◌, ◌+◌, ◌≤◌, ◌<◌, length};
 
 use model::{Payload, Setup};
-use text::Value;
 
 // A call: operation, worker and payload as `plays` has them.
 #[derive(Clone, Copy)]
@@ -174,7 +173,7 @@ fn numbers(line: &[u8], end: usize) -> Values
         }
         let from = at + 1;
         let to = next_end(line, at);
-        let Value::Of(x) = text::number(&line[from..to]) else {
+        let Some(x) = text::number(&line[from..to]) else {
             return Values { count: MANY, v };
         };
         v[n] = x;
@@ -327,7 +326,7 @@ fn begin(line: &[u8], end: usize) -> ListLine
     }
     let from = end + 1;
     let to = next_end(line, end);
-    let Value::Of(worker) = text::number(&line[from..to]) else {
+    let Some(worker) = text::number(&line[from..to]) else {
         return ListLine::Bad;
     };
     if to == line.len() {
@@ -386,7 +385,7 @@ fn of_queue(queue: u32, line: ListLine) -> ListLine {
 // A line that begins with a number is of that queue.
 pub fn parse(line: &[u8]) -> ListLine {
     let end = first_end(line);
-    let Value::Of(queue) = text::number(&line[..end]) else {
+    let Some(queue) = text::number(&line[..end]) else {
         return unnumbered(line);
     };
     if end == line.len() {

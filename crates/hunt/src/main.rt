@@ -10,7 +10,6 @@ use model::{Answer, Command, Operation, Payload, Refusal, Setup};
 use orders::Verdict;
 use queues::Bench;
 use std::io::{Eprint, Error, Print, Read, Result, Stderr, Stdin, Stdout};
-use text::Value;
 
 // The program's standard streams.
 #[derive(Clone, Copy)]
@@ -137,12 +136,6 @@ fn spaces(line: &[u8]) -> usize {
     n
 }
 
-fn first_end(line: &[u8]) -> usize
-    ensures { result ≤ length line.now }
-{
-    text::word_end(line, 0)
-}
-
 fn numbers_are(count: u32, first: u32, second: u32) -> Pair {
     Pair {
         count,
@@ -159,9 +152,9 @@ fn pair_at(line: &[u8], at: usize) -> Pair
         return numbers_are(0, 0, 0);
     }
     let from = at + 1;
-    let to = next_end(line, at);
+    let to = text::word_end(line, from);
     let one = text::number(&line[from..to]);
-    let Value::Of(first) = one else {
+    let Some(first) = one else {
         return numbers_are(3, 0, 0);
     };
     if to == line.len() {
@@ -169,18 +162,10 @@ fn pair_at(line: &[u8], at: usize) -> Pair
     }
     let start = to + 1;
     let two = text::number(&line[start..]);
-    let Value::Of(second) = two else {
+    let Some(second) = two else {
         return numbers_are(3, 0, 0);
     };
     numbers_are(2, first, second)
-}
-
-// Where the word ends that stands behind the one that ends at `at`.
-fn next_end(line: &[u8], at: usize) -> usize
-    requires { at < length line.now }
-    ensures { (at < result) × (result ≤ length line.now) }
-{
-    text::word_end(line, at + 1)
 }
 
 fn bad(wish: Wish) -> Wish {
@@ -260,7 +245,7 @@ fn with_more(wish: Wish, line: &[u8]) -> Wish {
     if text::same(line, b"take") {
         return with_operation(wish, false);
     }
-    let end = first_end(line);
+    let end = text::word_end(line, 0);
     let p = pair_at(line, end);
     if p.count == 2 {
         if text::same(&line[..end], b"steals") {
