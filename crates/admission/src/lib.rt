@@ -11,6 +11,8 @@ ghost use Rattle.model.specs.Calls.{kind_of, linked_of, right_hand, numbers_left
 
 use model::{Kind, Operation};
 
+// Fresh is told any number as its kind, and the definitions `admitted`, `kind_of` and `linked_of` look at it one by one: there is no
+// conversion that fails, since a bench is made apart from the test of its numbers.
 pub fn kind_ok(kind: u32) -> bool
     ensures { result ≡ (ltb 0 kind and leb kind 5) }
 {

@@ -20,7 +20,7 @@ fn anchor_of(head: u32, count: u32, tag: u32) -> Anchor
     Anchor { head, count, tag }
 }
 
-// The store of such an anchor, by a put and by a hand-out.
+// The store of such an anchor, by a put and by a hand-out: two cases of `Store`, so two functions of a line each.
 fn put_of(head: u32, count: u32, tag: u32) -> Store
     ensures { result ≡ StorePut (record { head = head; count = count; tag = tag }) }
 {

@@ -9,7 +9,7 @@ ghost use Rattle.answers.specs.Entries.{as_defined};
 
 use model::{Answer, Refusal, Task};
 
-// An entry of the log.
+// An entry of the log. Its kind is a number, 0 where there is no entry, as the definition `entry_of` and the log's words have it.
 #[derive(Clone, Copy)]
 pub struct Entry {
     pub kind: u32,
@@ -17,7 +17,8 @@ pub struct Entry {
     pub task: Task,
 }
 
-// A refusal's number in document 01's table.
+// A refusal's number in document 01's table. A function, not a conversion: the face names it, and two numbers of the table are the
+// judge's.
 pub fn number_of(why: Refusal) -> u32
     ensures { result ≡ number_of why }
 {

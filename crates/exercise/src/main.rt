@@ -1,6 +1,7 @@
 // Plays through the public calls what document 01 names and does not prove by itself: each refusal that
 // a library call gives, their order, the last words of the log, and foreign states, each beside the
-// nearest one that is allowed. One line for each call: what was tried, and what the bench answered.
+// nearest one that is allowed. One line for each call: what was tried, and what the bench answered. A kind is the number that fresh is
+// told, as unknown ones are tried too.
 // Uses `queues` and `model`. It is a program, and no crate uses it.
 
 #![tactic(auto)]

@@ -26,6 +26,8 @@ fn is_full(kind: Kind, size: u32, read: Anchor) -> bool
     }
 }
 
+// The three reads at line 1 and the three next words stay three functions each, as the definitions are: each has lines of its own,
+// and one for all would be told both of them by its caller.
 // Put 1: the anchor is read whole; FIFO's put 1 reads the head, its put 2 the tail.
 pub fn put_read(kind: Kind, anchor: Anchor, task: Task) -> Line
     ensures { result ≡ put_read kind anchor task }

@@ -1,5 +1,7 @@
 // What one line of figures 1, 2 and 3 does, as two pure functions: the line that its worker comes to (next_line), and what it does
-// beside, an action (decide): its claim, its stores and its answer. Landing the stores is another crate's.
+// beside, an action (decide): its claim, its stores and its answer. Landing the stores is another crate's. What a line reads is told one
+// by one, as the definition `line_step` has it. What X1 asks of a queue stands in three contracts, and in no type: a queue is a part of
+// the caller's state, in which any numbers come in.
 // Uses `model`, `tasks`, `anchors`, `figures` and `slots`. It is used by `machine` and `owner`.
 
 #![tactic(auto, using(model::proofs::Tests::tests))]

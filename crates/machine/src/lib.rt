@@ -183,7 +183,8 @@ fn links(linked: bool, line: Line) -> bool
 
 // A step of a worker that is at `line` and reads `queue` and the store, past the test of the limits: refusals 6 and 8, then the
 // line, where X1 finds `room`. Its stores land at once, and it is committed or refused 11; or, where they are to join the waiting line, its action is
-// handed back and nothing is done. Both go through this one function: a compiler then has one place for the line's code.
+// handed back and nothing is done. Both go through this one function: a compiler then has one place for the line's code. What it reads
+// is told part by part: a caller keeps its bench in place, and a struct of these parts would be a second one, copied at each step.
 pub fn step_in(
     room: Room,
     kind: Kind,

@@ -1,5 +1,7 @@
 // Where an index lies in the store: which index a put, a take and a steal name, which slot of an array it has, which words of
-// the store that slot is; and the room for a larger array. `read` is the anchor as a worker read it at line 1.
+// the store that slot is; and the room for a larger array. `read` is the anchor as a worker read it at line 1. A slot is told by the
+// kind, the payload words, the queue and a place of its directory, one by one, as in the definitions (`slot`, `word_of`): each contract
+// would have to say of which of these a struct is made.
 // Uses `model` and `tasks`. It is used by `lines`, `waiting`, `limits`, `opening`, `events`, `machine`, `owner`, `plots`,
 // `rooms`, `yard_calls` and `queues`.
 

@@ -20,7 +20,7 @@ fn claim_stage(why: Growth) -> u32
     }
 }
 
-// Where a worker stands in its operation: the numbers are those of the definition.
+// Where a worker stands in its operation: the numbers are those of the definition `stage`, which compares them by order.
 pub fn stage(line: Line) -> u32
     ensures { result ≡ stage line }
 {

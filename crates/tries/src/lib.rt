@@ -1,5 +1,7 @@
 // What the exercises share: states to try, the calls that try them, and what is printed. A state is one that an accepted fresh
-// makes, or such a one with something replaced. Each try has memory of its own: a store of 30 words and a log of 8.
+// makes, or such a one with something replaced. Each try has memory of its own: a store of 30 words and a log of 8. The stream and the
+// words that say what is tried come first in each: the programs that use them have tries of their own, which methods of a type from
+// here could not be.
 // Uses `queues` and `model`. It is used by `exercise` and `exercise_stores`.
 
 #![tactic(auto)]
