@@ -8,7 +8,6 @@ ghost use Rattle.judgement.specs.Judgement.{words_of, all_below, rises};
 ghost use Rattle.puts.specs.Puts.{number_of_put, Rising, Gathered, Found, Repeated};
 
 use judgement::{EntryKind, Log};
-use std::cmp::Ordering;
 
 // The finished puts of a log whose put numbers rise: their places among its entries, in order.
 #[derive(Clone, Copy)]
@@ -65,10 +64,14 @@ impl Puts<'_> {
         let mut high = self.places.len();
         while low < high {
             let middle = low + (high - low) / 2;
-            match self.number(middle).cmp(&number) {
-                Ordering::Equal => return Some(middle),
-                Ordering::Less => low = middle + 1,
-                Ordering::Greater => high = middle,
+            let here = self.number(middle);
+            if here == number {
+                return Some(middle);
+            }
+            if here < number {
+                low = middle + 1;
+            } else {
+                high = middle;
             }
         }
         None
