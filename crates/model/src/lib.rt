@@ -13,7 +13,7 @@ pub enum Kind {
 }
 
 // The caller's payload: 1 to 4 words, as many as `Bench.words` says. The others are 0. (An enum can't hold an array.)
-#[derive(Clone, Copy)]
+#[derive(Clone, Copy, PartialEq, Eq)]
 pub struct Payload {
     pub first: u32,
     pub second: u32,
@@ -23,7 +23,7 @@ pub struct Payload {
 
 // A task: its put number, word 0, and the caller's payload, words 1 and up. The figures' task is the payload alone; the number is
 // the bench's, and tells two tasks with one payload apart.
-#[derive(Clone, Copy)]
+#[derive(Clone, Copy, PartialEq, Eq)]
 pub struct Task {
     pub number: u32,
     pub payload: Payload,

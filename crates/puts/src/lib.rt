@@ -55,8 +55,8 @@ impl Puts<'_> {
         self.log.number_at(self.entry(k))
     }
 
-    // Which of them has the number, found by halving, for their numbers rise. The library's search would call a closure with any
-    // word, where only places of entries can be read.
+    // Which of them has the number, found by halving, for their numbers rise. The library's `binary_search_by` is no plainer here: its
+    // closure must take any word, and only places of entries can be read. A `match` on `cmp` makes the judge a quarter slower.
     fn find(&self, number: u32) -> Option<usize>
         ensures { Found self.now.log.words (words_of self.now.log.bytes.now) self.now.places.now number result }
     {
@@ -95,7 +95,9 @@ impl Puts<'_> {
         self.find(number)
     }
 
-    // Which of them hand-out `j` repeats, number and payload, if that put stands before it.
+    // Which of them hand-out `j` repeats, number and payload, if that put stands before it. It stands apart in the program: the largest
+    // log is judged in 403 microseconds so, and in 467 where it is inlined.
+    #[inline(never)]
     pub fn repeated(&self, j: usize) -> Option<usize>
         requires { j < self.now.log.entries }
         ensures { Repeated self.now.log.words (words_of self.now.log.bytes.now) self.now.places.now j result }
