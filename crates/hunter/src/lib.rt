@@ -1,6 +1,6 @@
 // The hunt for an order of steps with the most repeated hand-outs: the orders are played one after the other, each from a fresh
 // bench, until all are played out or the budget of steps is spent.
-// Uses `model`, `theorems`, `orders`, `turns`, `rounds`, `slots`, `state`, `memory`, `opening` and `handouts`. It is used by `hunt`.
+// Uses `model`, `theorems`, `orders`, `turns`, `rounds`, `slots`, `state`, `memory`, `opening`, `judgement` and `handouts`. It is used by `hunt`.
 
 #![tactic(auto)]
 
@@ -16,6 +16,8 @@ ghost use Rattle.turns.proofs.Fits.{Fits};
 ghost use Rattle.rounds.specs.Rounds.{plan_of};
 ghost use Rattle.hunter.specs.Hunter.{steals, start_of, RoundBy, reported};
 
+use handouts::{HandOuts, Log};
+use judgement::EntryKind;
 use model::{Bench, Refusal, Setup};
 use orders::Verdict;
 
@@ -57,8 +59,9 @@ fn repeats_of(words: u32, written: u32, log: &[u32], seen: &mut [u32; 4096]) -> 
     let each = 3 + words as u64;
     let all = written as u64;
     let n = (all / each) as u32;
-    let outs = handouts::entries_of(words, log, 2, n);
-    let different = handouts::different_out(words, log, seen, n);
+    let log = Log { words, memory: log };
+    let outs = log.entries_of(EntryKind::HandOut, n);
+    let different = HandOuts::of(log, n, seen).different;
     less(outs, different)
 }
 

@@ -76,7 +76,7 @@ impl Log<'_> {
         requires { (entry < self.now.entries) × (other < self.now.entries) }
         ensures { result ≡ same_task (entry_at self.now.words (words_of self.now.bytes.now) entry).task (entry_at self.now.words (words_of self.now.bytes.now) other).task }
     {
-        for k in 0..=self.words {
+        for k in 0..self.words + 1 {
             if self.word_of(entry, 2 + k) != self.word_of(other, 2 + k) {
                 return false;
             }

@@ -8,7 +8,6 @@ ghost use Rattle.judgement.specs.Judgement.{words_of, all_below, rises};
 ghost use Rattle.puts.specs.Puts.{number_of_put, Rising, Gathered, Found, Repeated};
 
 use judgement::{EntryKind, Log};
-use std::cmp::Ordering;
 
 // The finished puts of a log whose put numbers rise: their places among its entries, in order.
 #[derive(Clone, Copy)]
@@ -56,8 +55,8 @@ impl Puts<'_> {
         self.log.number_at(self.entry(k))
     }
 
-    // Which of them has the number, found by halving, for their numbers rise. The library's search would call a closure with any
-    // word, where only places of entries can be read.
+    // Which of them has the number, found by halving, for their numbers rise. The library's `binary_search_by` is no plainer here: its
+    // closure must take any word, and only places of entries can be read. A `match` on `cmp` makes the judge a quarter slower.
     fn find(&self, number: u32) -> Option<usize>
         ensures { Found self.now.log.words (words_of self.now.log.bytes.now) self.now.places.now number result }
     {
@@ -65,10 +64,14 @@ impl Puts<'_> {
         let mut high = self.places.len();
         while low < high {
             let middle = low + (high - low) / 2;
-            match self.number(middle).cmp(&number) {
-                Ordering::Equal => return Some(middle),
-                Ordering::Less => low = middle + 1,
-                Ordering::Greater => high = middle,
+            let here = self.number(middle);
+            if here == number {
+                return Some(middle);
+            }
+            if here < number {
+                low = middle + 1;
+            } else {
+                high = middle;
             }
         }
         None
@@ -92,7 +95,9 @@ impl Puts<'_> {
         self.find(number)
     }
 
-    // Which of them hand-out `j` repeats, number and payload, if that put stands before it.
+    // Which of them hand-out `j` repeats, number and payload, if that put stands before it. It stands apart in the program: the largest
+    // log is judged in 403 microseconds so, and in 467 where it is inlined.
+    #[inline(never)]
     pub fn repeated(&self, j: usize) -> Option<usize>
         requires { j < self.now.log.entries }
         ensures { Repeated self.now.log.words (words_of self.now.log.bytes.now) self.now.places.now j result }

@@ -1,5 +1,6 @@
 use mathlib.Core.Path.{◌≡◌, sym, ap, ◌∙◌}
-use Prim.Native.Nat.{ℕ}
+use Prim.Native.Nat.{ℕ, ◌+◌, ◌/◌}
+use Rattle.handouts.specs.declared.Log.{Log}
 use Rattle.model.specs.declared.Counts.{Counts}
 use Rattle.model.specs.World.{World}
 use Rattle.model.specs.Stores.{Shared}
@@ -16,4 +17,12 @@ unfolding counts_of
 counted W f h d w l r ef eh ed ew el er = rw (ef, eh, ed, ew, el, er)
 
 pub returns : goal.returns
-returns c = let a = c.args in counted _ _ _ _ _ _ _ c.entries_of-finished.ensures c.entries_of-handouts.ensures c.different_out-different.ensures.value (c.window_size-window.ensures ∙ ap (λ (S : Shared). tasks a.bench.kind S.queue.anchor) (sym (reads_memory (lent a.bench a.store.now a.log.now) c.requires))) c.lost_of-lost.ensures c.restarts_of-restarts.ensures
+returns c =
+    let a = c.args in let v = a.bench.words in let l = a.log.now in let o = c.of-outs.result in
+    let e : c.from.result / (3 + c.from-2.result) ≡ a.bench.written / (3 + v) = ap (λ (x : ℕ). x / (3 + c.from-2.result)) c.from.ensures ∙ ap (λ (x : ℕ). a.bench.written / (3 + x)) c.from-2.ensures in
+    let n : o.entries ≡ a.bench.written / (3 + v) = c.of-outs.ensures.of.1 ∙ e in
+    counted _ _ _ _ _ _ _ (c.entries_of.ensures ∙ ap (count_below (is_kind v l 1)) e) (c.entries_of-2.ensures ∙ ap (count_below (is_kind v l 2)) e)
+    (o.counted ∙ ap (λ (g : Log). count_below (out_first g.words g.memory.now) o.entries) c.of-outs.ensures.of.0 ∙ ap (count_below (out_first v l)) n)
+    (c.size.ensures ∙ ap (λ (S : Shared). tasks a.bench.kind S.queue.anchor) (sym (reads_memory (lent a.bench a.store.now l) c.requires)))
+    (c.lost.ensures ∙ ap (λ (g : Log). count_below (is_lost (lent a.bench a.store.now g.memory.now) o.entries) o.entries) c.of-outs.ensures.of.0 ∙ ap (λ (k : ℕ). count_below (is_lost (lent a.bench a.store.now l) k) k) n)
+    c.restarts_of.ensures

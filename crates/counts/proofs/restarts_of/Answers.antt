@@ -15,9 +15,15 @@ none : (f : ℕ → ℕ) → 0 ≡ sum_below f 0
 unfolding sum_below
 none f = refl
 
-pub loop-i-init : goal.loop-i-init
-loop-i-init c = (omega arith, omega arith, none _)
+pub loop-n-init : goal.loop-n-init
+loop-n-init c = (omega arith, none _)
 
-pub loop-i-preserved : goal.loop-i-preserved
-loop-i-preserved c = let l = c.loop-i in
-    (omega arith, omega (arith, c.wide-n.ensures.1), ap (λ (k : ℕ). l.sum + k) c.wide-n.ensures.0 ∙ ap (λ (k : ℕ). k + restarts_of c.args.each l.i) l.invariant.2 ∙ added (restarts_of c.args.each) l.i)
+pub overflow_add-sum : goal.overflow_add-sum
+overflow_add-sum c = let l = c.loop-n in let t = c.loop-n-test.true in omega (arith, l.invariant.0, t, c.from-sum.ensures, c.loop-n-test.element_fits)
+
+pub loop-n-preserved : goal.loop-n-preserved
+loop-n-preserved c = let l = c.loop-n in
+    (omega (arith, l.invariant.0, c.from-sum.ensures, c.loop-n-test.element_fits), ap (λ (k : ℕ). l.sum + k) c.from-sum.ensures ∙ ap (λ (k : ℕ). k + restarts_of c.args.each l.n-index) l.invariant.1 ∙ added (restarts_of c.args.each) l.n-index)
+
+pub returns : goal.returns
+returns c = let l = c.loop-n in let z = c.loop-n-test.false in let y = l.auto.n-index-end in l.invariant.1 ∙ ap (sum_below (restarts_of c.args.each)) (omega (arith, z, y))

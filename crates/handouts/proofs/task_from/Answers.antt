@@ -7,4 +7,4 @@ use Rattle.handouts.proofs.task_from.Goals as goal
 
 pub returns : goal.returns
 returns c = let a = c.args in
-    task_is a.words (λ k. get_or a.memory.now (a.at + k) 0) _ _ _ _ _ (c.word_at-number.ensures ∙ ap (λ (n : ℕ). get_or a.memory.now n 0) (omega arith)) c.payload_at-first.ensures c.payload_at-second.ensures c.payload_at-third.ensures c.payload_at-fourth.ensures
+    task_is a.words (λ k. get_or a.memory.now (a.at + k) 0) _ _ _ _ _ (c.word_at.ensures ∙ ap (λ (n : ℕ). get_or a.memory.now n 0) (omega arith)) c.payload_at.ensures c.payload_at-2.ensures c.payload_at-3.ensures c.payload_at-4.ensures

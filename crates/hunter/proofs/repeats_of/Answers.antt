@@ -1,6 +1,12 @@
-use mathlib.Core.Path.{refl}
+use mathlib.Core.Path.{refl, ap, ◌∙◌}
+use Rattle.model.specs.Counts.{count_below, out_first}
+use Rattle.handouts.specs.declared.Log.{Log}
 use Rattle.hunter.proofs.Sums.{repeats_from}
 use Rattle.hunter.proofs.repeats_of.Goals as goal
 
-pub returns : goal.returns
-returns c = record { value = λ W e f g. repeats_from W _ _ _ _ _ _ _ e f g refl c.entries_of-outs.ensures c.different_out-different.ensures.value c.less.ensures; seen_len = c.different_out-different.ensures.seen.long }
+pub returns-clause-value : goal.returns-clause-value
+returns-clause-value c W e f g =
+    let o = c.of-different.result in let i = c.of-different.ensures.of in
+    repeats_from W _ _ _ _ _ _ _ e f g refl c.entries_of-outs.ensures
+    (o.counted ∙ ap (λ (g : Log). count_below (out_first g.words g.memory.now) o.entries) i.0 ∙ ap (count_below (out_first c.args.words c.args.log.now)) i.1)
+    c.less.ensures

@@ -4,14 +4,14 @@ use mathlib.Core.Path.{sym, ap, subst, ◌∙◌}
 use Prim.Native.Nat.{ℕ}
 use lib.ListN.{get_or}
 use native.Mathlib.Omega.{arith}
-use Rattle.judgement.proofs.Entries.{Alike, alike, unlike, alike_next}
+use Rattle.judgement.proofs.Entries.{Alike, alike, unlike}
 
 pub returns-then-word_of : goal.returns-then-word_of
 returns-then-word_of c =
     let s = c.args.self.now in let l = words_of s.bytes.now in
     sym (unlike s.words l c.args.entry c.args.other c.loop-k.k (omega arith) s.narrow (λ e. c.if-word_of.true (c.word_of.ensures ∙ ap (λ n. get_or l n 0) (omega arith) ∙ e ∙ ap (λ n. get_or l n 0) (omega arith) ∙ sym c.word_of-in-loop-k.ensures)))
 
-pub returns-else-word_of : goal.returns-else-word_of
-returns-else-word_of c =
+pub returns : goal.returns
+returns c =
     let s = c.args.self.now in let l = words_of s.bytes.now in
-    sym (alike s.words l c.args.entry c.args.other (subst (λ (n : ℕ). Alike s.words l c.args.entry c.args.other n) (omega arith) (alike_next s.words l c.args.entry c.args.other c.loop-k.k c.loop-k.invariant (ap (λ n. get_or l n 0) (omega arith) ∙ sym c.word_of.ensures ∙ c.if-word_of.false ∙ c.word_of-in-loop-k.ensures ∙ ap (λ n. get_or l n 0) (omega arith)))))
+    sym (alike s.words l c.args.entry c.args.other (subst (λ (n : ℕ). Alike s.words l c.args.entry c.args.other n) (omega arith) c.loop-k.invariant))
