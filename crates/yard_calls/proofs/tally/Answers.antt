@@ -1,14 +1,14 @@
+use Rattle.std.specs.Prelude.{Ok, Err}
 use mathlib.Core.Path.{refl, ap, ◌∙◌}
 use Rattle.model.specs.declared.Bench.{Bench}
 use Rattle.model.specs.Calls.{lent, who_in}
 use Rattle.limits.proofs.Bounds.{bounds_of}
-use Rattle.state.specs.declared.Stop.TheVariants.{No, Why}
 use Rattle.yard_calls.proofs.Calling.{past_stop, inside_of, tallies}
 use Rattle.yard_calls.proofs.tally.Goals as goal
 
-pub returns-in-Why : goal.returns-in-Why
-returns-in-Why c = let a = c.args in
-    λ ls e. tallies a.yard a.queue a.store.now a.log.now ls e a.worker (Why _) c.stop-stop.ensures c.in-Why.is
+pub returns-in-Err : goal.returns-in-Err
+returns-in-Err c = let a = c.args in
+    λ ls e. tallies a.yard a.queue a.store.now a.log.now ls e a.worker (Err _) c.stop-stop.ensures c.in-Err.is
 
 pub bench_at-requires : goal.bench_at-requires
 bench_at-requires c = (past_stop c.args.yard c.args.queue c.args.store.now c.args.log.now c.stop-stop.ensures c.in_default.is).place
@@ -22,4 +22,4 @@ returns c = let a = c.args in
     λ ls e.
     c.tally_in.ensures a.store.now a.log.now
     ∙ ap (λ (b : Bench). who_in (lent b a.store.now a.log.now) a.worker) c.bench_at.ensures
-    ∙ tallies a.yard a.queue a.store.now a.log.now ls e a.worker No c.stop-stop.ensures c.in_default.is
+    ∙ tallies a.yard a.queue a.store.now a.log.now ls e a.worker (Ok tt) c.stop-stop.ensures c.in_default.is
