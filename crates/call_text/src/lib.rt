@@ -59,40 +59,6 @@ const STORE: u32 = 10300;
 
 const LOG: u32 = 20000;
 
-const NO_PAYLOAD: Payload = Payload {
-    first: 0,
-    second: 0,
-    third: 0,
-    fourth: 0,
-};
-
-impl Call {
-    // Operation, worker and payload, as `plays` has them.
-    pub fn words(self) -> [u32; 6] {
-        let (operation, payload) = match self.act {
-            Act::Step => (0, NO_PAYLOAD),
-            Act::Begin { operation } => match operation {
-                Operation::Put { payload } => (1, payload),
-                Operation::Take => (2, NO_PAYLOAD),
-                Operation::Steal => (3, NO_PAYLOAD),
-                Operation::Commit => (6, NO_PAYLOAD),
-            },
-            Act::DropLink => (4, NO_PAYLOAD),
-            Act::Drain => (5, NO_PAYLOAD),
-            Act::Ask => (7, NO_PAYLOAD),
-            Act::DropAsk => (8, NO_PAYLOAD),
-        };
-        [
-            operation,
-            self.worker,
-            payload.first,
-            payload.second,
-            payload.third,
-            payload.fourth,
-        ]
-    }
-}
-
 // The newline that ends the line which starts at `at`, if the buffer has it.
 pub fn line_end(buf: &[u8], at: usize) -> Option<usize>
     requires { at ≤ length buf.now }
