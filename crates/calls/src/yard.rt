@@ -25,7 +25,7 @@ fn is_missing(yard: Yard, queue: u32) -> bool {
 fn state_of(yard: Yard, queue: u32) -> model::Bench {
     let state = yard.state;
     let at = crate::least(queue as usize, 3);
-    state.benches[at]
+    state.plots[at].bench
 }
 
 fn make_queue(yard: Yard, setup: Setup, quota: Quota, store: &mut [u32]) -> YardReply {

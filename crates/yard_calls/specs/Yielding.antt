@@ -8,7 +8,7 @@ use Rattle.model.specs.declared.Refusal.TheVariants.{ForeignState, ShortQuota, N
 use Rattle.model.specs.declared.Answer.TheVariants.{Accepted, Refused}
 use Rattle.model.specs.Tests.{unless◌then◌else◌}
 use Rattle.model.specs.Calls.{first_length, admitted}
-use Rattle.model.specs.Yard.{words_left, yard_ok, Yields}
+use Rattle.model.specs.Yard.{with_bench, words_left, yard_ok, Yields}
 use Rattle.state.specs.declared.Returned.{Returned}
 use Rattle.plots.specs.Places.{the_ground}
 use Rattle.yard_calls.specs.declared.Yielded.{Yielded}
@@ -20,7 +20,7 @@ yielded r m ls = record { the_ground = the_ground r.yard m ls; answer = r.answer
 abbrev pub back_in : Yard → ℕ → Returned → Yielded
 back_in Y q d =
     record {
-      yard = record { benches = set Y.benches q d.bench; quotas = Y.quotas; made = Y.made };
+      yard = with_bench Y q d.bench;
       answer = d.answer;
     }
 
@@ -28,7 +28,7 @@ back_in Y q d =
 abbrev pub with_one : Yard → Bench → ℕ → Yielded
 with_one Y b n =
     record {
-      yard = record { benches = set Y.benches Y.made b; quotas = set Y.quotas Y.made n; made = Y.made + 1 };
+      yard = record { plots = set Y.plots Y.made (record { bench = b; quota = n }); made = Y.made + 1 };
       answer = Accepted;
     }
 

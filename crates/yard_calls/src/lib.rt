@@ -11,7 +11,7 @@ ghost use Rattle.state.specs.declared.Stop.TheVariants.{No, Why};
 ghost use Rattle.plots.specs.Places.{the_ground};
 ghost use Rattle.yard_calls.specs.Yielding.{yielded, back_in, with_one, refused_in, makes};
 
-use model::{Answer, Bench, Operation, Refusal, Setup, Tally, Yard};
+use model::{Answer, Bench, Operation, Plot, Refusal, Setup, Tally, Yard};
 use state::{Returned, Stop};
 
 // What a call hands back: the next yard, and the answer.
@@ -25,12 +25,12 @@ pub struct Yielded {
 pub fn bare() -> Yard
     ensures { result ≡ bare }
 {
-    let none = state::none();
-    let benches = [none; 4];
-    let quotas = [0u32; 4];
+    let none = Plot {
+        bench: state::none(),
+        quota: 0,
+    };
     Yard {
-        benches: benches,
-        quotas: quotas,
+        plots: [none; 4],
         made: 0,
     }
 }
@@ -39,10 +39,9 @@ pub fn bare() -> Yard
 fn refused(yard: Yard, why: Refusal) -> Yielded
     ensures { result ≡ refused_in yard why }
 {
-    let answer = Answer::Refused { why: why };
     Yielded {
-        yard: yard,
-        answer: answer,
+        yard,
+        answer: Answer::Refused { why },
     }
 }
 
@@ -51,15 +50,10 @@ fn put_back(yard: Yard, queue: u32, reply: Returned) -> Yielded
     requires { queue < 4 }
     ensures { result ≡ back_in yard queue reply }
 {
-    let place = queue as usize;
-    let bench = reply.bench;
     let answer = reply.answer;
     let mut next = yard;
-    next.benches[place] = bench;
-    Yielded {
-        yard: next,
-        answer: answer,
-    }
+    next.plots[queue as usize].bench = reply.bench;
+    Yielded { yard: next, answer }
 }
 
 // The next place gets a queue.
@@ -67,10 +61,8 @@ fn add(yard: Yard, bench: Bench, quota: u32) -> Yielded
     requires { yard.made < 4 }
     ensures { result ≡ with_one yard bench quota }
 {
-    let place = yard.made as usize;
     let mut next = yard;
-    next.benches[place] = bench;
-    next.quotas[place] = quota;
+    next.plots[yard.made as usize] = Plot { bench, quota };
     next.made += 1;
     Yielded {
         yard: next,
@@ -211,11 +203,8 @@ pub fn tally(yard: Yard, queue: u32, worker: u32, store: &[u32], log: &[u32]) ->
 pub fn front(yard: Yard, queue: u32, log: &[u32]) -> &[u32]
     ensures { (m : List ℕ) (ls : List (List ℕ)) → get_or ls queue [] ≡ log.now → result.now ≡ front_at (the_ground yard m ls) queue }
 {
-    if yard.made <= queue {
-        return &log[..0];
-    }
     // A foreign yard may say that more than four are made.
-    if 4 <= queue {
+    if yard.made <= queue || 4 <= queue {
         return &log[..0];
     }
     memory::front(plots::bench_at(yard, queue), log)
