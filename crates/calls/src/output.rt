@@ -1,7 +1,7 @@
 // The program's output: text waits in a buffer, and is written where there is no room for more.
 ghost use Rattle.std.specs.Prelude.{◌≡◌, ◌+◌, ◌≤◌, length};
 
-use model::{Anchor, Answer, Queue, Store, Tally};
+use model::{Anchor, Answer, Queue, Refusal, Store};
 use std::io::{Eprint, Error, Print, Stderr, Stdin, Stdout};
 
 // The program's standard streams.
@@ -147,12 +147,12 @@ pub fn show_words(text: Text, words: &[u32], out: &mut [u8]) -> Text
 }
 
 // A worker's restarts, or why it is refused.
-pub fn show_tally(text: Text, worker: u32, tally: Tally, out: &mut [u8]) -> Text
+pub fn show_tally(text: Text, worker: u32, tally: Result<u32, Refusal>, out: &mut [u8]) -> Text
     requires { (text.end ≤ length out.old) × (128 ≤ length out.old) }
     ensures { result.end ≤ length out.new }
 {
     match tally {
-        Tally::Counted { restarts } => {
+        Ok(restarts) => {
             let free = room(text, call_text::ANSWER, out);
             let end = call_text::show_restarts(out, free.end, worker, restarts);
             Text {
@@ -161,7 +161,7 @@ pub fn show_tally(text: Text, worker: u32, tally: Tally, out: &mut [u8]) -> Text
                 good: free.good,
             }
         }
-        Tally::Refused { why } => show_refusal(text, queues::number_of(why), out),
+        Err(why) => show_refusal(text, queues::number_of(why), out),
     }
 }
 
@@ -286,8 +286,7 @@ fn show_waiting(text: Text, state: model::Bench, out: &mut [u8]) -> Text
     let count = crate::least(waiting.count as usize, 8);
     let mut i = 0;
     while i < count {
-        let pending = waiting.stores[i];
-        let store = pending.store;
+        let store = waiting.stores[i];
         shown = show_store(shown, queue, words, store, out);
         i += 1;
     }

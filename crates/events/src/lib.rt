@@ -13,8 +13,8 @@ ghost use Rattle.model.specs.Calls.{lent, set_aside, ask_in, ask_of, drop_ask_in
 ghost use Rattle.state.specs.Outcomes.{returned};
 ghost use Rattle.events.specs.Idling.{Limited, OwnerStops};
 
-use model::{Answer, Bench, Refusal, Room, Tally};
-use state::{Returned, Stop};
+use model::{Answer, Bench, Refusal, Room};
+use state::Returned;
 
 // Worker `worker`'s link fails: refusals 6 and 17.
 pub fn drop_link_in(bench: Bench, worker: u32) -> Returned
@@ -78,24 +78,24 @@ pub fn drain(bench: Bench, store: &mut [u32], log: &[u32]) -> Returned
 }
 
 // What an idle owner may do at once: refusals 6, 9 and 7.
-fn owner_stop(bench: Bench, worker: u32) -> Stop
+fn owner_stop(bench: Bench, worker: u32) -> Result<(), Refusal>
     ensures { (m l : List ℕ) → OwnerStops (lent bench m l) worker result }
 {
     if bench.crew <= worker {
         let why = Refusal::NoSuchWorker;
-        return Stop::Why { why };
+        return Err(why);
     }
     if worker != 0 {
         let why = Refusal::WrongHand;
-        return Stop::Why { why };
+        return Err(why);
     }
     let own = bench.workers[0];
     let line = own.line;
     if !stages::is_idle(line) {
         let why = Refusal::BusyWorker;
-        return Stop::Why { why };
+        return Err(why);
     }
-    Stop::No
+    Ok(())
 }
 
 fn set_aside(bench: Bench, words: u32) -> Returned
@@ -116,7 +116,7 @@ pub fn ask_in(room: Room, bench: Bench, worker: u32) -> Returned
     ensures { (m l : List ℕ) → returned result m l ≡ ask_in room (lent bench m l) worker }
 {
     let stop = owner_stop(bench, worker);
-    if let Stop::Why { why } = stop {
+    if let Err(why) = stop {
         return state::refused(bench, why);
     }
     if bench.aside != 0 {
@@ -150,7 +150,7 @@ pub fn drop_ask_in(bench: Bench, worker: u32) -> Returned
     ensures { (m l : List ℕ) → returned result m l ≡ drop_ask_in (lent bench m l) worker }
 {
     let stop = owner_stop(bench, worker);
-    if let Stop::Why { why } = stop {
+    if let Err(why) = stop {
         return state::refused(bench, why);
     }
     let words = bench.aside;
@@ -170,27 +170,23 @@ pub fn drop_ask(bench: Bench, worker: u32, store: &[u32], log: &[u32]) -> Return
 }
 
 // Worker `worker`'s restarts: refusal 6.
-pub fn tally_in(bench: Bench, worker: u32) -> Tally
+pub fn tally_in(bench: Bench, worker: u32) -> Result<u32, Refusal>
     requires { bench.crew ≤ 8 }
     ensures { (m l : List ℕ) → result ≡ who_in (lent bench m l) worker }
 {
     if bench.crew <= worker {
-        return Tally::Refused {
-            why: Refusal::NoSuchWorker,
-        };
+        return Err(Refusal::NoSuchWorker);
     }
     let i = worker as usize;
     let restarts = bench.restarts[i];
-    Tally::Counted { restarts }
+    Ok(restarts)
 }
 
-pub fn tally(bench: Bench, worker: u32, store: &[u32], log: &[u32]) -> Tally
+pub fn tally(bench: Bench, worker: u32, store: &[u32], log: &[u32]) -> Result<u32, Refusal>
     ensures { result ≡ who_of (lent bench store.now log.now) worker }
 {
     if !limits::valid(bench, store, log) {
-        return Tally::Refused {
-            why: Refusal::ForeignState,
-        };
+        return Err(Refusal::ForeignState);
     }
     tally_in(bench, worker)
 }

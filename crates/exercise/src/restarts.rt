@@ -1,5 +1,5 @@
 // The restarts of each worker: who is refused, and what a compare that fails counts.
-use model::{Line, Tally};
+use model::{Line, Refusal};
 use queues::Bench;
 use std::io::Stdout;
 use tries::{anchor, base, played, say_tally, task, text, with_line};
@@ -17,7 +17,7 @@ fn beaten(count: u32) -> model::Bench {
     state
 }
 
-fn tell(out: Stdout, tried: &[u8], tally: Tally) {
+fn tell(out: Stdout, tried: &[u8], tally: Result<u32, Refusal>) {
     text(out, tried);
     text(out, b": ");
     say_tally(out, tally);

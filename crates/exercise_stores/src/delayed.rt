@@ -2,7 +2,7 @@
 // place in the line.
 ghost use Rattle.std.specs.Prelude.{◌<◌};
 
-use model::{Anchor, Line, Operation, Pending, Store};
+use model::{Anchor, Line, Operation, Store};
 use queues::Bench;
 use std::io::Stdout;
 use tries::{
@@ -29,7 +29,7 @@ pub fn with_store(state: model::Bench, store: Store) -> model::Bench {
     let mut waiting = next.waiting;
     let at = waiting.count as usize;
     if at < 8 {
-        waiting.stores[at] = Pending { store };
+        waiting.stores[at] = store;
         waiting.count = waiting.count + 1;
     }
     next.waiting = waiting;

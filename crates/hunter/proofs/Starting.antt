@@ -1,4 +1,5 @@
 -- A hunt's first world, and its refusals.
+use Rattle.std.specs.Prelude.{Result, Ok, Err, ⊤}
 use mathlib.Core.Path.{◌≡◌, refl, sym, ◌∙◌, ap, subst}
 use mathlib.Core.Bool.{Bool, true, false}
 use mathlib.Core.List.{List, [], ◌∷◌, ◌++◌, map}
@@ -19,8 +20,6 @@ use Rattle.model.specs.Memory.{zeros, usable}
 use Rattle.model.specs.World.{World, Outcome, refuse, resting, line_at, is_idle}
 use Rattle.model.specs.Calls.{lent, setup, fresh_of, first_length, new_bench, no_bench, admitted}
 use Rattle.model.proofs.Alone.{at_most_usable}
-use Rattle.state.specs.declared.Stop.{Stop}
-use Rattle.state.specs.declared.Stop.TheVariants.{No, Why}
 use Rattle.opening.proofs.Admits.{outcome_of, admitted_in}
 use Rattle.orders.proofs.HandOuts.{fair_repeats, fresh_fair}
 use Rattle.model.proofs.Tests.{if_true, if_false}
@@ -82,18 +81,18 @@ rests (suc (suc (suc (suc (suc (suc (suc zero))))))) = refl
 rests (suc (suc (suc (suc (suc (suc (suc (suc i)))))))) = refl
 
 -- whether the hunt is admitted, from where the code asks it
-module _ (u : Setup) (s n : ℕ) (t : Stop) (left : n ≡ usable (own_store s)) (by : t ≡ admitted u n (λ w. Why w) No) where
-  pub admits : t ≡ No → (opening u s).answer ≡ Accepted
+module _ (u : Setup) (s n : ℕ) (t : Result ⊤ Refusal) (left : n ≡ usable (own_store s)) (by : t ≡ admitted u n (λ w. Err w) (Ok tt)) where
+  pub admits : t ≡ Ok tt → (opening u s).answer ≡ Accepted
   unfolding fresh_of
   admits e =
       ap (λ (D : Outcome). D.answer)
-      (outcome_of (λ (r : Refusal). refuse (lent no_bench (own_store s) own_log) r) (record { world = lent (new_bench 0 u) (zeros (own_store s) 0 (first_length u)) own_log; answer = Accepted }) u No by left e)
+      (outcome_of (λ (r : Refusal). refuse (lent no_bench (own_store s) own_log) r) (record { world = lent (new_bench 0 u) (zeros (own_store s) 0 (first_length u)) own_log; answer = Accepted }) u (Ok tt) by left e)
 
-  pub bars : (r : Refusal) → t ≡ Why r → (opening u s).answer ≡ Refused r
+  pub bars : (r : Refusal) → t ≡ Err r → (opening u s).answer ≡ Refused r
   unfolding fresh_of
   bars r e =
       ap (λ (D : Outcome). D.answer)
-      (outcome_of (λ (r : Refusal). refuse (lent no_bench (own_store s) own_log) r) (record { world = lent (new_bench 0 u) (zeros (own_store s) 0 (first_length u)) own_log; answer = Accepted }) u (Why r) by left e)
+      (outcome_of (λ (r : Refusal). refuse (lent no_bench (own_store s) own_log) r) (record { world = lent (new_bench 0 u) (zeros (own_store s) 0 (first_length u)) own_log; answer = Accepted }) u (Err r) by left e)
 
 -- an accepted fresh: nobody has begun, nothing is logged, and the store is all 0
 module _ (u : Setup) (s : ℕ) (a : (opening u s).answer ≡ Accepted) where
@@ -170,18 +169,18 @@ module _ (u : Setup) (s : ℕ) (l : List (List Operation)) (b : ℕ) where
 
 -- THE CHECKS as the code makes them, one after the other
 module _ (k w c n v s : ℕ) (puts : List Bool) (each : List ℕ) (b : ℕ) (m l : List ℕ) (m_is : m ≡ own_store s) (l_is : l ≡ own_log) (left : ℕ) (left_is : left ≡ usable m)
-    (t : Stop) (by : t ≡ admitted (setup k w c n v) left (λ w. Why w) No) where
+    (t : Result ⊤ Refusal) (by : t ≡ admitted (setup k w c n v) left (λ w. Err w) (Ok tt)) where
   abbrev u : Setup
   u = setup k w c n v
 
   all_left : left ≡ usable (own_store s)
   all_left = left_is ∙ ap usable m_is
 
-  pub barred_is : (r : Refusal) → t ≡ Why r → refusal (Barred r) ≡ hunt_of k w c n v s puts each b
+  pub barred_is : (r : Refusal) → t ≡ Err r → refusal (Barred r) ≡ hunt_of k w c n v s puts each b
   unfolding hunt_of
   barred_is r e = plan_barred u s (plan puts each) b r (bars u s left t all_left by r e)
 
-  module _ (no : t ≡ No) where
+  module _ (no : t ≡ Ok tt) where
     accepted : (opening u s).answer ≡ Accepted
     accepted = admits u s left t all_left by no
 

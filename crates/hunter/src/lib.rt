@@ -18,7 +18,6 @@ ghost use Rattle.hunter.specs.Hunter.{steals, start_of, RoundBy, reported};
 
 use model::{Bench, Refusal, Setup};
 use orders::Verdict;
-use state::Stop;
 
 // The report: its order stands in the first `length` places.
 #[derive(Clone, Copy)]
@@ -282,7 +281,7 @@ fn hunt_on(
     };
     let left = slots::usable(store);
     let stop = opening::admission_stop(setup, left);
-    if let Stop::Why { why } = stop {
+    if let Err(why) = stop {
         return refused(Verdict::Barred { why });
     }
     let behind = less(crew, 1);

@@ -315,8 +315,7 @@ fn waits_ok(bench: Bench, view: View) -> bool
     let mut good = ranges::anchor_ok(kind, bits, tasks, anchor);
     let mut i: usize = 0;
     while i < count {
-        let one = stores[i];
-        let store = one.store;
+        let store = stores[i];
         let fine = ranges::store_ok(
             kind, bits, words, published, claimed, first, tasks, most, store,
         );

@@ -1,4 +1,5 @@
 -- Where consuming stands between two lines, and what each way to play a line makes of it.
+use Rattle.std.specs.Prelude.{Err}
 use Prim.Native.Nat.{ℕ, zero, suc, ◌+◌, ◌-◌, ◌≤◌, ◌<◌, min}
 use native.Mathlib.Omega.{arith}
 use mathlib.Core.Path.{◌≡◌, refl, ap, sym, subst, ◌∙◌}
@@ -21,7 +22,6 @@ use Rattle.model.specs.World.{World, Outcome, room_alone, tag_bits, line_at}
 use Rattle.model.specs.Limits.{valid_of, Within}
 use Rattle.model.specs.Calls.{lent, step, next_effect, step_in, step_of}
 use Rattle.model.specs.Listing.{Program, playing, printed, is_refused, respond, steps_of, Response}
-use Rattle.state.specs.declared.Stop.TheVariants.{Why}
 use Rattle.model.proofs.Tests.{if_true}
 use Rattle.model.proofs.Alone.{within_alone}
 use Rattle.theorems.proofs.NeverForeign.{effect_answers}
@@ -88,7 +88,7 @@ module _ (P : Program) (buf : List ℕ) (s : Session) (m l out : List ℕ) (used
   standing_over q = consumed_over P buf p.session m' l' out' (end + 1) p.end on.within on.fits p.stops q on.shows
 
 -- a line refused at once
-pub at_once_by : (s : Session) (m l : List ℕ) (c : Command) (r : Refusal) (before : List ℕ) (at e : ℕ) (after : List ℕ) → RefusedAtOnce s.live (world_of s m l) c (Why r) → Placed before at (shown_all (printed s.bench.words (Refused r))) e after →
+pub at_once_by : (s : Session) (m l : List ℕ) (c : Command) (r : Refusal) (before : List ℕ) (at e : ℕ) (after : List ℕ) → RefusedAtOnce s.live (world_of s m l) c (Err r) → Placed before at (shown_all (printed s.bench.words (Refused r))) e after →
     AnsweredBy (respond (program_of s m l) c) (played s e) m l before at after
 at_once_by s m l c r before at e after (v, q) t =
     let known : respond (program_of s m l) c ≡ record { program = playing (world_of s m l); output = printed s.bench.words (Refused r) } = ap (λ (P : Program). respond P c) (program_live s m l v) ∙ q in record {

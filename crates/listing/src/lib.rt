@@ -11,7 +11,6 @@ ghost use Rattle.listing.specs.Consuming.{Reachable, ConsumedBy, CarriedBy};
 use machine::Made;
 use model::{Answer, Worker};
 use replies::{Asked, LONGEST, Session};
-use state::Stop;
 
 // What consuming a buffer left: the session, how many bytes were played and how many written, and whether an accepted `end` was
 // among them.
@@ -73,7 +72,7 @@ pub fn consume(
         let asked = replies::ask(live, command);
         let Asked::Step { worker, times } = asked else {
             let stop = replies::refused_at_once(live, bench, command);
-            if let Stop::Why { why } = stop {
+            if let Err(why) = stop {
                 let answer = Answer::Refused { why };
                 wrote = replies::show(bench.words, answer, out, wrote);
                 continue;

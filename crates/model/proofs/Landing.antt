@@ -6,7 +6,6 @@ use Prim.Native.Nat.{ℕ, zero, suc}
 use native.Mathlib.Nat.{add-zero}
 use lib.ListN.{get_or, replicate, take, drop, take-append-drop}
 use Rattle.model.specs.declared.Store.{Store}
-use Rattle.model.specs.declared.Pending.{Pending}
 use Rattle.model.specs.declared.Waiting.{Waiting}
 use Rattle.model.specs.Stores.{Shared, landed, landed_all, joined}
 use Rattle.model.specs.World.{World, memory, owners_view}
@@ -25,7 +24,7 @@ reads_memory W e = rw e
 pub joined_none : (s : Waiting) → joined s [] ≡ s
 joined_none s =
     ap (λ (n : ℕ). record { stores = take s.count s.stores ++ drop n s.stores; count = n }) (add-zero s.count)
-    ∙ ap (λ (l : List Pending). record { stores = l; count = s.count }) (take-append-drop s.count s.stores)
+    ∙ ap (λ (l : List Store). record { stores = l; count = s.count }) (take-append-drop s.count s.stores)
 
 -- no link is held behind a write of the anchor
 pub none_held : (n k : ℕ) → get_or (replicate n false) k false ≡ false

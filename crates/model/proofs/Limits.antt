@@ -43,7 +43,7 @@ use Rattle.model.specs.Tests.{when◌then◌else◌, ◌and◌, ◌or◌}
 use Rattle.model.specs.Memory.{nowhere, set_word, offset_at, length_at, size_at, words_to}
 use Rattle.model.specs.Tasks.{task, payload, no_task, word_in, gathered}
 use Rattle.model.specs.Figures.{anchor}
-use Rattle.model.specs.Stores.{pending, none_pending, landed_all}
+use Rattle.model.specs.Stores.{none_pending, landed_all}
 use Rattle.model.specs.World.{World, resting}
 use Rattle.model.specs.Limits.{valid_of}
 use Rattle.model.proofs.Runs.{one}
@@ -62,7 +62,7 @@ plain z a d p c =
 
 -- so many stores wait
 abbrev line : ℕ → List Store → Waiting
-line n s = record { stores = map pending s ++ replicate (8 - length s) none_pending; count = n }
+line n s = record { stores = s ++ replicate (8 - length s) none_pending; count = n }
 
 -- all that the limits look at: the mode, the waiting line, the words set aside, payload words, kind, tag width, crew, the queue, the
 -- numbers used, the log's length, the workers, and the lengths of store and log

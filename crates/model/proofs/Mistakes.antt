@@ -1,5 +1,6 @@
 -- Rows of our own: each shows a difference that one of document 01's 'Mistakes to shut out', or a bench of its section
 -- 'Agreement', would make. The edits in must-fail/ make them.
+use Rattle.std.specs.Prelude.{Ok, Err}
 use mathlib.Core.Bool.{Bool, true, false}
 use mathlib.Core.Path.{◌≡◌, refl}
 use mathlib.Core.List.{List, [], ◌∷◌, ◌++◌, map}
@@ -14,7 +15,6 @@ use Rattle.model.specs.declared.Line.TheVariants.{Publish, StealCompare}
 use Rattle.model.specs.declared.Operation.TheVariants.{Put}
 use Rattle.model.specs.declared.Refusal.TheVariants.{NoSuchWorker, LogFull, ForeignState}
 use Rattle.model.specs.declared.Answer.TheVariants.{Accepted, Numbered, GoesOn, Finished, Refused}
-use Rattle.model.specs.declared.Tally.TheVariants as tally
 use Rattle.model.specs.declared.Command.TheVariants.{BeginTake, BeginSteal, Steps, End, Bad}
 use Rattle.model.specs.Tests.{when◌then◌else◌, ◌and◌, ◌or◌}
 use Rattle.model.specs.Memory.{zeros, word_at, set_word, offset_at, length_at, size_at, words_to}
@@ -143,6 +143,6 @@ summed = refl
 
 -- a worker's own count; 6 outside the crew; 12 of no bench, before 6
 pub asked : map (who_of (tallied (eight 4))) (0 ∷ 1 ∷ 2 ∷ []) ++ map (who_of (lent no_bench [] [])) (0 ∷ 8 ∷ [])
-    ≡ (tally.Counted 9 ∷ tally.Counted 4 ∷ tally.Refused NoSuchWorker ∷ tally.Refused ForeignState ∷ tally.Refused ForeignState ∷ [])
+    ≡ (Ok 9 ∷ Ok 4 ∷ Err NoSuchWorker ∷ Err ForeignState ∷ Err ForeignState ∷ [])
 unfolding who_of valid_of words_to landed_all offset_at length_at size_at when◌then◌else◌ ◌and◌ ◌or◌
 asked = refl

@@ -1,5 +1,6 @@
 -- Several queues over one store, tried by computation: what makings and calls answer and where arrays come to lie; and yards at
 -- each limit and past it.
+use Rattle.std.specs.Prelude.{Ok, Err}
 use mathlib.Core.Path.{◌≡◌, refl}
 use mathlib.Core.Bool.{true, false}
 use mathlib.Core.List.{List, [], ◌∷◌, ◌++◌, map}
@@ -24,7 +25,6 @@ use Rattle.model.specs.declared.Refusal.TheVariants.{
 }
 use Rattle.model.specs.declared.Answer.{Answer}
 use Rattle.model.specs.declared.Answer.TheVariants.{Accepted, Numbered, GoesOn, Finished, HandedOut, Full, Grown, Refused}
-use Rattle.model.specs.declared.Tally.TheVariants as tally
 use Rattle.model.specs.Tests.{when◌then◌else◌, ◌and◌, ◌or◌}
 use Rattle.model.specs.Tasks.{task, word_in, with_word, gathered}
 use Rattle.model.specs.Memory.{zeros, word_at, set_word, nowhere, offset_at, length_at, size_at, words_to}
@@ -162,7 +162,7 @@ largest = refl
 -- who and front: 24 of a queue that is not made, where front has nothing
 pub beside :
     let G = ground_after (opened 2) (made 1 1 1 2 ∷ on 0 (begin 0 Take) ∷ steps 0 0 2) in
-    (who_at G 0 0 ≡ tally.Counted 0) × (who_at G 0 1 ≡ tally.Refused NoSuchWorker) × (who_at G 1 0 ≡ tally.Refused NoSuchQueue) × (front_at G 0 ≡ 3 ∷ 0 ∷ 0 ∷ 0 ∷ []) × (front_at G 1 ≡ [])
+    (who_at G 0 0 ≡ Ok 0) × (who_at G 0 1 ≡ Err NoSuchWorker) × (who_at G 1 0 ≡ Err NoSuchQueue) × (front_at G 0 ≡ 3 ∷ 0 ∷ 0 ∷ 0 ∷ []) × (front_at G 1 ≡ [])
 unfolding ground_after make_of on_of who_at front_at front_of sound_yard all_below total_of words_to line_step landed_all zeros offset_at length_at size_at when◌then◌else◌ ◌and◌ ◌or◌
 beside = (refl, refl, refl, refl, refl)
 
@@ -254,6 +254,6 @@ yard_limits = refl
 -- 12 before 24 and all others; only the log of the queue that is called is tested
 pub first_of_all :
     let G = both 2 grown 2 0 5 small 1 2 8 in
-    (answers_from G (make (setup 9 1 1 1 1) 2 [] ∷ on 7 (step 0) ∷ on 0 (step 0) ∷ []) ≡ replicate 3 (Refused ForeignState)) × (who_at G 7 0 ≡ tally.Refused ForeignState)
+    (answers_from G (make (setup 9 1 1 1 1) 2 [] ∷ on 7 (step 0) ∷ on 0 (step 0) ∷ []) ≡ replicate 3 (Refused ForeignState)) × (who_at G 7 0 ≡ Err ForeignState)
 unfolding make_of on_of who_at sound_yard all_below total_of words_to landed_all offset_at length_at size_at when◌then◌else◌ ◌and◌ ◌or◌
 first_of_all = (refl, refl)

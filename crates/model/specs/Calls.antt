@@ -1,6 +1,6 @@
 -- The calls: fresh, begin, step, an ask and its drop, a link that fails, a drain, who, and the log's front. What ends in -In is a call past
 -- refusal 12, and what ends in -Of a lone queue's call, with 12 in front.
-use Rattle.std.specs.Prelude.{Bool, true, false, List, [], ◌∷◌, ℕ, zero, suc, ◌+◌, ◌*◌, eqb, ltb, leb, length, get_or, set, replicate, take}
+use Rattle.std.specs.Prelude.{Bool, true, false, List, [], ◌∷◌, ℕ, zero, suc, ◌+◌, ◌*◌, eqb, ltb, leb, length, get_or, set, replicate, take, Result, Ok, Err}
 use Rattle.model.specs.declared.Kind.{Kind}
 use Rattle.model.specs.declared.Kind.TheVariants.{Lifo, Fifo, Deque}
 use Rattle.model.specs.declared.Growth.TheVariants.{ForCommit}
@@ -38,8 +38,6 @@ use Rattle.model.specs.declared.Refusal.TheVariants.{
 }
 use Rattle.model.specs.declared.Answer.{Answer}
 use Rattle.model.specs.declared.Answer.TheVariants.{Accepted, Numbered}
-use Rattle.model.specs.declared.Tally.{Tally}
-use Rattle.model.specs.declared.Tally.TheVariants as tally
 use Rattle.model.specs.Tests.{when◌then◌else◌, unless◌then◌else◌, ◌and◌, ◌or◌}
 use Rattle.model.specs.Tasks.{task, first_words}
 use Rattle.model.specs.Memory.{zeros, nowhere, usable}
@@ -365,13 +363,13 @@ unfoldable pub drain_of : World → Outcome
 drain_of W = unless valid_of W then refuse W ForeignState else drain_in W
 
 -- WHO. Worker i's restarts: refusal 6. It changes nothing, so there is no world in its answer
-abbrev pub who_in : World → ℕ → Tally
+abbrev pub who_in : World → ℕ → Result ℕ Refusal
 who_in W i =
-    unless ltb i W.bench.crew then tally.Refused NoSuchWorker
-    else tally.Counted (restarts_of W.bench.restarts i)
+    unless ltb i W.bench.crew then Err NoSuchWorker
+    else Ok (restarts_of W.bench.restarts i)
 
-unfoldable pub who_of : World → ℕ → Tally
-who_of W i = unless valid_of W then tally.Refused ForeignState else who_in W i
+unfoldable pub who_of : World → ℕ → Result ℕ Refusal
+who_of W i = unless valid_of W then Err ForeignState else who_in W i
 
 -- FRONT. The written front of the log: as many words as its length says, or all if the slice is shorter
 unfoldable pub front_of : Bench → List ℕ → List ℕ

@@ -1,5 +1,6 @@
 -- The bench program, from commands to what it prints.
-use Rattle.std.specs.Prelude.{Bool, true, false, List, [], ◌∷◌, ◌++◌, ℕ, zero, suc, eqb, replicate, take, drop}
+use Rattle.std.specs.Prelude.{Bool, true, false, List, [], ◌∷◌, ◌++◌, ℕ, zero, suc, eqb, replicate, take, drop, Result, Ok, Err}
+use Rattle.model.specs.declared.Refusal.{Refusal}
 use Rattle.model.specs.declared.Payload.{Payload}
 use Rattle.model.specs.declared.Operation.TheVariants.{Put, Take, Steal}
 use Rattle.model.specs.declared.Refusal.TheVariants.{BadLine}
@@ -15,8 +16,6 @@ use Rattle.model.specs.declared.Answer.TheVariants.{
   Grown,
   Refused,
 }
-use Rattle.model.specs.declared.Tally.{Tally}
-use Rattle.model.specs.declared.Tally.TheVariants as tally
 use Rattle.model.specs.declared.Counts.{Counts}
 use Rattle.model.specs.declared.Command.{Command}
 use Rattle.model.specs.declared.Command.TheVariants.{Open, BeginPut, BeginTake, BeginSteal, Steps, Who, End, Bad}
@@ -54,9 +53,9 @@ abbrev pub printed_by : Outcome → List Print
 printed_by d = printed d.world.bench.words d.answer
 
 -- what asking for worker i's restarts prints
-abbrev pub printed_tally : ℕ → Tally → List Print
-printed_tally i (tally.Counted n) = Wi i n ∷ []
-printed_tally i (tally.Refused r) = R (number_of r) ∷ []
+abbrev pub printed_tally : ℕ → Result ℕ Refusal → List Print
+printed_tally i (Ok n) = Wi i n ∷ []
+printed_tally i (Err r) = R (number_of r) ∷ []
 
 abbrev pub is_refused : Answer → Bool
 is_refused Accepted = false

@@ -5,7 +5,6 @@ use Rattle.model.specs.declared.Queue.{Queue}
 use Rattle.model.specs.declared.Room.{Room}
 use Rattle.model.specs.declared.Store.{Store}
 use Rattle.model.specs.declared.Store.TheVariants.{StoreWord, StoreNote, StorePut, StoreOut, StoreHead, StoreTail}
-use Rattle.model.specs.declared.Pending.{Pending}
 use Rattle.model.specs.declared.Waiting.{Waiting}
 use Rattle.model.specs.Tests.{least}
 use Rattle.model.specs.Memory.{set_word, zeros, offset_at, length_at, end_at, words_to}
@@ -62,24 +61,21 @@ landed_all v S [] = S
 landed_all v S (x ∷ xs) = landed_all v (landed v S x) xs
 
 -- THE WAITING LINE. Its stores, oldest first; stores join its end; the oldest leaves it
-abbrev pub pending : Store → Pending
-pending s = record { store = s }
-
-abbrev pub none_pending : Pending
-none_pending = pending (StoreWord 0 0 0 0)
+abbrev pub none_pending : Store
+none_pending = StoreWord 0 0 0 0
 
 abbrev pub in_line : Waiting → List Store
-in_line l = map (λ p. p.store) (take l.count l.stores)
+in_line l = take l.count l.stores
 
 abbrev pub joined : Waiting → List Store → Waiting
 joined l s =
     record {
-      stores = take l.count l.stores ++ (map pending s ++ drop (l.count + length s) l.stores);
+      stores = take l.count l.stores ++ (s ++ drop (l.count + length s) l.stores);
       count = l.count + length s;
     }
 
 abbrev pub oldest : Waiting → Store
-oldest l = (get_or l.stores 0 none_pending).store
+oldest l = get_or l.stores 0 none_pending
 
 abbrev pub one_less : Waiting → Waiting
 one_less l = record { stores = drop 1 l.stores ++ none_pending ∷ []; count = l.count - 1 }

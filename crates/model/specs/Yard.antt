@@ -1,5 +1,5 @@
 -- Several queues over one store, a yard: making one, and a call of one of them.
-use Rattle.std.specs.Prelude.{Bool, true, List, [], ◌∷◌, ℕ, zero, suc, ◌+◌, ◌-◌, eqb, ltb, leb, get_or, set, replicate}
+use Rattle.std.specs.Prelude.{Bool, true, List, [], ◌∷◌, ℕ, zero, suc, ◌+◌, ◌-◌, eqb, ltb, leb, get_or, set, replicate, Result, Err}
 use Rattle.model.specs.declared.Region.{Region}
 use Rattle.model.specs.declared.Room.{Room}
 use Rattle.model.specs.declared.Queue.{Queue}
@@ -11,8 +11,6 @@ use Rattle.model.specs.declared.Refusal.{Refusal}
 use Rattle.model.specs.declared.Refusal.TheVariants.{ForeignState, ShortQuota, NoSuchQueue}
 use Rattle.model.specs.declared.Answer.{Answer}
 use Rattle.model.specs.declared.Answer.TheVariants.{Accepted, Refused}
-use Rattle.model.specs.declared.Tally.{Tally}
-use Rattle.model.specs.declared.Tally.TheVariants as tally
 use Rattle.model.specs.Tests.{when◌then◌else◌, unless◌then◌else◌, ◌and◌, ◌or◌}
 use Rattle.model.specs.Memory.{zeros, offset_at, end_at, usable}
 use Rattle.model.specs.Stores.{taken, words_taken, room_in}
@@ -173,10 +171,10 @@ abbrev pub whole_store : List ℕ → ℕ
 whole_store m = usable m
 
 -- who: refusals 12, 24, 6
-unfoldable pub who_at : Ground → ℕ → ℕ → Tally
+unfoldable pub who_at : Ground → ℕ → ℕ → Result ℕ Refusal
 who_at G q i =
-    unless sound_for G q then tally.Refused ForeignState
-    else unless ltb q G.yard.made then tally.Refused NoSuchQueue
+    unless sound_for G q then Err ForeignState
+    else unless ltb q G.yard.made then Err NoSuchQueue
     else who_in (world_of G q) i
 
 -- front, which never refuses: of a queue that is not made, nothing

@@ -214,16 +214,10 @@ pub struct Queue {
     pub links: [bool; 8],
 }
 
-// A place in the owner's waiting line. (Code can't read an array of enums in a struct, but one of structs.)
-#[derive(Clone, Copy)]
-pub struct Pending {
-    pub store: Store,
-}
-
 // The owner's waiting line: the first `count` stores wait, the oldest first.
 #[derive(Clone, Copy)]
 pub struct Waiting {
-    pub stores: [Pending; 8],
+    pub stores: [Store; 8],
     pub count: u32,
 }
 
@@ -322,13 +316,6 @@ pub enum Answer {
     Empty { worker: u32 },
     Full { worker: u32, task: Task },
     Grown { worker: u32 },
-    Refused { why: Refusal },
-}
-
-// What asking for a worker's restarts answers: its count, or why not.
-#[derive(Clone, Copy)]
-pub enum Tally {
-    Counted { restarts: u32 },
     Refused { why: Refusal },
 }
 

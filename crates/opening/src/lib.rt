@@ -4,15 +4,14 @@
 
 #![tactic(auto)]
 
-ghost use Rattle.std.specs.Prelude.{◌≡◌, List, ℕ, ◌≤◌, ◌<◌};
+ghost use Rattle.std.specs.Prelude.{◌≡◌, List, ℕ, ◌≤◌, ◌<◌, Ok, Err};
 ghost use Rattle.model.specs.declared.Answer.TheVariants.{Refused};
 ghost use Rattle.model.specs.Calls.{no_bench, new_bench, first_length, admitted, lent, fresh_of, begun, begin_in, begin_of};
-ghost use Rattle.state.specs.declared.Stop.TheVariants.{No, Why};
 ghost use Rattle.state.specs.Outcomes.{returned};
 ghost use Rattle.opening.specs.Begins.{BeginStops};
 
 use model::{Answer, Bench, Growth, Line, Operation, Refusal, Setup, Task};
-use state::{Returned, Stop};
+use state::Returned;
 
 // A refused fresh makes no bench: its state is one that every call refuses.
 fn unmade(why: Refusal) -> Returned
@@ -31,38 +30,28 @@ pub fn first_length(setup: Setup) -> u32
 
 // Whether no bench is made as it is told, where `left` words are left for its first array: refusals 1 to 4, 16 and 5. The answer
 // says what any outcome is that begins with these refusals.
-pub fn admission_stop(setup: Setup, left: u32) -> Stop
-    ensures { result ≡ admitted setup left (λ w. Why w) No }
+pub fn admission_stop(setup: Setup, left: u32) -> Result<(), Refusal>
+    ensures { result ≡ admitted setup left (λ w. Err w) (Ok tt) }
 {
     if !admission::kind_ok(setup.kind) {
-        return Stop::Why {
-            why: Refusal::UnknownQueue,
-        };
+        return Err(Refusal::UnknownQueue);
     }
     if !admission::width_ok(setup.width) {
-        return Stop::Why {
-            why: Refusal::TagWidth,
-        };
+        return Err(Refusal::TagWidth);
     }
     if !admission::is_size(setup.size) {
-        return Stop::Why {
-            why: Refusal::ArraySize,
-        };
+        return Err(Refusal::ArraySize);
     }
     if !admission::crew_ok(setup.crew) {
-        return Stop::Why { why: Refusal::Crew };
+        return Err(Refusal::Crew);
     }
     if !admission::words_ok(setup.words) {
-        return Stop::Why {
-            why: Refusal::PayloadWords,
-        };
+        return Err(Refusal::PayloadWords);
     }
     if left < first_length(setup) {
-        return Stop::Why {
-            why: Refusal::ShortStore,
-        };
+        return Err(Refusal::ShortStore);
     }
-    Stop::No
+    Ok(())
 }
 
 // A bench as it is told, with its first array at word `offset` of the store.
@@ -89,7 +78,7 @@ pub fn fresh(setup: Setup, store: &mut [u32]) -> Returned
 {
     let left = slots::usable(store);
     let stop = admission_stop(setup, left);
-    if let Stop::Why { why } = stop {
+    if let Err(why) = stop {
         return unmade(why);
     }
     let long = first_length(setup) as usize;
@@ -145,39 +134,29 @@ fn accept(bench: Bench, worker: u32, operation: Operation) -> Returned
 }
 
 // begin's refusals past 12, in their order.
-pub fn begin_stop(bench: Bench, worker: u32, operation: Operation) -> Stop
+pub fn begin_stop(bench: Bench, worker: u32, operation: Operation) -> Result<(), Refusal>
     requires { bench.crew ≤ 8 }
     ensures { (m l : List ℕ) → BeginStops (lent bench m l) worker operation result }
 {
     if bench.crew <= worker {
-        return Stop::Why {
-            why: Refusal::NoSuchWorker,
-        };
+        return Err(Refusal::NoSuchWorker);
     }
     if !admission::right_hand(worker, operation) {
-        return Stop::Why {
-            why: Refusal::WrongHand,
-        };
+        return Err(Refusal::WrongHand);
     }
     let i = worker as usize;
     let own = bench.workers[i];
     let line = own.line;
     if !stages::is_idle(line) {
-        return Stop::Why {
-            why: Refusal::BusyWorker,
-        };
+        return Err(Refusal::BusyWorker);
     }
     if !admission::numbers_left(operation, bench.used) {
-        return Stop::Why {
-            why: Refusal::NumbersSpent,
-        };
+        return Err(Refusal::NumbersSpent);
     }
     if !admission::asked(operation, bench.aside) {
-        return Stop::Why {
-            why: Refusal::NoAsk,
-        };
+        return Err(Refusal::NoAsk);
     }
-    Stop::No
+    Ok(())
 }
 
 pub fn begin_in(bench: Bench, worker: u32, operation: Operation) -> Returned
@@ -187,7 +166,7 @@ pub fn begin_in(bench: Bench, worker: u32, operation: Operation) -> Returned
     ensures { (m l : List ℕ) → returned result m l ≡ begin_in (lent bench m l) worker operation }
 {
     let stop = begin_stop(bench, worker, operation);
-    if let Stop::Why { why } = stop {
+    if let Err(why) = stop {
         return state::refused(bench, why);
     }
     accept(bench, worker, operation)
@@ -207,7 +186,7 @@ pub fn begin(
         return state::refused(bench, Refusal::ForeignState);
     }
     let stop = begin_stop(bench, worker, operation);
-    if let Stop::Why { why } = stop {
+    if let Err(why) = stop {
         return state::refused(bench, why);
     }
     accept(bench, worker, operation)

@@ -1,4 +1,5 @@
 -- A listing plays one list of calls.
+use Rattle.std.specs.Prelude.{Result, Ok, Err}
 use mathlib.Core.Path.{◌≡◌, refl, sym, ap, subst, ◌∙◌}
 use mathlib.Core.Bool.{Bool, true, false}
 use mathlib.Core.Logic.{◌⊎◌, inl, inr}
@@ -23,8 +24,6 @@ use Rattle.model.specs.declared.Answer.TheVariants.{
 use Rattle.model.specs.declared.Operation.TheVariants.{Put, Take, Steal}
 use Rattle.model.specs.declared.Refusal.{Refusal}
 use Rattle.model.specs.declared.Refusal.TheVariants.{BadLine}
-use Rattle.model.specs.declared.Tally.{Tally}
-use Rattle.model.specs.declared.Tally.TheVariants as tally
 use Rattle.model.specs.declared.Command.{Command}
 use Rattle.model.specs.declared.Command.TheVariants.{Open, BeginPut, BeginTake, BeginSteal, Steps, Who, End, Bad}
 use Rattle.model.specs.Tests.{when◌then◌else◌, unless◌then◌else◌}
@@ -293,9 +292,9 @@ none_answered v (Full i t) = (refl, tt)
 none_answered v (Grown i) = tt
 none_answered v (Refused r) = (refl, tt)
 
-none_told : (i : ℕ) (x : Tally) → NoneLostIn (printed_tally i x)
-none_told i (tally.Counted n) = (refl, tt)
-none_told i (tally.Refused r) = (refl, tt)
+none_told : (i : ℕ) (x : Result ℕ Refusal) → NoneLostIn (printed_tally i x)
+none_told i (Ok n) = (refl, tt)
+none_told i (Err r) = (refl, tt)
 
 none_refused : (cs : List Command) → NoneLostIn (refusals cs)
 none_refused [] = tt

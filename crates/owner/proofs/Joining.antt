@@ -7,9 +7,8 @@ use lib.ListN.{length, take, drop, length-append, length-map}
 use lib.Seq.{length-take-le, take_at, drop-append-add, drop-drop}
 use Rattle.model.specs.declared.Task.{Task}
 use Rattle.model.specs.declared.Store.{Store}
-use Rattle.model.specs.declared.Pending.{Pending}
 use Rattle.model.specs.declared.Waiting.{Waiting}
-use Rattle.model.specs.Stores.{pending, joined}
+use Rattle.model.specs.Stores.{joined}
 use Rattle.model.proofs.Landing.{joined_none}
 use Rattle.lines.specs.declared.Action.{Action}
 use Rattle.lines.specs.declared.Action.TheVariants.{Nothing, Fails, Stores, Copies, Claims, Stops, Ends}
@@ -41,7 +40,7 @@ few_stores v (Ends s x) h = omega arith
 pub kept : {l : List Store} (s : Waiting) → l ≡ [] → s ≡ joined s l
 kept s e = sym (ap (joined s) e ∙ joined_none s)
 
-abbrev line : List Pending → ℕ → Waiting
+abbrev line : List Store → ℕ → Waiting
 line l n = record { stores = l; count = n }
 
 -- one more
@@ -51,18 +50,17 @@ joined_more s a x h =
     let l = s.stores in
     let n = s.count + length a in
     let F = take s.count l in
-    let A = map pending a in
+    let A = a in
     let D = drop n l in
-    let long : length (F ++ A) ≡ n = length-append F A ∙ sums (length-take-le s.count l h) (length-map a pending) in
-    ap (λ (t : List Pending). line (take n t ++ pending x ∷ drop (n + 1) t) (n + 1)) (sym (append_assoc F A D))
-    ∙ ap (λ (t : List Pending). line (t ++ pending x ∷ drop (n + 1) (F ++ A ++ D)) (n + 1)) (take_at (F ++ A) D n long)
-    ∙ ap (λ (t : List Pending). line (F ++ A ++ pending x ∷ t) (n + 1))
+    let long : length (F ++ A) ≡ n = length-append F A ∙ sums (length-take-le s.count l h) refl in
+    ap (λ (t : List Store). line (take n t ++ x ∷ drop (n + 1) t) (n + 1)) (sym (append_assoc F A D))
+    ∙ ap (λ (t : List Store). line (t ++ x ∷ drop (n + 1) (F ++ A ++ D)) (n + 1)) (take_at (F ++ A) D n long)
+    ∙ ap (λ (t : List Store). line (F ++ A ++ x ∷ t) (n + 1))
     (subst (λ (k : ℕ). drop (k + 1) (F ++ A ++ D) ≡ drop 1 D) long (drop-append-add (F ++ A) D 1) ∙ drop-drop 1 n l)
-    ∙ ap (λ (t : List Pending). line t (n + 1))
-    (append_assoc F A (pending x ∷ drop (n + 1) l)
-    ∙ ap (λ (t : List Pending). F ++ t) (sym (append_assoc A (pending x ∷ []) (drop (n + 1) l))))
-    ∙ ap (λ (t : List Pending). line (F ++ (t ++ drop (n + 1) l)) (n + 1)) (sym (map-append pending a (x ∷ [])))
-    ∙ ap (λ (k : ℕ). line (F ++ (map pending (a ++ x ∷ []) ++ drop k l)) k) counts
+    ∙ ap (λ (t : List Store). line t (n + 1))
+    (append_assoc F A (x ∷ drop (n + 1) l)
+    ∙ ap (λ (t : List Store). F ++ t) (sym (append_assoc A (x ∷ []) (drop (n + 1) l))))
+    ∙ ap (λ (k : ℕ). line (F ++ ((a ++ x ∷ []) ++ drop k l)) k) counts
   where
     sums : {i j k m : ℕ} → i ≡ j → k ≡ m → i + k ≡ j + m
     sums e f = rw (e, f)

@@ -4,13 +4,11 @@
 
 #![tactic(auto)]
 
-ghost use Rattle.std.specs.Prelude.{◌≡◌, true, [], ℕ, ◌+◌, ◌≤◌, ◌<◌, length, take};
+ghost use Rattle.std.specs.Prelude.{◌≡◌, true, [], ℕ, ◌+◌, ◌≤◌, ◌<◌, length, take, Ok, Err};
 ghost use Rattle.model.specs.Yard.{bench_at, quota_at, no_overlap, all_below, claimed_words, aside_words, yard_ok, room_of, words_left};
-ghost use Rattle.state.specs.declared.Stop.TheVariants.{No, Why};
 ghost use Rattle.plots.specs.Places.{regions_apart, clear_of, keeps_to, keeps_at, Kept, clear_of_earlier, lies_for, lies_at, the_ground, called};
 
 use model::{Bench, Plot, Queue, Refusal, Region, Room, Yard};
-use state::Stop;
 
 // Where an array ends.
 fn end_of(region: Region) -> u64
@@ -188,27 +186,21 @@ pub fn sound(yard: Yard, store: &[u32]) -> bool
 
 // Whether a call of queue `queue` is refused before the queue is looked at: refusals 12, of which the queue's log is a part, and
 // 24. The answer says what any outcome is that begins with these refusals.
-pub fn stop(yard: Yard, queue: u32, store: &[u32], log: &[u32]) -> Stop
-    ensures { result ≡ called yard queue store.now log.now (λ w. Why w) No }
+pub fn stop(yard: Yard, queue: u32, store: &[u32], log: &[u32]) -> Result<(), Refusal>
+    ensures { result ≡ called yard queue store.now log.now (λ w. Err w) (Ok tt) }
 {
     if !sound(yard, store) {
-        return Stop::Why {
-            why: Refusal::ForeignState,
-        };
+        return Err(Refusal::ForeignState);
     }
     if yard.made <= queue {
-        return Stop::Why {
-            why: Refusal::NoSuchQueue,
-        };
+        return Err(Refusal::NoSuchQueue);
     }
     let bench = bench_at(yard, queue);
     let written = bench.written as usize;
     if log.len() < written {
-        return Stop::Why {
-            why: Refusal::ForeignState,
-        };
+        return Err(Refusal::ForeignState);
     }
-    Stop::No
+    Ok(())
 }
 
 // What is left for a new queue: the next free word, and the words behind it that nobody has set aside.

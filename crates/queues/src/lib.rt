@@ -20,7 +20,7 @@ ghost use Rattle.queues.specs.Left.{left, yielded};
 
 use answers::Entry;
 use machine::Made;
-use model::{Answer, Operation, Refusal, Setup, Tally, Worker};
+use model::{Answer, Operation, Refusal, Setup, Worker};
 
 #[derive(Clone, Copy)]
 pub struct Bench {
@@ -188,7 +188,7 @@ impl Bench {
     }
 
     // A worker's restarts: its compares that failed. Nothing changes.
-    pub fn who(self, worker: u32, store: &[u32], log: &[u32]) -> Tally
+    pub fn who(self, worker: u32, store: &[u32], log: &[u32]) -> Result<u32, Refusal>
         ensures { result ≡ who_of (lent self.state store.now log.now) worker }
     {
         events::tally(self.state, worker, store, log)
@@ -301,7 +301,7 @@ impl Yard {
     }
 
     // The restarts of a worker of the queue. Nothing changes.
-    pub fn who(self, queue: u32, worker: u32, store: &[u32], log: &[u32]) -> Tally
+    pub fn who(self, queue: u32, worker: u32, store: &[u32], log: &[u32]) -> Result<u32, Refusal>
         ensures { (ls : List (List ℕ)) → get_or ls queue [] ≡ log.now → result ≡ who_at (the_ground self.state store.now ls) queue worker }
     {
         yard_calls::tally(self.state, queue, worker, store, log)

@@ -1,4 +1,5 @@
 -- What the calls on a bench leave of the program.
+use Rattle.std.specs.Prelude.{Result, Ok, Err, ⊤}
 use Prim.Native.Nat.{ℕ, ◌≤◌, min}
 use native.Mathlib.Omega.{arith}
 use mathlib.Core.Path.{◌≡◌, refl, ap, sym, subst, ◌∙◌}
@@ -6,6 +7,7 @@ use mathlib.Core.Bool.{Bool, true, false}
 use mathlib.Core.List.{List, [], ◌∷◌, ◌++◌}
 use lib.ListN.{length, take, drop}
 use borrow.Author.Tests.{eq-eqb, ne_eqb, le-ltb}
+use Rattle.model.specs.declared.Refusal.{Refusal}
 use Rattle.model.specs.declared.Setup.{Setup}
 use Rattle.model.specs.declared.Bench.{Bench}
 use Rattle.model.specs.declared.Answer.{Answer}
@@ -16,14 +18,11 @@ use Rattle.model.specs.declared.Operation.{Operation}
 use Rattle.model.specs.declared.Operation.TheVariants.{Put}
 use Rattle.model.specs.declared.Command.{Command}
 use Rattle.model.specs.declared.Command.TheVariants.{Steps, Who}
-use Rattle.model.specs.declared.Tally.{Tally}
 use Rattle.model.specs.declared.Counts.{Counts}
 use Rattle.model.specs.Tests.{when◌then◌else◌}
 use Rattle.model.specs.World.{World, Outcome}
 use Rattle.model.specs.Limits.{valid_of}
 use Rattle.model.specs.Calls.{lent, fresh_of, begin_of, who_of}
-use Rattle.state.specs.declared.Stop.{Stop}
-use Rattle.state.specs.declared.Stop.TheVariants.{No, Why}
 use Rattle.opening.specs.Begins.{BeginStops}
 use Rattle.model.specs.Counts.{counts_of}
 use Rattle.model.specs.Listing.{Program, Response, waiting, playing, ended, printed, printed_tally, is_refused, totals, response, opened, showing, bad, putting, respond}
@@ -73,16 +72,16 @@ pub begun_by : (s b : Bench) (a : Answer) (i : ℕ) (op : Operation) (w n : ℕ)
 begun_by s b a i op w n m l e o = subst (λ (x : List ℕ). record { world = lent b x l; answer = a } ≡ begin_of (lent s x l) i op) (lent_front w n m e) o
 
 -- a begin that is refused at once
-pub begin_at_once : (v : Bool) (W : World) (i : ℕ) (op : Operation) (c : Command) (r : Stop) → v ≡ true → valid_of W ≡ true → BeginStops W i op r → respond (playing W) c ≡ showing (begin_of W i op) → RefusedAtOnce v W c r
+pub begin_at_once : (v : Bool) (W : World) (i : ℕ) (op : Operation) (c : Command) (r : Result ⊤ Refusal) → v ≡ true → valid_of W ≡ true → BeginStops W i op r → respond (playing W) c ≡ showing (begin_of W i op) → RefusedAtOnce v W c r
 unfolding begin_of
-begin_at_once v W i op c No h valid b e = tt
-begin_at_once v W i op c (Why x) h valid b e = (h, e ∙ ap showing (if_true _ valid ∙ b))
+begin_at_once v W i op c (Ok tt) h valid b e = tt
+begin_at_once v W i op c (Err x) h valid b e = (h, e ∙ ap showing (if_true _ valid ∙ b))
 
 -- a `who` outside the crew
 pub who_at_once : (W : World) (i : ℕ) (c : Command) → valid_of W ≡ true → W.bench.crew ≤ i → c ≡ Who i → respond (playing W) c ≡ response (playing W) (printed W.bench.words (Refused NoSuchWorker))
 unfolding respond who_of
 who_at_once W i c v h e =
-    ap (respond (playing W)) e ∙ ap (λ (t : Tally). response (playing W) (printed_tally i t)) (if_true _ v ∙ if_false _ (le-ltb i W.bench.crew h))
+    ap (respond (playing W)) e ∙ ap (λ (t : Result ℕ Refusal). response (playing W) (printed_tally i t)) (if_true _ v ∙ if_false _ (le-ltb i W.bench.crew h))
 
 -- a `put` with as many words as the bench's payloads have, and with another count
 pub put_right : (W : World) (v : ℕ) (p : Payload) → v ≡ W.bench.words → putting W v p ≡ showing (begin_of W 0 (Put p))
@@ -170,12 +169,12 @@ module _ (u : Setup) (w n : ℕ) (m l p : List ℕ) (b : Bench) (a : Answer) (e 
       }
 
 -- `who`: the restarts on the words that were lent
-pub who_by : (s : Session) (i n : ℕ) (m l : List ℕ) (t : Tally) (e : ℕ) (before : List ℕ) (at : ℕ) (after : List ℕ) → s.live ≡ true → n ≡ min s.long (length m) → t ≡ who_of (lent s.bench (take n m) l) i →
+pub who_by : (s : Session) (i n : ℕ) (m l : List ℕ) (t : Result ℕ Refusal) (e : ℕ) (before : List ℕ) (at : ℕ) (after : List ℕ) → s.live ≡ true → n ≡ min s.long (length m) → t ≡ who_of (lent s.bench (take n m) l) i →
     Placed before at (shown_all (printed_tally i t)) e after →
     AnsweredBy (response (playing (world_of s m l)) (printed_tally i (who_of (world_of s m l) i))) (played s e) m l before at after
 who_by s i n m l t e before at after v h f p = record {
   program = left_on false s m l refl ∙ program_live s m l v;
-  text = subst (λ (x : Tally). Placed before at (shown_all (printed_tally i x)) e after)
+  text = subst (λ (x : Result ℕ Refusal). Placed before at (shown_all (printed_tally i x)) e after)
       (f ∙ ap (λ (x : List ℕ). who_of (lent s.bench x l) i) (lent_front s.long n m h)) p;
 }
 

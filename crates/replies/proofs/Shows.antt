@@ -1,13 +1,13 @@
 -- The text of what is printed, and its length.
+use Rattle.std.specs.Prelude.{Result, Ok, Err}
 use Prim.Native.Nat.{ℕ, ◌+◌, ◌*◌, ◌≤◌}
 use native.Mathlib.Omega.{arith}
 use mathlib.Core.Path.{◌≡◌, refl, ap, sym, ◌∙◌}
 use mathlib.Core.List.{List, [], ◌∷◌, ◌++◌, append_assoc, append-nil}
 use lib.ListN.{length, take, drop, length-take}
+use Rattle.model.specs.declared.Refusal.{Refusal}
 use Rattle.model.specs.declared.Answer.{Answer}
 use Rattle.model.specs.declared.Answer.TheVariants.{Accepted, Numbered, GoesOn, Finished, HandedOut, Empty, Full, Grown, Refused}
-use Rattle.model.specs.declared.Tally.{Tally}
-use Rattle.model.specs.declared.Tally.TheVariants as tally
 use Rattle.model.specs.declared.Counts.{Counts}
 use Rattle.model.specs.Tasks.{words_in}
 use Rattle.model.specs.Answers.{number_of}
@@ -47,10 +47,10 @@ answer_most v (Full i t) = most _ 128 (F t.number) (t.number ∷ []) refl (omega
 answer_most v (Grown i) = rw show_none (omega arith)
 answer_most v (Refused r) = most _ 128 (R (number_of r)) (number_of r ∷ []) refl (omega arith)
 
-pub tally_most : (i : ℕ) (t : Tally) → length (shown_all (printed_tally i t)) ≤ 128
+pub tally_most : (i : ℕ) (t : Result ℕ Refusal) → length (shown_all (printed_tally i t)) ≤ 128
 unfolding shown
-tally_most i (tally.Counted n) = most _ 128 (Wi i n) (i ∷ n ∷ []) refl (omega arith)
-tally_most i (tally.Refused r) = most _ 128 (R (number_of r)) (number_of r ∷ []) refl (omega arith)
+tally_most i (Ok n) = most _ 128 (Wi i n) (i ∷ n ∷ []) refl (omega arith)
+tally_most i (Err r) = most _ 128 (R (number_of r)) (number_of r ∷ []) refl (omega arith)
 
 pub totals_most : (c : Counts) → length (shown_all (totals c ∷ [])) ≤ 128
 unfolding shown

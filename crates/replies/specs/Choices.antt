@@ -1,5 +1,6 @@
 -- Which way a line goes. Only the contracts of the parts that `consume` is put together from name these; no claim is made in their words.
-use Rattle.std.specs.Prelude.{◌≡◌, Bool, true}
+use Rattle.std.specs.Prelude.{◌≡◌, Bool, true, Result, Ok, Err, ⊤}
+use Rattle.model.specs.declared.Refusal.{Refusal}
 use Rattle.model.specs.declared.Command.{Command}
 use Rattle.model.specs.declared.Command.TheVariants.{Open, BeginPut, BeginTake, BeginSteal, Steps, Who, End, Bad}
 use Rattle.model.specs.declared.Answer.{Answer}
@@ -7,8 +8,6 @@ use Rattle.model.specs.declared.Answer.TheVariants.{Accepted, Numbered, GoesOn, 
 use Rattle.model.specs.Tests.{when◌then◌else◌}
 use Rattle.model.specs.World.{World}
 use Rattle.model.specs.Listing.{playing, response, printed, respond}
-use Rattle.state.specs.declared.Stop.{Stop}
-use Rattle.state.specs.declared.Stop.TheVariants.{No, Why}
 use Rattle.replies.specs.declared.Asked.{Asked}
 use Rattle.replies.specs.declared.Asked.TheVariants.{Other, Step}
 use Rattle.replies.specs.declared.Progress.{Progress}
@@ -38,6 +37,6 @@ asked_of v End = Other
 asked_of v Bad = Other
 
 -- the line is refused and changes nothing, while the bench W is played; or nothing is said of it
-abbrev pub RefusedAtOnce : Bool → World → Command → Stop → Type 0
-RefusedAtOnce v W c No = Unit {0}
-RefusedAtOnce v W c (Why r) = (v ≡ true) × (respond (playing W) c ≡ response (playing W) (printed W.bench.words (Refused r)))
+abbrev pub RefusedAtOnce : Bool → World → Command → Result ⊤ Refusal → Type 0
+RefusedAtOnce v W c (Ok tt) = Unit {0}
+RefusedAtOnce v W c (Err r) = (v ≡ true) × (respond (playing W) c ≡ response (playing W) (printed W.bench.words (Refused r)))

@@ -28,8 +28,7 @@ ghost use Rattle.replies.specs.Shown.{shown_all};
 ghost use Rattle.replies.specs.Sessions.{world_of, program_of, AnsweredBy};
 ghost use Rattle.replies.specs.Choices.{progress_of, asked_of, RefusedAtOnce};
 
-use model::{Answer, Bench, Command, Operation, Payload, Refusal, Setup, Tally};
-use state::Stop;
+use model::{Answer, Bench, Command, Operation, Payload, Refusal, Setup};
 
 // Room enough for the text of any line, in bytes: six numbers of 64 bits behind a letter have 128, and a `step` can print two such
 // lines. A line is played only where the output has room for it.
@@ -129,16 +128,16 @@ pub fn show(words: u32, answer: Answer, out: &mut [u8], at: usize) -> usize
 }
 
 // The same for what asking for a worker's restarts prints.
-fn show_tally(worker: u32, tally: Tally, out: &mut [u8], at: usize) -> usize
+fn show_tally(worker: u32, tally: Result<u32, Refusal>, out: &mut [u8], at: usize) -> usize
     requires { at + 128 ≤ length out.old }
     ensures { Placed out.old at (shown_all (printed_tally worker tally)) result out.new }
 {
     match tally {
-        Tally::Counted { restarts } => {
+        Ok(restarts) => {
             let v = [worker as u64, restarts as u64];
             text::print(out, at, b'W', &v)
         }
-        Tally::Refused { why } => {
+        Err(why) => {
             let answer = Answer::Refused { why };
             show(0, answer, out, at)
         }
@@ -438,12 +437,12 @@ pub fn ask(live: bool, command: Command) -> Asked
 }
 
 // Whether a line is refused at once and changes nothing, while a bench is played. `step` is not looked at.
-pub fn refused_at_once(live: bool, bench: Bench, command: Command) -> Stop
+pub fn refused_at_once(live: bool, bench: Bench, command: Command) -> Result<(), Refusal>
     requires { live ≡ true → bench.crew ≤ 8 }
     ensures { (m l : List ℕ) → (live ≡ true → valid_of (lent bench m l) ≡ true) → RefusedAtOnce live (lent bench m l) command result }
 {
     if !live {
-        return Stop::No;
+        return Ok(());
     }
     match command {
         Command::Open {
@@ -453,14 +452,10 @@ pub fn refused_at_once(live: bool, bench: Bench, command: Command) -> Stop
             workers: _,
             store: _,
             words: _,
-        } => Stop::Why {
-            why: Refusal::BadLine,
-        },
+        } => Err(Refusal::BadLine),
         Command::BeginPut { words, payload } => {
             if words != bench.words {
-                return Stop::Why {
-                    why: Refusal::BadLine,
-                };
+                return Err(Refusal::BadLine);
             }
             let operation = Operation::Put { payload };
             opening::begin_stop(bench, 0, operation)
@@ -476,18 +471,14 @@ pub fn refused_at_once(live: bool, bench: Bench, command: Command) -> Stop
         Command::Steps {
             worker: _,
             times: _,
-        } => Stop::No,
+        } => Ok(()),
         Command::Who { worker } => {
             if bench.crew <= worker {
-                return Stop::Why {
-                    why: Refusal::NoSuchWorker,
-                };
+                return Err(Refusal::NoSuchWorker);
             }
-            Stop::No
+            Ok(())
         }
-        Command::End => Stop::No,
-        Command::Bad => Stop::Why {
-            why: Refusal::BadLine,
-        },
+        Command::End => Ok(()),
+        Command::Bad => Err(Refusal::BadLine),
     }
 }

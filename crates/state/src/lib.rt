@@ -12,22 +12,13 @@ ghost use Rattle.model.specs.Stores.{anchored, publishing, none_pending};
 ghost use Rattle.model.specs.Calls.{blank_at, no_bench, link_set};
 ghost use Rattle.state.specs.Pieces.{opened};
 
-use model::{
-    Anchor, Answer, Bench, Kind, Line, Pending, Queue, Refusal, Region, Store, Waiting, Worker,
-};
+use model::{Anchor, Answer, Bench, Kind, Line, Queue, Refusal, Region, Store, Waiting, Worker};
 
 // What a call hands back: the next state, and the answer.
 #[derive(Clone, Copy)]
 pub struct Returned {
     pub bench: Bench,
     pub answer: Answer,
-}
-
-// Whether a call is refused before anything is done, and why.
-#[derive(Clone, Copy)]
-pub enum Stop {
-    No,
-    Why { why: Refusal },
 }
 
 // A refusal hands the state back as it came in.
@@ -42,16 +33,15 @@ pub fn refused(bench: Bench, why: Refusal) -> Returned
 }
 
 // A place of the waiting line in which no store waits.
-pub fn none_pending() -> Pending
+pub fn none_pending() -> Store
     ensures { result ≡ none_pending }
 {
-    let store = Store::StoreWord {
+    Store::StoreWord {
         place: 0,
         slot: 0,
         word: 0,
         value: 0,
-    };
-    Pending { store }
+    }
 }
 
 // A state with no operation open, over one array of `size` tasks of `words` payload words, at word `offset` of the store.

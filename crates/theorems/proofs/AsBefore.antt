@@ -5,7 +5,6 @@ use mathlib.Core.List.{List, [], ◌∷◌, map}
 use Prim.Native.Nat.{ℕ, zero, suc, ◌-◌, ◌≤◌}
 use native.Mathlib.Omega.{arith}
 use lib.ListN.{take, drop}
-use Rattle.model.specs.declared.Pending.{Pending}
 use Rattle.model.specs.declared.Task.{Task}
 use Rattle.model.specs.declared.Room.{Room}
 use Rattle.model.specs.Tests.{when◌then◌else◌}
@@ -86,7 +85,7 @@ concerns T (suc i) k l t A a = nothing_waits T k (drains (between k l T)) (Finis
 
 reads : (W : World) → W.bench.waiting.count ≡ 0 → owners_view W ≡ memory W
 unfolding landed_all
-reads W e = ap (λ (n : ℕ). landed_all W.bench.words (memory W) (map (λ (p : Pending). p.store) (take n W.bench.waiting.stores))) e
+reads W e = ap (λ (n : ℕ). landed_all W.bench.words (memory W) (take n W.bench.waiting.stores)) e
 
 -- in company, and alone
 pub as_before : (ts : List Turn) (W : World) → Whole W → InCompany W ts → W.bench.delayed ≡ false → Undelayed (played_in W ts) (after_in W ts)

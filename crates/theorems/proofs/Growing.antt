@@ -18,7 +18,6 @@ use Rattle.model.specs.declared.Line.{Line}
 use Rattle.model.specs.declared.Line.TheVariants.{Idle, PutRead, PutTail, PutTest, PutWord, PutFinish, Claim, Note, Copy, Publish, TakeRead, TakeTail, TakeTest, TakeWord, TakeFinish, StealRead, StealTail, StealTest, StealNote, StealWord, StealNext, StealCompare}
 use Rattle.model.specs.declared.Anchor.{Anchor}
 use Rattle.model.specs.declared.Region.{Region}
-use Rattle.model.specs.declared.Pending.{Pending}
 use Rattle.model.specs.declared.Queue.{Queue}
 use Rattle.model.specs.declared.Room.{Room}
 use Rattle.model.specs.declared.Store.{Store}
@@ -388,7 +387,7 @@ after_step P false l rr a d p ω m none h x =
     (subst (λ (ss : List Store). P (anchor_after rr (anchor_after ss a)) (places rr (places ss p)) (words ω d rr (words ω d ss m))) empty x)
   where
     empty : in_line l ≡ []
-    empty = ap (λ (k : ℕ). map (λ (u : Pending). u.store) (take k l.stores)) (none refl)
+    empty = ap (λ (k : ℕ). take k l.stores) (none refl)
 
     empty' : in_line (joined l []) ≡ []
     empty' = line_join l [] h ∙ ap (λ (y : List Store). y ++ []) empty

@@ -20,7 +20,6 @@ use Rattle.model.specs.declared.Answer.TheVariants.{Accepted, Numbered, GoesOn, 
 use Rattle.model.specs.declared.Task.{Task}
 use Rattle.model.specs.declared.Anchor.{Anchor}
 use Rattle.model.specs.declared.Store.{Store}
-use Rattle.model.specs.declared.Pending.{Pending}
 use Rattle.model.specs.declared.Waiting.{Waiting}
 use Rattle.model.specs.declared.Store.TheVariants.{StoreWord, StoreNote, StorePut, StoreOut, StoreHead, StoreTail}
 use Rattle.theorems.proofs.Folds.{anchor_after, laid, words_of, words, AllWords, copy_words_lem, NonePut, arrays_after, queue_after, store_after}
@@ -621,7 +620,7 @@ at_once : (ρ : Room) (κ : Kind) (w ω : ℕ) (l : Waiting) (Q : Queue) (μ : L
 at_once ρ κ w ω l Q μ o φ h wide len none = go (in_line l) l.count (in_line (joined l [])) empty none (line_join l [] len ∙ no_more (in_line l) ∙ empty)
   where
     empty : in_line l ≡ []
-    empty = ap (λ (k : ℕ). map (λ (p : Pending). p.store) (take k l.stores)) none
+    empty = ap (λ (k : ℕ). take k l.stores) none
 
     go : (ss : List Store) (n : ℕ) (rr : List Store) → ss ≡ [] → n ≡ 0 → rr ≡ [] → (own_effect ρ κ w ω ss Q μ o).claims ≡ false → Inv κ w ω false Q μ ss o φ h
         → let E = own_effect ρ κ w ω ss Q μ o in

@@ -1,4 +1,5 @@
 -- After every list from fresh `who` answers how often a worker was beaten.
+use Rattle.std.specs.Prelude.{Ok}
 use mathlib.Core.Path.{◌≡◌, refl, sym, ap, subst, ◌∙◌}
 use mathlib.Core.Bool.{Bool, true, false, not}
 use mathlib.Core.List.{List, [], ◌∷◌}
@@ -7,7 +8,6 @@ use native.Mathlib.Omega.{arith}
 use lib.Dec.{eqb, leb}
 use lib.ListN.{length, replicate, length-set}
 use borrow.Author.Tests.{eqb-true, eqb-false, leb-true, leb-false, lt-ltb}
-use Rattle.model.specs.declared.Tally.TheVariants.{Counted}
 use Rattle.model.specs.declared.Room.{Room}
 use Rattle.model.specs.Tests.{when◌then◌else◌, ◌and◌}
 use Rattle.model.specs.Lines.{fails_compare}
@@ -141,17 +141,17 @@ none_yet (suc n) zero = refl
 none_yet (suc n) (suc k) = none_yet n k
 
 -- in company, and alone
-pub who_in_lem : (ts : List Turn) (U : World) → Started U → (k : ℕ) → k < U.bench.crew → who_in (after_in U ts) k ≡ Counted (up_to (beaten k (played_in U ts)))
+pub who_in_lem : (ts : List Turn) (U : World) → Started U → (k : ℕ) → k < U.bench.crew → who_in (after_in U ts) k ≡ Ok (up_to (beaten k (played_in U ts)))
 who_in_lem ts U F k h =
     let start : restarts_of U.bench.restarts k ≡ 0 = ap (λ (ns : List ℕ). restarts_of ns k) F.counts ∙ none_yet 8 k in
     let many : length U.bench.restarts ≡ 8 = ap length F.counts in
     let R = run_counts ts U k (omega (arith, many, F.whole.crew.1)) (omega (arith, start)) in
     if_true _ (lt-ltb k (after_in U ts).bench.crew (omega (arith, R.0, h)))
-    ∙ ap (λ (n : ℕ). Counted n)
+    ∙ ap (λ (n : ℕ). Ok n)
     (R.1 ∙ ap up_to {x = restarts_of U.bench.restarts k + beaten k (played_in U ts)} {y = beaten k (played_in U ts)} (omega (arith, start)))
 
 pub who_counts : WhoCounts
 unfolding who_of
 who_counts s m l e cs k h =
     if_true _ (never_foreign s m l e cs).valid
-    ∙ from_company (λ (T : List Played) (X : World). who_in X k ≡ Counted (up_to (beaten k T))) s m l e (λ ts C. who_in_lem ts _ (fresh_started s m l e) k h) cs
+    ∙ from_company (λ (T : List Played) (X : World). who_in X k ≡ Ok (up_to (beaten k T))) s m l e (λ ts C. who_in_lem ts _ (fresh_started s m l e) k h) cs

@@ -17,7 +17,6 @@ use Rattle.model.specs.declared.Line.{Line}
 use Rattle.model.specs.declared.Line.TheVariants.{Idle, PutRead, PutTail, PutTest, PutWord, PutFinish, Claim, Note, Copy, Publish, TakeRead, TakeTail, TakeTest, TakeWord, TakeFinish, StealRead, StealTail, StealTest, StealNote, StealWord, StealNext, StealCompare}
 use Rattle.model.specs.declared.Queue.{Queue}
 use Rattle.model.specs.declared.Store.{Store}
-use Rattle.model.specs.declared.Pending.{Pending}
 use Rattle.model.specs.declared.Waiting.{Waiting}
 use Rattle.model.specs.declared.Worker.{Worker}
 use Rattle.model.specs.declared.Operation.{Operation}
@@ -121,7 +120,7 @@ own_landed κ w ω used low q m o φ false l rr none h S =
     (lows rr low, subst (λ (ss : List Store). Shape κ w ω used (lows rr low) (laid rr q) (words ω q.arrays rr m) ss o φ) (sym empty') (shape_settle κ rr S'))
   where
     empty : in_line l ≡ []
-    empty = ap (λ (k : ℕ). map (λ (p : Pending). p.store) (take k l.stores)) (none refl)
+    empty = ap (λ (k : ℕ). take k l.stores) (none refl)
 
     empty' : in_line (joined l []) ≡ []
     empty' = line_join l [] h ∙ ap (λ (y : List Store). y ++ []) empty

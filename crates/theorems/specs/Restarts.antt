@@ -1,5 +1,5 @@
 -- Restarts as the field counts them: a compare that fails, and nothing else.
-use Rattle.std.specs.Prelude.{◌≡◌, Bool, false, not, List, [], ◌∷◌, ℕ, ◌+◌, ◌≤◌, ◌<◌, eqb, leb, length}
+use Rattle.std.specs.Prelude.{◌≡◌, Bool, false, not, List, [], ◌∷◌, ℕ, ◌+◌, ◌≤◌, ◌<◌, eqb, leb, length, Ok}
 use Rattle.model.specs.declared.Kind.{Kind}
 use Rattle.model.specs.declared.Line.{Line}
 use Rattle.model.specs.declared.Queue.{Queue}
@@ -7,7 +7,6 @@ use Rattle.model.specs.declared.Room.{Room}
 use Rattle.model.specs.declared.Refusal.{Refusal}
 use Rattle.model.specs.declared.Answer.{Answer}
 use Rattle.model.specs.declared.Answer.TheVariants.{Refused}
-use Rattle.model.specs.declared.Tally.TheVariants.{Counted}
 use Rattle.model.specs.Tests.{when◌then◌else◌, ◌and◌}
 use Rattle.model.specs.Lines.{line_step, fails_compare}
 use Rattle.model.specs.World.{World, line_at, is_steal1}
@@ -49,7 +48,7 @@ up_to n = when leb n 4294967295 then n else 4294967295
 abbrev pub WhoCounts : Type 0
 WhoCounts =
     FromFresh
-    (λ W. (cs : List Call) (k : ℕ) → k < W.bench.crew → who_of (after W cs) k ≡ Counted (up_to (beaten k (played W cs))))
+    (λ W. (cs : List Call) (k : ℕ) → k < W.bench.crew → who_of (after W cs) k ≡ Ok (up_to (beaten k (played W cs))))
 
 -- a compare that fails leaves its thief at line 1, and no other line does
 abbrev pub BackToLine1 : Type 0

@@ -6,7 +6,9 @@
 
 ghost use Rattle.std.specs.Prelude.{◌<◌};
 
-use model::{Anchor, Answer, Growth, Line, Operation, Payload, Region, Setup, Tally, Task, Worker};
+use model::{
+    Anchor, Answer, Growth, Line, Operation, Payload, Refusal, Region, Setup, Task, Worker,
+};
 use queues::{Bench, Reply};
 use std::io::{Print, Stdout};
 
@@ -76,10 +78,10 @@ pub fn say_of(out: Stdout, call: &[u8], reply: Reply) {
     say(out, answer);
 }
 
-pub fn say_tally(out: Stdout, tally: Tally) {
+pub fn say_tally(out: Stdout, tally: Result<u32, Refusal>) {
     match tally {
-        Tally::Counted { restarts } => number(out, restarts),
-        Tally::Refused { why } => {
+        Ok(restarts) => number(out, restarts),
+        Err(why) => {
             text(out, b"refused ");
             number(out, queues::number_of(why));
         }

@@ -7,7 +7,6 @@ use native.Mathlib.Omega.{arith}
 use lib.ListN.{length, get_or, drop}
 use Rattle.model.specs.declared.Queue.{Queue}
 use Rattle.model.specs.declared.Store.{Store}
-use Rattle.model.specs.declared.Pending.{Pending}
 use Rattle.model.specs.Tests.{◌and◌}
 use Rattle.model.specs.Stores.{Shared, landed, landed_all, none_pending}
 use Rattle.model.proofs.Tests.{and_left, and_right, and_true, and_assoc}
@@ -15,15 +14,15 @@ use Rattle.model.proofs.Landing.{landed_more}
 use Rattle.waiting.specs.Places.{note_ok, notes_ok, first_in, Placed, AllPlaced}
 
 -- the store at place i
-abbrev pub store_at : List Pending → ℕ → Store
-store_at l i = (get_or l i none_pending).store
+abbrev pub store_at : List Store → ℕ → Store
+store_at l i = get_or l i none_pending
 
-pub first_more : (l : List Pending) (i : ℕ) → i < length l → first_in l (suc i) ≡ first_in l i ++ store_at l i ∷ []
+pub first_more : (l : List Store) (i : ℕ) → i < length l → first_in l (suc i) ≡ first_in l i ++ store_at l i ∷ []
 first_more [] i h = absurd (omega arith)
 first_more (x ∷ l) zero h = refl
-first_more (x ∷ l) (suc i) h = ap (λ (r : List Store). x.store ∷ r) (first_more l i (omega arith))
+first_more (x ∷ l) (suc i) h = ap (λ (r : List Store). x ∷ r) (first_more l i (omega arith))
 
-pub lands_next : (v : ℕ) (S : Shared) (l : List Pending) (i : ℕ) → i < length l
+pub lands_next : (v : ℕ) (S : Shared) (l : List Store) (i : ℕ) → i < length l
     → landed_all v S (first_in l (suc i)) ≡ landed v (landed_all v S (first_in l i)) (store_at l i)
 unfolding landed_all
 lands_next v S l i h = ap (landed_all v S) (first_more l i h) ∙ landed_more v S (first_in l i) (store_at l i ∷ [])
@@ -31,25 +30,25 @@ lands_next v S l i h = ap (landed_all v S) (first_more l i h) ∙ landed_more v 
 -- a test of each store
 module _ (test : Store → Bool) (all : List Store → Bool) (none : all [] ≡ true)
     (turn : (s : Store) (l : List Store) → all (s ∷ l) ≡ (test s and all l)) where
-  pub tests_next : (l : List Pending) (i : ℕ) → i < length l → all (first_in l (suc i)) ≡ (all (first_in l i) and test (store_at l i))
+  pub tests_next : (l : List Store) (i : ℕ) → i < length l → all (first_in l (suc i)) ≡ (all (first_in l i) and test (store_at l i))
   tests_next [] i h = absurd (omega arith)
   tests_next (x ∷ l) zero h =
-      turn x.store []
-      ∙ ap (λ (b : Bool). test x.store and b) none
-      ∙ and_true (test x.store)
-      ∙ ap (λ (b : Bool). b and test x.store) (sym none)
+      turn x []
+      ∙ ap (λ (b : Bool). test x and b) none
+      ∙ and_true (test x)
+      ∙ ap (λ (b : Bool). b and test x) (sym none)
   tests_next (x ∷ l) (suc i) h =
-      turn x.store (first_in l (suc i))
-      ∙ ap (λ (b : Bool). test x.store and b) (tests_next l i (omega arith))
-      ∙ and_assoc (test x.store) (all (first_in l i)) (test (store_at l i))
-      ∙ ap (λ (b : Bool). b and test (store_at l i)) (sym (turn x.store (first_in l i)))
+      turn x (first_in l (suc i))
+      ∙ ap (λ (b : Bool). test x and b) (tests_next l i (omega arith))
+      ∙ and_assoc (test x) (all (first_in l i)) (test (store_at l i))
+      ∙ ap (λ (b : Bool). b and test (store_at l i)) (sym (turn x (first_in l i)))
 
-  pub test_at : (l : List Pending) (i n : ℕ) → i < n → i < length l → all (first_in l n) ≡ true → test (store_at l i) ≡ true
+  pub test_at : (l : List Store) (i n : ℕ) → i < n → i < length l → all (first_in l n) ≡ true → test (store_at l i) ≡ true
   test_at [] i n h k e = absurd (omega arith)
   test_at (x ∷ l) i zero h k e = absurd (omega arith)
-  test_at (x ∷ l) zero (suc n) h k e = and_left (test x.store) (all (first_in l n)) (sym (turn x.store (first_in l n)) ∙ e)
+  test_at (x ∷ l) zero (suc n) h k e = and_left (test x) (all (first_in l n)) (sym (turn x (first_in l n)) ∙ e)
   test_at (x ∷ l) (suc i) (suc n) h k e =
-      test_at l i n (omega arith) (omega arith) (and_right (test x.store) (all (first_in l n)) (sym (turn x.store (first_in l n)) ∙ e))
+      test_at l i n (omega arith) (omega arith) (and_right (test x) (all (first_in l n)) (sym (turn x (first_in l n)) ∙ e))
 
 -- notes that name a place of the directory
 no_notes : notes_ok [] ≡ true
@@ -60,10 +59,10 @@ notes_turn : (s : Store) (l : List Store) → notes_ok (s ∷ l) ≡ (note_ok s 
 unfolding notes_ok
 notes_turn s l = refl
 
-pub notes_next : (l : List Pending) (i : ℕ) → i < length l → notes_ok (first_in l (suc i)) ≡ (notes_ok (first_in l i) and note_ok (store_at l i))
+pub notes_next : (l : List Store) (i : ℕ) → i < length l → notes_ok (first_in l (suc i)) ≡ (notes_ok (first_in l i) and note_ok (store_at l i))
 notes_next = tests_next note_ok notes_ok no_notes notes_turn
 
-pub note_at : (l : List Pending) (i n : ℕ) → i < n → i < length l → notes_ok (first_in l n) ≡ true → note_ok (store_at l i) ≡ true
+pub note_at : (l : List Store) (i n : ℕ) → i < n → i < length l → notes_ok (first_in l n) ≡ true → note_ok (store_at l i) ≡ true
 note_at = test_at note_ok notes_ok no_notes notes_turn
 
 pub one_note : (s : Store) → note_ok s ≡ true → notes_ok (s ∷ []) ≡ true
@@ -75,7 +74,7 @@ unfolding notes_ok
 its_note s e = and_left (note_ok s) true e
 
 -- words that have a place
-pub placed_at : (v : ℕ) (q : Queue) (w : ℕ) (l : List Pending) (i n : ℕ) → i < n → i < length l → AllPlaced v q w (first_in l n)
+pub placed_at : (v : ℕ) (q : Queue) (w : ℕ) (l : List Store) (i n : ℕ) → i < n → i < length l → AllPlaced v q w (first_in l n)
     → Placed v q w (store_at l i)
 placed_at v q w [] i n h k P = absurd (omega arith)
 placed_at v q w (x ∷ l) i zero h k P = absurd (omega arith)
@@ -83,7 +82,7 @@ placed_at v q w (x ∷ l) zero (suc n) h k P = P.0
 placed_at v q w (x ∷ l) (suc i) (suc n) h k P = placed_at v q w l i n (omega arith) (omega arith) P.1
 
 -- eight places without the first
-pub seven_left : (l : List Pending) (d x : Pending) → length l ≡ 8
+pub seven_left : (l : List Store) (d x : Store) → length l ≡ 8
     → (get_or l 1 d ∷ get_or l 2 d ∷ get_or l 3 d ∷ get_or l 4 d ∷ get_or l 5 d ∷ get_or l 6 d ∷ get_or l 7 d ∷ x ∷ []) ≡ drop 1 l ++ x ∷ []
 seven_left [] d x e = absurd (omega arith)
 seven_left (a ∷ []) d x e = absurd (omega arith)

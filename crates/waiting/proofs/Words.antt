@@ -9,7 +9,6 @@ use borrow.Author.Count.{below_more}
 use Rattle.model.specs.declared.Queue.{Queue}
 use Rattle.model.specs.declared.Store.{Store}
 use Rattle.model.specs.declared.Store.TheVariants.{StoreWord, StoreNote, StorePut, StoreOut, StoreHead, StoreTail}
-use Rattle.model.specs.declared.Pending.{Pending}
 use Rattle.model.specs.declared.Region.{Region}
 use Rattle.model.specs.Memory.{word_at, set_word, offset_at}
 use Rattle.model.specs.Stores.{Shared, shared, landed, landed_all}
@@ -58,10 +57,10 @@ same_words v S q (StoreHead h) e = refl
 same_words v S q (StoreTail t) e = refl
 
 -- memory m with the first i stores of l put down
-abbrev pub down : ℕ → Queue → List ℕ → List Pending → ℕ → List ℕ
+abbrev pub down : ℕ → Queue → List ℕ → List Store → ℕ → List ℕ
 down v q m l i = (landed_all v (shared q m) (first_in l i)).store
 
-pub next_word : (v : ℕ) (q : Queue) (m : List ℕ) (l : List Pending) (i : ℕ) → i < length l
+pub next_word : (v : ℕ) (q : Queue) (m : List ℕ) (l : List Store) (i : ℕ) → i < length l
     → down v q m l (suc i) ≡ (landed v (shared q (down v q m l i)) (store_at l i)).store
 next_word v q m l i h =
     let S = landed_all v (shared q m) (first_in l i) in
@@ -93,11 +92,11 @@ placed_valued v q n (StoreHead h) y P = P
 placed_valued v q n (StoreTail t) y P = P
 
 -- one more word kept
-pub kept_none : (v : ℕ) (q : Queue) (m : List ℕ) (l : List Pending) (ws : List ℕ) → KeptBy v q m (record { stores = l; count = 0 }) ws
+pub kept_none : (v : ℕ) (q : Queue) (m : List ℕ) (l : List Store) (ws : List ℕ) → KeptBy v q m (record { stores = l; count = 0 }) ws
 unfolding KeptBy
 kept_none v q m l ws i h = absurd (omega arith)
 
-pub kept_more : (v : ℕ) (q : Queue) (m : List ℕ) (l : List Pending) (ws : List ℕ) (i x : ℕ) → i < length ws
+pub kept_more : (v : ℕ) (q : Queue) (m : List ℕ) (l : List Store) (ws : List ℕ) (i x : ℕ) → i < length ws
     → KeptBy v q m (record { stores = l; count = i }) ws → x ≡ covered_by v q (down v q m l i) (store_at l i)
     → KeptBy v q m (record { stores = l; count = i + 1 }) (set ws i x)
 unfolding KeptBy
@@ -105,7 +104,7 @@ kept_more v q m l ws i x h K e =
     below_more _ i (λ k g. get_or-set_other ws i k x 0 (λ f. omega (arith, g, f)) ∙ K k g) (get_or-set_same ws i x 0 h ∙ e)
 
 -- the youngest lifted
-pub lift_one : {s n : List ℕ} {x : Store} {y : ℕ} (v : ℕ) (q : Queue) (m : List ℕ) (l : List Pending) (i : ℕ) → i < length l
+pub lift_one : {s n : List ℕ} {x : Store} {y : ℕ} (v : ℕ) (q : Queue) (m : List ℕ) (l : List Store) (i : ℕ) → i < length l
     → s ≡ down v q m l (suc i) → y ≡ covered_by v q (down v q m l i) (store_at l i) → x ≡ valued (store_at l i) y
     → n ≡ (landed v (shared q s) x).store → n ≡ down v q m l i
 lift_one {s} {n} {x} {y} v q m l i h e f g d =

@@ -3,7 +3,6 @@ use Rattle.std.specs.Prelude.{Bool, true, List, [], ◌∷◌, map, ◌≡◌, �
 use Rattle.model.specs.declared.Queue.{Queue}
 use Rattle.model.specs.declared.Store.{Store}
 use Rattle.model.specs.declared.Store.TheVariants.{StoreWord, StoreNote, StorePut, StoreOut, StoreHead, StoreTail}
-use Rattle.model.specs.declared.Pending.{Pending}
 use Rattle.model.specs.declared.Waiting.{Waiting}
 use Rattle.model.specs.Tests.{◌and◌}
 use Rattle.model.specs.Memory.{word_at, offset_at}
@@ -23,8 +22,8 @@ notes_ok [] = true
 notes_ok (s ∷ l) = note_ok s and notes_ok l
 
 -- the first n stores of a line
-abbrev pub first_in : List Pending → ℕ → List Store
-first_in l n = map (λ p. p.store) (take n l)
+abbrev pub first_in : List Store → ℕ → List Store
+first_in l n = take n l
 
 -- a task's word has a place in the queue's directory and in a store of n words
 abbrev pub Placed : ℕ → Queue → ℕ → Store → Type 0
@@ -61,4 +60,4 @@ valued (StoreTail t) y = StoreTail t
 unfoldable pub KeptBy : ℕ → Queue → List ℕ → Waiting → List ℕ → Type 0
 KeptBy v q m l ws =
     (i : ℕ) → i < l.count
-    → get_or ws i 0 ≡ covered_by v q (landed_all v (shared q m) (first_in l.stores i)).store (get_or l.stores i none_pending).store
+    → get_or ws i 0 ≡ covered_by v q (landed_all v (shared q m) (first_in l.stores i)).store (get_or l.stores i none_pending)

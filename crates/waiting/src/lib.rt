@@ -10,7 +10,7 @@ ghost use Rattle.model.specs.Stores.{shared, landed, landed_all, in_line, joined
 ghost use Rattle.slots.specs.Bounds.{Wide};
 ghost use Rattle.waiting.specs.Places.{note_ok, notes_ok, Placed, AllPlaced, covered_by, valued, KeptBy};
 
-use model::{Pending, Queue, Store, Waiting};
+use model::{Queue, Store, Waiting};
 
 fn note_ok(landing: Store) -> bool
     ensures { result ≡ note_ok landing }
@@ -40,8 +40,7 @@ pub fn notes_ok(waiting: Waiting) -> bool
     let mut good = true;
     let mut i: usize = 0;
     while i < count {
-        let one = stores[i];
-        let landing = one.store;
+        let landing = stores[i];
         let fine = note_ok(landing);
         good = good && fine;
         i += 1;
@@ -93,8 +92,7 @@ pub fn seen(queue: Queue, waiting: Waiting) -> Queue
     let mut next = queue;
     let mut i: usize = 0;
     while i < count {
-        let one = stores[i];
-        let landing = one.store;
+        let landing = stores[i];
         next = after(next, landing);
         i += 1;
     }
@@ -173,8 +171,7 @@ pub fn put_down(words: u32, queue: Queue, waiting: Waiting, store: &mut [u32]) -
     let mut kept = [0u32; 8];
     let mut i: usize = 0;
     while i < count {
-        let one = stores[i];
-        let landing = one.store;
+        let landing = stores[i];
         kept[i] = covered(words, queue, landing, store);
         write(words, queue, landing, store);
         i += 1;
@@ -193,8 +190,7 @@ pub fn lift(words: u32, queue: Queue, waiting: Waiting, kept: [u32; 8], store: &
     let mut left = waiting.count as usize;
     while 0 < left {
         let i = left - 1;
-        let one = stores[i];
-        let landing = one.store;
+        let landing = stores[i];
         let word = kept[i];
         let lifting = with_value(landing, word);
         write(words, queue, lifting, store);
@@ -210,7 +206,7 @@ pub fn join(waiting: Waiting, joining: Store) -> Waiting
     let count = waiting.count;
     let end = count as usize;
     let mut next = waiting;
-    next.stores[end] = Pending { store: joining };
+    next.stores[end] = joining;
     next.count = count + 1;
     next
 }
@@ -219,8 +215,7 @@ pub fn join(waiting: Waiting, joining: Store) -> Waiting
 pub fn oldest(waiting: Waiting) -> Store
     ensures { result ≡ oldest waiting }
 {
-    let first = waiting.stores[0];
-    first.store
+    waiting.stores[0]
 }
 
 // The line without it.

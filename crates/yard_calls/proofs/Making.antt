@@ -1,4 +1,5 @@
 -- A making: what its stop says of the yard and of the outcome.
+use Rattle.std.specs.Prelude.{Result, Ok, Err, ⊤}
 use mathlib.Core.Bool.{true}
 use mathlib.Core.List.{List, []}
 use mathlib.Core.Path.{◌≡◌, refl, sym, ap, subst, ◌∙◌}
@@ -18,8 +19,6 @@ use Rattle.model.specs.Memory.{zeros}
 use Rattle.model.specs.Calls.{new_bench, first_length}
 use Rattle.model.specs.Yard.{claimed_words, words_left, yard_ok, sound_yard, Yields, refuse_all, making, make_of}
 use Rattle.model.proofs.Alone.{at_most_usable}
-use Rattle.state.specs.declared.Stop.{Stop}
-use Rattle.state.specs.declared.Stop.TheVariants.{No, Why}
 use Rattle.opening.proofs.Admits.{decided, one, past, outcome, admitted_in}
 use Rattle.plots.specs.Places.{the_ground}
 use Rattle.plots.proofs.Rooms.{fits}
@@ -27,8 +26,8 @@ use Rattle.yard_calls.specs.declared.Yielded.{Yielded}
 use Rattle.yard_calls.specs.Yielding.{yielded, with_one, refused_in, makes}
 
 -- refusal 23, past all others
-abbrev pub last : Setup → ℕ → Stop
-last s quota = unless leb (first_length s) quota then Why ShortQuota else No
+abbrev pub last : Setup → ℕ → Result ⊤ Refusal
+last s quota = unless leb (first_length s) quota then Err ShortQuota else (Ok tt)
 
 -- past the stop
 pub record Free (Y : Yard) (s : Setup) (m : List ℕ) : Type 0 where
@@ -38,17 +37,17 @@ pub record Free (Y : Yard) (s : Setup) (m : List ℕ) : Type 0 where
   pub words : s.words ≤ 4
   pub inside : claimed_words Y + first_length s ≤ length m
 
-both_go : (x t : Stop) → decided (λ w. Why w) x t ≡ No → t ≡ No
-both_go x No e = refl
-both_go x (Why r) e = e
+both_go : (x t : Result ⊤ Refusal) → decided (λ w. Err w) x t ≡ Ok tt → t ≡ Ok tt
+both_go x (Ok tt) e = refl
+both_go x (Err r) e = e
 
 module _ (Y : Yard) (s : Setup) (quota : ℕ) (m : List ℕ) where
-  pub free : {t : Stop} → t ≡ makes Y s quota m (λ w. Why w) No → t ≡ No → Free Y s m
+  pub free : {t : Result ⊤ Refusal} → t ≡ makes Y s quota m (λ w. Err w) (Ok tt) → t ≡ Ok tt → Free Y s m
   free e n =
       let left = words_left (the_ground Y m []) in
       let a = past (yard_ok Y m) _ _ (sym e ∙ n) in
       let b = past (ltb Y.made 4) _ _ a.1 in
-      let A = admitted_in s left (both_go (last s quota) _ (sym (outcome (λ w. Why w) (last s quota) s left) ∙ b.1)) in
+      let A = admitted_in s left (both_go (last s quota) _ (sym (outcome (λ w. Err w) (last s quota) s left) ∙ b.1)) in
       record {
         sound = a.0;
         made = ltb-true _ _ b.0;
@@ -61,27 +60,27 @@ module _ (Y : Yard) (s : Setup) (quota : ℕ) (m : List ℕ) where
     abbrev made : Yields
     made = record { the_ground = making (the_ground Y m ls) s quota l; answer = Accepted }
 
-    makes_is : (t : Stop) {r : Stop} → r ≡ makes Y s quota m (λ w. Why w) No → r ≡ t → make_of (the_ground Y m ls) s quota l ≡ decided (refuse_all (the_ground Y m ls)) made t
+    makes_is : (t : Result ⊤ Refusal) {r : Result ⊤ Refusal} → r ≡ makes Y s quota m (λ w. Err w) (Ok tt) → r ≡ t → make_of (the_ground Y m ls) s quota l ≡ decided (refuse_all (the_ground Y m ls)) made t
     unfolding make_of sound_yard
     makes_is t e g =
         let R : Refusal → Yields = refuse_all (the_ground Y m ls) in
         one R made _ _ _ (one R made _ _ _ (one R made _ _ _ (one R made _ _ _ (one R made _ _ _ (one R made _ _ _ (one R made _ _ _ (one R made _ _ _ (one R made _ _ _ refl))))))))
-        ∙ ap (λ (S : Stop). decided R made S) (sym e ∙ g)
+        ∙ ap (λ (S : Result ⊤ Refusal). decided R made S) (sym e ∙ g)
 
     -- the logs are the caller's, so those of the definition
     as_made : {r : Yielded} {k : List ℕ} {D E : Yields} → D ≡ E → yielded r k E.the_ground.logs ≡ E → yielded r k D.the_ground.logs ≡ D
     as_made {r} {k} e f = subst (λ (X : Yields). yielded r k X.the_ground.logs ≡ X) (sym e) f
 
-    pub not_made : {r : Yielded} {t : Stop} {w : Refusal} → t ≡ makes Y s quota m (λ w. Why w) No → t ≡ Why w → r ≡ refused_in Y w
+    pub not_made : {r : Yielded} {t : Result ⊤ Refusal} {w : Refusal} → t ≡ makes Y s quota m (λ w. Err w) (Ok tt) → t ≡ Err w → r ≡ refused_in Y w
         → yielded r m (make_of (the_ground Y m ls) s quota l).the_ground.logs ≡ make_of (the_ground Y m ls) s quota l
-    not_made {w = w} e g f = as_made (makes_is (Why w) e g) (ap (λ (x : Yielded). yielded x m ls) f)
+    not_made {w = w} e g f = as_made (makes_is (Err w) e g) (ap (λ (x : Yielded). yielded x m ls) f)
 
-    pub one_made : {r : Yielded} {t : Stop} {k : List ℕ} {b : Bench} {o n : ℕ} → t ≡ makes Y s quota m (λ w. Why w) No → t ≡ No → o ≡ claimed_words Y
+    pub one_made : {r : Yielded} {t : Result ⊤ Refusal} {k : List ℕ} {b : Bench} {o n : ℕ} → t ≡ makes Y s quota m (λ w. Err w) (Ok tt) → t ≡ Ok tt → o ≡ claimed_words Y
         → n ≡ first_length s → k ≡ zeros m o n → b ≡ new_bench o s → r ≡ with_one Y b quota
         → yielded r k (make_of (the_ground Y m ls) s quota l).the_ground.logs ≡ make_of (the_ground Y m ls) s quota l
     one_made {k = k} {n = n} e g at long z b f =
         let logs = made.the_ground.logs in
         let next = with_one Y (new_bench (claimed_words Y) s) quota in
-        as_made (makes_is No e g)
+        as_made (makes_is (Ok tt) e g)
         (ap (λ (x : Yielded). yielded x k logs) (f ∙ ap (λ (x : Bench). with_one Y x quota) (b ∙ ap (λ (x : ℕ). new_bench x s) at))
         ∙ ap (λ (x : List ℕ). yielded next x logs) (z ∙ ap (λ (x : ℕ). zeros m x n) at ∙ ap (zeros m (claimed_words Y)) long))

@@ -1,4 +1,5 @@
 -- What a queue of a yard has, as it has it alone.
+use Rattle.std.specs.Prelude.{Ok}
 use mathlib.Core.Path.{◌≡◌, sym, ◌∙◌, ap, subst}
 use mathlib.Core.Bool.{true, false}
 use mathlib.Core.Logic.{◌≢◌}
@@ -11,7 +12,6 @@ use Rattle.model.specs.declared.Line.TheVariants.{Claim}
 use Rattle.model.specs.declared.Refusal.{Refusal}
 use Rattle.model.specs.declared.Refusal.TheVariants.{ForeignState}
 use Rattle.model.specs.declared.Answer.TheVariants.{GoesOn, Refused}
-use Rattle.model.specs.declared.Tally.TheVariants.{Counted}
 use Rattle.model.specs.Answers.{number_of}
 use Rattle.model.specs.World.{World, tag_bits}
 use Rattle.model.specs.Calls.{who_in}
@@ -110,7 +110,7 @@ who_counts_in_yards m before s quota l e cs k h =
     let H = (make_of G s quota l).the_ground in
     let q = G.yard.made in
     who_is (tended_after cs H M.tended) q k (made_after cs H M.tended q M.inside)
-    ∙ of_company (λ (T : List Played) (X : World). who_in X k ≡ Counted (up_to (beaten k T))) (projected cs H M.tended q M.inside)
+    ∙ of_company (λ (T : List Played) (X : World). who_in X k ≡ Ok (up_to (beaten k T))) (projected cs H M.tended q M.inside)
     (λ ts C. who_in_lem ts (world_of H q) M.started k (subst (λ (U : World). k < U.bench.crew) (sym M.world) h))
 
 -- no refusal 12

@@ -1,5 +1,5 @@
 -- Several queues over one store: each keeps what it has alone, in lists that mix all queues' calls and makings.
-use Rattle.std.specs.Prelude.{◌≡◌, true, false, ◌⊎◌, ◌≢◌, List, [], map, ℕ, zero, suc, ◌+◌, ◌≤◌, ◌<◌, length, get_or, replicate}
+use Rattle.std.specs.Prelude.{◌≡◌, true, false, ◌⊎◌, ◌≢◌, List, [], map, ℕ, zero, suc, ◌+◌, ◌≤◌, ◌<◌, length, get_or, replicate, Ok}
 use Rattle.model.specs.declared.Kind.TheVariants.{Fifo}
 use Rattle.model.specs.declared.Growth.TheVariants.{ForCommit}
 use Rattle.model.specs.declared.Line.TheVariants.{Claim}
@@ -10,7 +10,6 @@ use Rattle.model.specs.declared.Yard.{Yard}
 use Rattle.model.specs.declared.Refusal.TheVariants.{ForeignState}
 use Rattle.model.specs.declared.Answer.{Answer}
 use Rattle.model.specs.declared.Answer.TheVariants.{Accepted, GoesOn, Refused}
-use Rattle.model.specs.declared.Tally.TheVariants.{Counted}
 use Rattle.model.specs.Memory.{offset_at, end_at, usable}
 use Rattle.model.specs.World.{World, tag_bits}
 use Rattle.model.specs.Limits.{Within}
@@ -71,7 +70,7 @@ RunsJudgedInYards = InYards (λ U T X. FewPutsIn U.bench.kind (tag_bits U.bench)
 abbrev pub WhoCountsInYards : Type 0
 WhoCountsInYards =
     FromMaking
-    (λ s G q. (cs : List YardCall) (k : ℕ) → k < s.crew → who_at (ground_after G cs) q k ≡ Counted (up_to (beaten k (part q G cs))))
+    (λ s G q. (cs : List YardCall) (k : ℕ) → k < s.crew → who_at (ground_after G cs) q k ≡ Ok (up_to (beaten k (part q G cs))))
 
 -- a commit's X1 claims
 abbrev pub CommitsGrowInYards : Type 0

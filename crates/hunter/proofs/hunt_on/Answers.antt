@@ -7,9 +7,9 @@ use Rattle.hunter.specs.Hunter.{steals}
 use Rattle.hunter.proofs.Starting.{barred_is, behind_few, sized, strangers_is, many_is, large_is, good_start, fits_start, none_start, hands_start, made_is}
 use Rattle.hunter.proofs.hunt_on.Goals as goal
 
-pub returns-in-Why : goal.returns-in-Why
-returns-in-Why c = let A = c.args in
-    c.refused.ensures ∙ barred_is A.kind A.width A.size A.crew A.words A.long A.puts.now A.each A.budget A.store.now A.log.now c.requires.store_value c.requires.log_value c.usable-left.result c.usable-left.ensures c.admission_stop-stop.result c.admission_stop-stop.ensures c.in-Why.why c.in-Why.is
+pub returns-in-Err : goal.returns-in-Err
+returns-in-Err c = let A = c.args in
+    c.refused.ensures ∙ barred_is A.kind A.width A.size A.crew A.words A.long A.puts.now A.each A.budget A.store.now A.log.now c.requires.store_value c.requires.log_value c.usable-left.result c.usable-left.ensures c.admission_stop-stop.result c.admission_stop-stop.ensures c.in-Err.why c.in-Err.is
 
 pub steals_from-outside-requires : goal.steals_from-outside-requires
 steals_from-outside-requires c = let A = c.args in

@@ -28,14 +28,14 @@ refused_at_once-stop-requires c = crew_of (session_of c.lines.live c.lines.long 
 pub show-wrote-requires : goal.show-wrote-requires
 show-wrote-requires c = let l = c.lines in
     let s = session_of l.live l.long l.bench in
-    refusal_room l.bench.words c.in-Why.why _ _ (let z : l.wrote + 256 ≤ length l.out = omega (arith, l.invariant.0.fits, l.invariant.3, c.if-most-wrote-lt-LONGEST.false) in z)
+    refusal_room l.bench.words c.in-Err.why _ _ (let z : l.wrote + 256 ≤ length l.out = omega (arith, l.invariant.0.fits, l.invariant.3, c.if-most-wrote-lt-LONGEST.false) in z)
 
-pub lines-preserved-in-Why : goal.lines-preserved-in-Why
-lines-preserved-in-Why c = let l = c.lines in
+pub lines-preserved-in-Err : goal.lines-preserved-in-Err
+lines-preserved-in-Err c = let l = c.lines in
     let s = session_of l.live l.long l.bench in
-    let at_once = subst (RefusedAtOnce l.live (world_of s l.store l.log) c.parse-command.result) c.in-Why.is (c.refused_at_once-stop.ensures (take l.long l.store) l.log (valid_of_lem s l.store l.log l.invariant.0.reach)) in (
+    let at_once = subst (RefusedAtOnce l.live (world_of s l.store l.log) c.parse-command.result) c.in-Err.is (c.refused_at_once-stop.ensures (take l.long l.store) l.log (valid_of_lem s l.store l.log l.invariant.0.reach)) in (
       standing_on _ _ s l.store l.log l.out l.used l.wrote _ _ _ _ _ _ l.invariant.0 c.line_end-end.ensures c.if-end-buf.false (let z : l.wrote + 256 ≤ length l.out = omega (arith, l.invariant.0.fits, l.invariant.3, c.if-most-wrote-lt-LONGEST.false) in z) c.parse-command.ensures
-          (at_once_by s l.store l.log c.parse-command.result c.in-Why.why _ _ _ _ at_once c.show-wrote.ensures) (refl),
+          (at_once_by s l.store l.log c.parse-command.result c.in-Err.why _ _ _ _ at_once c.show-wrote.ensures) (refl),
       l.invariant.1,
       l.invariant.2,
       c.show-wrote.auto.out ∙ l.invariant.3,

@@ -18,12 +18,12 @@ begin_stop-stop-requires c = let a = c.args in
     let W = lent a.bench a.store.now a.log.now in
     (bounds_of W (within_alone W (passed c.valid.ensures (not_from_true _ c.if-not-valid.false))).limits).crew
 
-pub returns-in-Why : goal.returns-in-Why
+pub returns-in-Err : goal.returns-in-Err
 unfolding begin_of
-returns-in-Why c = let a = c.args in
+returns-in-Err c = let a = c.args in
     let W = lent a.bench a.store.now a.log.now in
-    same_returned c.refused-in-Why.ensures refl refl
-    ∙ sym (subst (BeginStops W a.worker a.operation) c.in-Why.is (c.begin_stop-stop.ensures _ _))
+    same_returned c.refused-in-Err.ensures refl refl
+    ∙ sym (subst (BeginStops W a.worker a.operation) c.in-Err.is (c.begin_stop-stop.ensures _ _))
     ∙ sym (if_true _ (passed c.valid.ensures (not_from_true _ c.if-not-valid.false)))
 
 pub accept-requires : goal.accept-requires

@@ -13,15 +13,15 @@ use Rattle.state.proofs.Replies.{same_returned}
 use Rattle.opening.proofs.Admits.{outcome_of, admitted_in}
 use Rattle.opening.proofs.fresh.Goals as goal
 
-pub returns-in-Why : goal.returns-in-Why
+pub returns-in-Err : goal.returns-in-Err
 unfolding fresh_of
-returns-in-Why c = λ l.
+returns-in-Err c = λ l.
     let a = c.args in
     let m = a.store.now in
     ap (λ (r : Returned). returned r m l) c.unmade.ensures
     ∙ sym
     (outcome_of (λ (r : Refusal). refuse (lent no_bench m l) r) (record { world = lent (new_bench 0 a.setup) (zeros m 0 (first_length a.setup)) l; answer = Accepted }) a.setup _
-    c.admission_stop-stop.ensures c.usable-left.ensures c.in-Why.is)
+    c.admission_stop-stop.ensures c.usable-left.ensures c.in-Err.is)
 
 pub first_length-long-requires : goal.first_length-long-requires
 first_length-long-requires c = let A = admitted_in c.args.setup c.usable-left.result (sym c.admission_stop-stop.ensures ∙ c.in_default.is) in (A.size, A.words)

@@ -10,8 +10,8 @@ pub print-requires : goal.print-requires
 print-requires c = line_fits _ _ _ _ c.requires (omega arith)
 
 pub show-requires : goal.show-requires
-show-requires c = omega (arith, answer_most 0 (Refused c.in-Refused.why))
+show-requires c = omega (arith, answer_most 0 (Refused c.in-Err.why))
 
-pub returns-in-Counted : goal.returns-in-Counted
+pub returns-in-Ok : goal.returns-in-Ok
 unfolding shown
-returns-in-Counted c = rw c.in-Counted.is (shows_one _ _ _ refl _ _ _ _ c.print.ensures)
+returns-in-Ok c = rw c.in-Ok.is (shows_one _ _ _ refl _ _ _ _ c.print.ensures)

@@ -4,9 +4,9 @@ use Rattle.model.specs.Calls.{drain}
 use Rattle.yard_calls.proofs.Calling.{past_stop, inside_of, refuses, goes_on_lem}
 use Rattle.yard_calls.proofs.drain.Goals as goal
 
-pub returns-in-Why : goal.returns-in-Why
-returns-in-Why c = let a = c.args in
-    λ ls e. refuses a.yard a.queue a.store.now a.log.now ls e drain c.stop-stop.ensures c.in-Why.is c.refused.ensures
+pub returns-in-Err : goal.returns-in-Err
+returns-in-Err c = let a = c.args in
+    λ ls e. refuses a.yard a.queue a.store.now a.log.now ls e drain c.stop-stop.ensures c.in-Err.is c.refused.ensures
 
 pub bench_at-bench-requires : goal.bench_at-bench-requires
 bench_at-bench-requires c = (past_stop c.args.yard c.args.queue c.args.store.now c.args.log.now c.stop-stop.ensures c.in_default.is).place

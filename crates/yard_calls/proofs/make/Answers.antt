@@ -5,9 +5,9 @@ use Rattle.model.specs.Yard.{claimed_words}
 use Rattle.yard_calls.proofs.Making.{free, not_made, one_made}
 use Rattle.yard_calls.proofs.make.Goals as goal
 
-pub returns-in-Why : goal.returns-in-Why
-returns-in-Why c = let a = c.args in
-    λ ls l. not_made a.yard a.setup a.quota a.store.now ls l c.make_stop-stop.ensures c.in-Why.is c.refused.ensures
+pub returns-in-Err : goal.returns-in-Err
+returns-in-Err c = let a = c.args in
+    λ ls l. not_made a.yard a.setup a.quota a.store.now ls l c.make_stop-stop.ensures c.in-Err.is c.refused.ensures
 
 pub room_left-room-requires : goal.room_left-room-requires
 room_left-room-requires c = (free c.args.yard c.args.setup c.args.quota c.args.store.now c.make_stop-stop.ensures c.in_default.is).sound

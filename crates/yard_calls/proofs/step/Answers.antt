@@ -2,9 +2,9 @@ use Rattle.model.specs.Calls.{step}
 use Rattle.yard_calls.proofs.Calling.{past_stop, inside_of, refuses, goes_on_lem}
 use Rattle.yard_calls.proofs.step.Goals as goal
 
-pub returns-in-Why : goal.returns-in-Why
-returns-in-Why c = let a = c.args in
-    λ ls e. refuses a.yard a.queue a.store.now a.log.now ls e (step a.worker) c.stop-stop.ensures c.in-Why.is c.refused.ensures
+pub returns-in-Err : goal.returns-in-Err
+returns-in-Err c = let a = c.args in
+    λ ls e. refuses a.yard a.queue a.store.now a.log.now ls e (step a.worker) c.stop-stop.ensures c.in-Err.is c.refused.ensures
 
 pub room_of-room-requires : goal.room_of-room-requires
 room_of-room-requires c = let P = past_stop c.args.yard c.args.queue c.args.store.now c.args.log.now c.stop-stop.ensures c.in_default.is in record { store_value = P.sound; queue_lt_made = P.made }
