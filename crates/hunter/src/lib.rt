@@ -30,22 +30,11 @@ pub struct Found {
     pub distance: u32,
 }
 
-// An order played: its steps and its repeats; or it was cut off.
+// An order played: its steps and its repeats.
 #[derive(Clone, Copy)]
 pub struct Round {
     pub steps: u32,
     pub repeats: u32,
-    pub cut: bool,
-}
-
-// a - b, and 0 where b is larger.
-fn less(a: u32, b: u32) -> u32
-    ensures { result ≡ a - b }
-{
-    if a < b {
-        return 0;
-    }
-    a - b
 }
 
 // Hand-outs less different put numbers, of `written` words of a log.
@@ -59,10 +48,10 @@ fn repeats_of(words: u32, written: u32, log: &[u32], seen: &mut [u32; 4096]) -> 
     let n = (all / each) as u32;
     let outs = handouts::entries_of(words, log, 2, n);
     let different = handouts::different_out(words, log, seen, n);
-    less(outs, different)
+    outs.saturating_sub(different)
 }
 
-// Plays one order from a fresh bench, on a zeroed store and log.
+// Plays one order from a fresh bench, on a zeroed store and log; none where it needs more than `most` steps.
 fn play_round(
     fresh: Bench,
     puts: &[bool],
@@ -74,7 +63,7 @@ fn play_round(
     most: u32,
     store: &mut [u32],
     log: &mut [u32],
-) -> Round
+) -> Option<Round>
     requires good { Good (start_of fresh (length store.old) (length log.old) puts.now all) }
     requires fits { Fits fresh.workers (plan_of puts.now all) all }
     requires complete { Complete 256 (start_of fresh (length store.old) (length log.old) puts.now all) (first_of 256 (start_of fresh (length store.old) (length log.old) puts.now all) (take given order.old)) }
@@ -88,20 +77,12 @@ fn play_round(
     let long = log.len();
     memory::zero(store, 0, words);
     memory::zero(log, 0, long);
-    let played = rounds::play(fresh, puts, all, given, order, others, most, store, log);
-    if played.cut {
-        return Round {
-            steps: played.steps,
-            repeats: 0,
-            cut: true,
-        };
-    }
+    let played = rounds::play(fresh, puts, all, given, order, others, most, store, log)?;
     let repeats = repeats_of(played.words, played.written, log, seen);
-    Round {
+    Some(Round {
         steps: played.steps,
         repeats,
-        cut: false,
-    }
+    })
 }
 
 // An order is the best so far if it is the first one or has more repeats than those before.
@@ -139,7 +120,7 @@ fn walk(
     let mut left = budget;
     let mut given: u32 = 0;
     loop {
-        let r = play_round(
+        let played = play_round(
             fresh,
             puts,
             all,
@@ -151,8 +132,8 @@ fn walk(
             store,
             log,
         );
-        if r.cut {
-            let far = less(less(hands, 1), repeats);
+        let Some(r) = played else {
+            let far = hands.saturating_sub(1).saturating_sub(repeats);
             return Found {
                 verdict: Verdict::Hunted,
                 order: best,
@@ -161,7 +142,7 @@ fn walk(
                 steps: budget,
                 distance: far,
             };
-        }
+        };
         left -= r.steps;
         if better(given, repeats, r.repeats) {
             best = order;
@@ -284,7 +265,7 @@ fn hunt_on(
     if let Err(why) = stop {
         return refused(Verdict::Barred { why });
     }
-    let behind = less(crew, 1);
+    let behind = crew.saturating_sub(1);
     let outside = steals_from(each, behind);
     if outside != 0 {
         let why = Refusal::NoSuchWorker;
