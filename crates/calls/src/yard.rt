@@ -38,7 +38,7 @@ fn call_queue(yard: Yard, queue: u32, call: Call, store: &mut [u32], log: &mut [
 
 // A queue's state; of a number above 3 any.
 fn state_of(yard: &Yard, queue: u32) -> &model::Bench {
-    &yard.state.benches[(queue as usize).min(3)]
+    &yard.state.plots[(queue as usize).min(3)].bench
 }
 
 // Asks a queue, on the words that it is lent.

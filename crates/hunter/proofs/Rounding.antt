@@ -1,6 +1,6 @@
 -- One order of the hunt: from what playing it left to what the walk keeps.
 use mathlib.Core.Path.{◌≡◌, refl, sym, ◌∙◌, ap, subst}
-use mathlib.Core.Bool.{Bool, true, false, true≢false}
+use mathlib.Core.Bool.{Bool, true, false}
 use mathlib.Core.Logic.{◌⊎◌, inl, inr}
 use mathlib.Core.List.{List}
 use Prim.Native.Nat.{ℕ, zero, suc}
@@ -18,7 +18,8 @@ use Rattle.rounds.specs.declared.Played.{Played}
 use Rattle.rounds.specs.Rounds.{play_of, PlayedBy}
 use Rattle.turns.specs.Turns.{Turned}
 use Rattle.hunter.specs.declared.Round.{Round}
-use Rattle.hunter.specs.Hunter.{start_of, RoundBy}
+use Rattle.std.specs.Prelude.{Option, Some, None}
+use Rattle.hunter.specs.Hunter.{start_of, Through, RoundBy}
 use Rattle.hunter.proofs.Hunting.{Kept, kept_new, kept_old}
 
 -- a store and a log that were zeroed
@@ -30,35 +31,37 @@ zeroed b m l m₀ l₀ puts t e f =
 pub same_start : (b : Bench) (n n' k k' : ℕ) (puts : List Bool) (t : List ℕ) → n ≡ n' → k ≡ k' → start_of b n k puts t ≡ start_of b n' k' puts t
 same_start b n n' k k' puts t e f = ap (λ (x : ℕ). start_of b x k puts t) e ∙ ap (λ (x : ℕ). start_of b n' x puts t) f
 
-pub same_played : {S S' : Play} {p : Order} {most : ℕ} {r : Played} {order others l : List ℕ} → S ≡ S' → PlayedBy S p most r order others l
+pub same_played : {S S' : Play} {p : Order} {most : ℕ} {r : Option Played} {order others l : List ℕ} → S ≡ S' → PlayedBy S p most r order others l
     → PlayedBy S' p most r order others l
 same_played {p = p} {most = most} {r = r} {order = order} {others = others} {l = l} e P = subst (λ (X : Play). PlayedBy X p most r order others l) e P
 
-pub same_round : {S S' : Play} {p : Order} {most : ℕ} {r : Round} {order others seen : List ℕ} → S ≡ S' → RoundBy S p most r order others seen
+pub same_round : {S S' : Play} {p : Order} {most : ℕ} {r : Option Round} {order others seen : List ℕ} → S ≡ S' → RoundBy S p most r order others seen
     → RoundBy S' p most r order others seen
 same_round {p = p} {most = most} {r = r} {order = order} {others = others} {seen = seen} e P = subst (λ (X : Play). RoundBy X p most r order others seen) e P
 
 pub same_complete : (S S' : Play) (p : Order) → S ≡ S' → Complete 256 S (first_of 256 S p) → Complete 256 S' (first_of 256 S' p)
 same_complete S S' p e c = subst (λ (X : Play). Complete 256 X (first_of 256 X p)) e c
 
-module _ {S : Play} {p : Order} {most : ℕ} {r : Played} {order others l : List ℕ} (P : PlayedBy S p most r order others l) where
-  pub round_cut : (seen : List ℕ) → length seen ≡ 4096 → r.cut ≡ true → RoundBy S p most (record { steps = r.steps; repeats = 0; cut = true }) order others seen
-  round_cut seen t e = record { out = λ f. absurd (true≢false f); off = λ f. (P.off e).1; long = P.long; wide = P.wide; table = t }
+module _ {S : Play} {p : Order} {most : ℕ} {r : Option Played} {order others l : List ℕ} (P : PlayedBy S p most r order others l) where
+  pub round_cut : (seen : List ℕ) → length seen ≡ 4096 → r ≡ None → RoundBy S p most None order others seen
+  round_cut seen t e = record { out = λ d f. absurd (let z : ⊥ = cc in z); off = λ f. P.off e; long = P.long; wide = P.wide; table = t }
 
-  pub round_out : (seen : List ℕ) → length seen ≡ 4096 → r.cut ≡ false → (k : ℕ) → ((W : World) → W.bench.words ≡ r.words → W.bench.written ≡ r.written → W.log ≡ l → k ≡ repeats_in W)
-      → RoundBy S p most (record { steps = r.steps; repeats = k; cut = false }) order others seen
-  round_out seen t e k f =
-      let O = P.out e in
+  pub round_out : (seen : List ℕ) → length seen ≡ 4096 → (d : Played) → r ≡ Some d → (k : ℕ) → ((W : World) → W.bench.words ≡ d.words → W.bench.written ≡ d.written → W.log ≡ l → k ≡ repeats_in W)
+      → RoundBy S p most (Some (record { steps = d.steps; repeats = k })) order others seen
+  round_out seen t d e k f =
+      let o : Order = first_of 256 S p in
+      let O = P.out d e in
+      let through : Through S o most (record { steps = d.steps; repeats = k }) order others =
       record {
-        out = λ g.
-            record {
-              made = O.made;
-              steps = O.steps;
-              paid = O.paid;
-              higher = O.higher;
-              repeats = f (after_order S (first_of 256 S p)).world O.words O.written O.logged;
-            };
-        off = λ g. absurd (true≢false (sym g));
+        made = O.made;
+        steps = O.steps;
+        paid = O.paid;
+        higher = O.higher;
+        repeats = f (after_order S o).world O.words O.written O.logged;
+      } in
+      record {
+        out = λ x g. subst (λ (y : Round). Through S o most y order others) (let s : record { steps = d.steps; repeats = k } ≡ x = cc in s) through;
+        off = λ g. absurd (let z : ⊥ = cc in z);
         long = P.long;
         wide = P.wide;
         table = t;

@@ -1,5 +1,5 @@
 -- The hunt's code.
-use Rattle.std.specs.Prelude.{◌≡◌, Bool, true, false, List, map, ℕ, ◌≤◌, ◌<◌, length, take, get_or, replicate}
+use Rattle.std.specs.Prelude.{◌≡◌, Bool, Option, Some, None, List, map, ℕ, ◌≤◌, ◌<◌, length, take, get_or, replicate}
 use Rattle.model.specs.declared.Bench.{Bench}
 use Rattle.model.specs.declared.Operation.{Operation}
 use Rattle.model.specs.declared.Operation.TheVariants.{Steal}
@@ -27,10 +27,10 @@ pub record Through (S : Play) (o : Order) (most : ℕ) (r : Round) (order others
   pub higher : Higher S o (λ k. get_or others k 0)
   pub repeats : r.repeats ≡ repeats_of S o
 
--- the order that starts with the given steps p was played out, or was cut off
-pub record RoundBy (S : Play) (p : Order) (most : ℕ) (r : Round) (order others seen : List ℕ) : Type 0 where
-  pub out : r.cut ≡ false → Through S (first_of 256 S p) most r order others
-  pub off : r.cut ≡ true → most < length (first_of 256 S p)
+-- the order that starts with the given steps p was played out, or has too many steps
+pub record RoundBy (S : Play) (p : Order) (most : ℕ) (r : Option Round) (order others seen : List ℕ) : Type 0 where
+  pub out : (d : Round) → r ≡ Some d → Through S (first_of 256 S p) most d order others
+  pub off : r ≡ None → most < length (first_of 256 S p)
   pub long : length order ≡ 256
   pub wide : length others ≡ 256
   pub table : length seen ≡ 4096

@@ -32,22 +32,11 @@ pub struct Found {
     pub distance: u32,
 }
 
-// An order played: its steps and its repeats; or it was cut off.
+// An order played: its steps and its repeats.
 #[derive(Clone, Copy)]
 pub struct Round {
     pub steps: u32,
     pub repeats: u32,
-    pub cut: bool,
-}
-
-// a - b, and 0 where b is larger.
-fn less(a: u32, b: u32) -> u32
-    ensures { result ≡ a - b }
-{
-    if a < b {
-        return 0;
-    }
-    a - b
 }
 
 // Hand-outs less different put numbers, of `written` words of a log.
@@ -62,10 +51,10 @@ fn repeats_of(words: u32, written: u32, log: &[u32], seen: &mut [u32; 4096]) -> 
     let log = Log { words, memory: log };
     let outs = log.entries_of(EntryKind::HandOut, n);
     let different = HandOuts::of(log, n, seen).different;
-    less(outs, different)
+    outs.saturating_sub(different)
 }
 
-// Plays one order from a fresh bench, on a zeroed store and log.
+// Plays one order from a fresh bench, on a zeroed store and log; none where it needs more than `most` steps.
 fn play_round(
     fresh: Bench,
     puts: &[bool],
@@ -77,7 +66,7 @@ fn play_round(
     most: u32,
     store: &mut [u32],
     log: &mut [u32],
-) -> Round
+) -> Option<Round>
     requires good { Good (start_of fresh (length store.old) (length log.old) puts.now all) }
     requires fits { Fits fresh.workers (plan_of puts.now all) all }
     requires complete { Complete 256 (start_of fresh (length store.old) (length log.old) puts.now all) (first_of 256 (start_of fresh (length store.old) (length log.old) puts.now all) (take given order.old)) }
@@ -91,20 +80,12 @@ fn play_round(
     let long = log.len();
     memory::zero(store, 0, words);
     memory::zero(log, 0, long);
-    let played = rounds::play(fresh, puts, all, given, order, others, most, store, log);
-    if played.cut {
-        return Round {
-            steps: played.steps,
-            repeats: 0,
-            cut: true,
-        };
-    }
+    let played = rounds::play(fresh, puts, all, given, order, others, most, store, log)?;
     let repeats = repeats_of(played.words, played.written, log, seen);
-    Round {
+    Some(Round {
         steps: played.steps,
         repeats,
-        cut: false,
-    }
+    })
 }
 
 // An order is the best so far if it is the first one or has more repeats than those before.
@@ -142,7 +123,7 @@ fn walk(
     let mut left = budget;
     let mut given: u32 = 0;
     loop {
-        let r = play_round(
+        let played = play_round(
             fresh,
             puts,
             all,
@@ -154,8 +135,8 @@ fn walk(
             store,
             log,
         );
-        if r.cut {
-            let far = less(less(hands, 1), repeats);
+        let Some(r) = played else {
+            let far = hands.saturating_sub(1).saturating_sub(repeats);
             return Found {
                 verdict: Verdict::Hunted,
                 order: best,
@@ -164,7 +145,7 @@ fn walk(
                 steps: budget,
                 distance: far,
             };
-        }
+        };
         left -= r.steps;
         if better(given, repeats, r.repeats) {
             best = order;
@@ -287,7 +268,7 @@ fn hunt_on(
     if let Err(why) = stop {
         return refused(Verdict::Barred { why });
     }
-    let behind = less(crew, 1);
+    let behind = crew.saturating_sub(1);
     let outside = steals_from(each, behind);
     if outside != 0 {
         let why = Refusal::NoSuchWorker;

@@ -32,8 +32,9 @@ use Rattle.model.specs.Figures.{anchor}
 use Rattle.model.specs.Stores.{landed_all, none_pending}
 use Rattle.model.specs.Lines.{line_step}
 use Rattle.model.specs.World.{resting}
-use Rattle.model.specs.Calls.{no_bench, setup, front_of, begin, step, ask, drop_ask}
+use Rattle.model.specs.Calls.{setup, front_of, begin, step, ask, drop_ask}
 use Rattle.model.specs.Yard.{
+  no_plot,
   Ground,
   bare,
   queue_at,
@@ -195,7 +196,11 @@ idle d k n =
 abbrev both : ℕ → List Region → ℕ → ℕ → ℕ → List Region → ℕ → ℕ → ℕ → Ground
 both c d k n x e j y s =
     record {
-      yard = record { benches = idle d k n ∷ idle e j 0 ∷ no_bench ∷ no_bench ∷ []; quotas = x ∷ y ∷ 0 ∷ 0 ∷ []; made = c };
+      yard =
+          record {
+            plots = record { bench = idle d k n; quota = x } ∷ record { bench = idle e j 0; quota = y } ∷ no_plot ∷ no_plot ∷ [];
+            made = c;
+          };
       store = replicate s 0;
       logs = replicate 4 [];
     }

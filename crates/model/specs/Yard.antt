@@ -5,6 +5,7 @@ use Rattle.model.specs.declared.Room.{Room}
 use Rattle.model.specs.declared.Queue.{Queue}
 use Rattle.model.specs.declared.Bench.{Bench}
 use Rattle.model.specs.declared.Setup.{Setup}
+use Rattle.model.specs.declared.Plot.{Plot}
 use Rattle.model.specs.declared.Yard.{Yard}
 use Rattle.model.specs.declared.Refusal.{Refusal}
 use Rattle.model.specs.declared.Refusal.TheVariants.{ForeignState, ShortQuota, NoSuchQueue}
@@ -24,15 +25,22 @@ pub record Ground : Type 0 where
   pub store : List ℕ
   pub logs : List (List ℕ)
 
+-- the plot of no queue
+abbrev pub no_plot : Plot
+no_plot = record { bench = no_bench; quota = 0 }
+
+abbrev pub plot_at : Yard → ℕ → Plot
+plot_at Y q = get_or Y.plots q no_plot
+
 -- queue q of it: its bench, its quota, its log, and all three with the store
 abbrev pub bench_at : Yard → ℕ → Bench
-bench_at Y q = get_or Y.benches q no_bench
+bench_at Y q = (plot_at Y q).bench
 
 abbrev pub queue_at : Yard → ℕ → Queue
 queue_at Y q = (bench_at Y q).queue
 
 abbrev pub quota_at : Yard → ℕ → ℕ
-quota_at Y q = get_or Y.quotas q 0
+quota_at Y q = (plot_at Y q).quota
 
 abbrev pub log_at : Ground → ℕ → List ℕ
 log_at G q = get_or G.logs q []
@@ -45,9 +53,9 @@ abbrev pub owners_queue : Bench → Queue
 owners_queue b = (owners_view (lent b [] [])).queue
 
 -- what the first n queues have together of what f tells of each
-unfoldable pub total_of : (Bench → ℕ) → List Bench → ℕ → ℕ
-total_of f bs zero = 0
-total_of f bs (suc q) = total_of f bs q + f (get_or bs q no_bench)
+unfoldable pub total_of : (Bench → ℕ) → List Plot → ℕ → ℕ
+total_of f ps zero = 0
+total_of f ps (suc q) = total_of f ps q + f (get_or ps q no_plot).bench
 
 -- the words that all have claimed, which are those from 0 to the next free one, for arrays are never given back and leave no gap;
 -- and the words that all have set aside
@@ -58,10 +66,10 @@ abbrev pub held_by : Bench → ℕ
 held_by b = b.aside
 
 abbrev pub claimed_words : Yard → ℕ
-claimed_words Y = total_of claimed_by Y.benches Y.made
+claimed_words Y = total_of claimed_by Y.plots Y.made
 
 abbrev pub aside_words : Yard → ℕ
-aside_words Y = total_of held_by Y.benches Y.made
+aside_words Y = total_of held_by Y.plots Y.made
 
 -- X1's room for queue q: what the other queues have set aside counts as used
 abbrev pub room_of : Ground → ℕ → Room
@@ -113,12 +121,15 @@ pub record Yields : Type 0 where
 abbrev pub refuse_all : Ground → Refusal → Yields
 refuse_all G r = record { the_ground = G; answer = Refused r }
 
+-- the yard with another bench of queue q
+abbrev pub with_bench : Yard → ℕ → Bench → Yard
+with_bench Y q b = record { plots = set Y.plots q (record { bench = b; quota = quota_at Y q }); made = Y.made }
+
 -- queue q is left as W, with the store
 abbrev pub put_back : Ground → ℕ → World → Ground
 put_back G q W =
     record {
-      yard =
-          record { benches = set G.yard.benches q W.bench; quotas = G.yard.quotas; made = G.yard.made };
+      yard = with_bench G.yard q W.bench;
       store = W.store;
       logs = set G.logs q W.log;
     }
@@ -139,8 +150,7 @@ making G s quota l =
     record {
       yard =
           record {
-            benches = set G.yard.benches G.yard.made (new_bench (claimed_words G.yard) s);
-            quotas = set G.yard.quotas G.yard.made quota;
+            plots = set G.yard.plots G.yard.made (record { bench = new_bench (claimed_words G.yard) s; quota = quota });
             made = G.yard.made + 1;
           };
       store = zeros G.store (claimed_words G.yard) (first_length s);
@@ -173,7 +183,7 @@ front_at G q = when ltb q G.yard.made then front_of (bench_at G.yard q) (log_at 
 
 -- LISTS. A yard without queues, and the calls
 abbrev pub bare : Yard
-bare = record { benches = replicate 4 no_bench; quotas = replicate 4 0; made = 0 }
+bare = record { plots = replicate 4 no_plot; made = 0 }
 
 pub data YardCall : Type 0 where
   make : Setup → ℕ → List ℕ → YardCall

@@ -240,12 +240,17 @@ pub struct Bench {
     pub workers: [Worker; 8],
 }
 
-// Up to four queues over one store, in the order of their making, each with its quota of words. Of the four places the first `made`
-// are made.
+// A queue of a yard: its bench, and its quota of words.
+#[derive(Clone, Copy)]
+pub struct Plot {
+    pub bench: Bench,
+    pub quota: u32,
+}
+
+// Up to four queues over one store, in the order of their making. Of the four plots the first `made` are made.
 #[derive(Clone, Copy)]
 pub struct Yard {
-    pub benches: [Bench; 4],
-    pub quotas: [u32; 4],
+    pub plots: [Plot; 4],
     pub made: u32,
 }
 

@@ -7,11 +7,14 @@ use native.Mathlib.Omega.{arith}
 use native.Mathlib.Nat.{eq-or-lt_of_le}
 use native.Mathlib.Numerals.{add-one}
 use mathlib.Core.List.{List, [], ◌∷◌}
-use lib.ListN.{length, get_or}
+use lib.ListN.{length, get_or, take}
+use Rattle.std.proofs.Common.{◌&&◌}
+use Rattle.std.specs.List.{list_all}
+use Rattle.std.proofs.lemmas.List.Folds.{list_all_more}
 use Rattle.model.specs.declared.Bench.{Bench}
+use Rattle.model.specs.declared.Plot.{Plot}
 use Rattle.model.specs.Tests.{◌and◌, ◌or◌}
-use Rattle.model.specs.Calls.{no_bench}
-use Rattle.model.specs.Yard.{all_below, total_of}
+use Rattle.model.specs.Yard.{no_plot, all_below, total_of}
 use Rattle.model.proofs.Tests.{and_false, and_both, and_left, and_right, fails}
 
 -- an element that is there does not depend on what stands for one that is not
@@ -19,6 +22,13 @@ pub any_default : {A : Type 0} (l : List A) (i : ℕ) (d e : A) → i < length l
 any_default [] i d e h = absurd (let z : ⊥ = omega arith in z)
 any_default (x ∷ l) zero d e h = refl
 any_default (x ∷ l) (suc i) d e h = any_default l i d e (omega arith)
+
+-- nor on the front that it is read from
+pub taken_at : {A : Type 0} (l : List A) (n i : ℕ) (d e : A) → n ≤ length l → i < n → get_or (take n l) i d ≡ get_or l i e
+taken_at l zero i d e h g = absurd (let z : ⊥ = omega arith in z)
+taken_at [] (suc n) i d e h g = absurd (let z : ⊥ = omega arith in z)
+taken_at (x ∷ l) (suc n) zero d e h g = refl
+taken_at (x ∷ l) (suc n) (suc i) d e h g = taken_at l n i d e (omega arith) (omega arith)
 
 -- a first test that fails leaves the second
 pub or_past : {a : Bool} (b : Bool) → a ≡ false → b ≡ (a or b)
@@ -71,23 +81,38 @@ by_parts p a b e (suc n) =
     ap (λ (x : Bool). x and p n) (by_parts p a b e n)
     ∙ ap (λ (x : Bool). (all_below a n and all_below b n) and x) (e n) ∙ two_parts (all_below a n) (all_below b n) (a n) (b n)
 
+-- std's test of each element, over the first n
+and_is : (a b : Bool) → (a && b) ≡ (a and b)
+unfolding ◌and◌
+and_is true b = refl
+and_is false b = refl
+
+pub all_taken : {A : Type 0} (f : A → Bool) (d : A) (l : List A) (p : ℕ → Bool) (n : ℕ) → n ≤ length l → ((k : ℕ) → k < n → f (get_or l k d) ≡ p k) → list_all f (take n l) ≡ all_below p n
+unfolding all_below
+all_taken f d l p zero h e = refl
+all_taken f d l p (suc n) h e =
+    let more : list_all f (take (suc n) l) ≡ (list_all f (take n l) && f (get_or l n d)) = rw (add-one n) at (list_all_more f l n d (omega arith)) in
+    more ∙ and_is _ _
+    ∙ ap (λ (x : Bool). x and f (get_or l n d)) (all_taken f d l p n (omega arith) (λ k g. e k (omega arith)))
+    ∙ ap (λ (x : Bool). all_below p n and x) (e n (omega arith))
+
 -- sums
-module _ (f : Bench → ℕ) (bs : List Bench) where
-  pub nothing_yet : 0 ≡ total_of f bs 0
+module _ (f : Bench → ℕ) (ps : List Plot) where
+  pub nothing_yet : 0 ≡ total_of f ps 0
   unfolding total_of
   nothing_yet = refl
 
-  pub and_next : {t x : ℕ} (k : ℕ) → t ≡ total_of f bs k → x ≡ f (get_or bs k no_bench) → t + x ≡ total_of f bs (k + 1)
+  pub and_next : {t x : ℕ} (k : ℕ) → t ≡ total_of f ps k → x ≡ f (get_or ps k no_plot).bench → t + x ≡ total_of f ps (k + 1)
   unfolding total_of
   and_next k e g = rw (add-one k) (omega (arith, e, g))
 
-  pub all_summed : {t : ℕ} (n k : ℕ) → t ≡ total_of f bs k → k ≤ n → n ≤ k → t ≡ total_of f bs n
-  all_summed {t} n k e a b = subst (λ (x : ℕ). t ≡ total_of f bs x) {x = k} {y = n} (omega arith) e
+  pub all_summed : {t : ℕ} (n k : ℕ) → t ≡ total_of f ps k → k ≤ n → n ≤ k → t ≡ total_of f ps n
+  all_summed {t} n k e a b = subst (λ (x : ℕ). t ≡ total_of f ps x) {x = k} {y = n} (omega arith) e
 
   -- each has its part in it
-  pub part_of : (n r : ℕ) → r < n → f (get_or bs r no_bench) ≤ total_of f bs n
+  pub part_of : (n r : ℕ) → r < n → f (get_or ps r no_plot).bench ≤ total_of f ps n
   unfolding total_of
   part_of zero r h = absurd (let z : ⊥ = omega arith in z)
   part_of (suc n) r h =
-      ⊎_elim (λ q. let s : f (get_or bs r no_bench) ≡ f (get_or bs n no_bench) = ap (λ (k : ℕ). f (get_or bs k no_bench)) q in omega (arith, s))
+      ⊎_elim (λ q. let s : f (get_or ps r no_plot).bench ≡ f (get_or ps n no_plot).bench = ap (λ (k : ℕ). f (get_or ps k no_plot).bench) q in omega (arith, s))
       (λ q. let l = part_of n r q in omega (arith, l)) (eq-or-lt_of_le (let le : r ≤ n = omega arith in le))

@@ -6,19 +6,21 @@ use Prim.Native.Nat.{ℕ, ◌+◌, ◌-◌, ◌≤◌, ◌<◌}
 use native.Mathlib.Omega.{arith}
 use lib.Dec.{leb}
 use lib.ListN.{length}
-use borrow.Author.Tests.{leb-true}
+use Rattle.std.proofs.Common.{min}
+use native.Mathlib.Nat.{min-eq_left, min-eq_right}
+use borrow.Author.Tests.{leb-true, leb-false}
 use Rattle.model.specs.declared.Room.{Room}
 use Rattle.model.specs.declared.Queue.{Queue}
 use Rattle.model.specs.declared.Yard.{Yard}
 use Rattle.model.specs.declared.Store.{Store}
 use Rattle.model.specs.declared.Store.TheVariants.{StoreWord, StoreNote, StorePut, StoreOut, StoreHead, StoreTail}
-use Rattle.model.specs.Tests.{◌and◌}
+use Rattle.model.specs.Tests.{◌and◌, least}
 use Rattle.model.specs.Memory.{usable}
 use Rattle.model.specs.Stores.{Shared, shared, landed, landed_all, in_line, words_taken}
 use Rattle.model.specs.Limits.{bench_ok, Within}
 use Rattle.model.specs.Calls.{lent}
 use Rattle.model.specs.Yard.{bench_at, quota_at, owners_queue, held_by, claimed_words, aside_words, room_of, all_below, place_ok, yard_ok}
-use Rattle.model.proofs.Tests.{fails, and_left, and_right, and_assoc, and_false}
+use Rattle.model.proofs.Tests.{if_true, if_false, fails, and_left, and_right, and_assoc, and_false}
 use Rattle.model.proofs.Alone.{least_left, least_right, at_most_usable}
 use Rattle.plots.specs.Places.{keeps_at, Kept, lies_at, the_ground}
 use Rattle.plots.proofs.Every.{each, by_parts, part_of}
@@ -63,7 +65,7 @@ module _ (Y : Yard) (m : List ℕ) (sound : yard_ok Y m ≡ true) where
 
   module _ (q : ℕ) (h : q < Y.made) where
     pub own_aside : (bench_at Y q).aside ≤ aside_words Y
-    own_aside = part_of held_by Y.benches Y.made q h
+    own_aside = part_of held_by Y.plots Y.made q h
 
     -- a call of the queue can count on what one past refusal 12 counts on
     pub within : (l : List ℕ) → (bench_at Y q).written ≤ length l → Within (room_of (the_ground Y m []) q) (lent (bench_at Y q) m l)
@@ -83,3 +85,10 @@ module _ (Y : Yard) (m : List ℕ) (sound : yard_ok Y m ≡ true) where
 
 pub same_room : {a b n k : ℕ} → a ≡ b → n ≡ k → ◌≡◌ {A = Room} (record { next = a; left = n }) (record { next = b; left = k })
 same_room {b = b} {n = n} e f = ap (λ (x : ℕ). record { next = x; left = n }) e ∙ ap (λ (x : ℕ). record { next = b; left = x }) f
+
+pub min_least : (a b : ℕ) → min a b ≡ least a b
+min_least a b = go (leb a b) refl
+  where
+    go : (x : Bool) → leb a b ≡ x → min a b ≡ least a b
+    go true e = min-eq_left (leb-true a b e) ∙ sym (if_true b e)
+    go false e = let h : b < a = leb-false a b e in min-eq_right (let g : b ≤ a = omega arith in g) ∙ sym (if_false a e)

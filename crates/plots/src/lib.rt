@@ -4,69 +4,58 @@
 
 #![tactic(auto)]
 
-ghost use Rattle.std.specs.Prelude.{◌≡◌, true, [], ℕ, ◌+◌, ◌≤◌, ◌<◌, Ok, Err};
-ghost use Rattle.model.specs.Tests.{least};
+ghost use Rattle.std.specs.Prelude.{◌≡◌, true, [], ℕ, ◌+◌, ◌≤◌, ◌<◌, length, take, Ok, Err};
 ghost use Rattle.model.specs.Yard.{bench_at, quota_at, no_overlap, all_below, claimed_words, aside_words, yard_ok, room_of, words_left};
 ghost use Rattle.plots.specs.Places.{regions_apart, clear_of, keeps_to, keeps_at, Kept, clear_of_earlier, lies_for, lies_at, the_ground, called};
 
-use model::{Bench, Queue, Refusal, Region, Room, Yard};
+use model::{Bench, Plot, Queue, Refusal, Region, Room, Yard};
+
+// Where an array ends.
+fn end_of(region: Region) -> u64
+    ensures { result ≡ region.offset + region.length }
+{
+    u64::from(region.offset) + u64::from(region.length)
+}
 
 // Two arrays do not overlap.
 fn apart(one: Region, other: Region) -> bool
     ensures { result ≡ regions_apart one other }
 {
-    let end = one.offset as u64 + one.length as u64;
-    let last = other.offset as u64 + other.length as u64;
-    if end <= other.offset as u64 {
-        return true;
-    }
-    last <= one.offset as u64
+    end_of(one) <= u64::from(other.offset) || end_of(other) <= u64::from(one.offset)
+}
+
+// The arrays that a queue has claimed.
+fn claimed(queue: &Queue) -> &[Region]
+    requires { queue.now.claimed ≤ 11 }
+    ensures value { result.now ≡ take queue.now.claimed queue.now.arrays }
+    ensures inside { queue.now.claimed ≤ length queue.now.arrays }
+{
+    &queue.arrays[..queue.claimed as usize]
 }
 
 // An array overlaps none of a queue's.
-fn clear_of(one: Region, queue: Queue) -> bool
-    requires { queue.claimed ≤ 11 }
-    ensures { result ≡ clear_of one queue }
+fn clear_of(one: Region, queue: &Queue) -> bool
+    requires { queue.now.claimed ≤ 11 }
+    ensures { result ≡ clear_of one queue.now }
 {
-    let claimed = queue.claimed as usize;
-    let arrays = queue.arrays;
-    let mut j: usize = 0;
-    while j < claimed {
-        let other = arrays[j];
-        if !apart(one, other) {
-            return false;
-        }
-        j += 1;
-    }
-    true
+    claimed(queue).iter().all(|other| apart(one, *other))
 }
 
 // No array of one queue overlaps an array of the other.
-fn no_overlap(queue: Queue, other: Queue) -> bool
-    requires claimed_bound { queue.claimed ≤ 11 }
-    requires claimed_bound_2 { other.claimed ≤ 11 }
-    ensures { result ≡ no_overlap queue other }
+fn no_overlap(queue: &Queue, other: &Queue) -> bool
+    requires claimed_bound { queue.now.claimed ≤ 11 }
+    requires claimed_bound_2 { other.now.claimed ≤ 11 }
+    ensures { result ≡ no_overlap queue.now other.now }
 {
-    let claimed = queue.claimed as usize;
-    let arrays = queue.arrays;
-    let mut k: usize = 0;
-    while k < claimed {
-        let one = arrays[k];
-        if !clear_of(one, other) {
-            return false;
-        }
-        k += 1;
-    }
-    true
+    claimed(queue).iter().all(|one| clear_of(*one, other))
 }
 
-// Of the place of queue `queue`: the bench.
+// Of the plot of queue `queue`: the bench.
 pub fn bench_at(yard: Yard, queue: u32) -> Bench
     requires { queue < 4 }
     ensures { result ≡ bench_at yard queue }
 {
-    let place = queue as usize;
-    yard.benches[place]
+    yard.plots[queue as usize].bench
 }
 
 // And the quota.
@@ -74,111 +63,112 @@ fn quota_at(yard: Yard, queue: u32) -> u32
     requires { queue < 4 }
     ensures { result ≡ quota_at yard queue }
 {
-    let place = queue as usize;
-    yard.quotas[place]
+    yard.plots[queue as usize].quota
 }
 
 // The limits on one queue; and its quota, words set aside counted.
-fn keeps(bench: Bench, quota: u32) -> bool
-    ensures { result ≡ keeps_to bench quota }
+fn keeps(plot: Plot) -> bool
+    ensures { result ≡ keeps_to plot.bench plot.quota }
 {
-    if !limits::bench_ok(bench) {
+    if !limits::bench_ok(plot.bench) {
         return false;
     }
-    let words = limits::words_taken(bench.queue);
-    let all = words as u64 + bench.aside as u64;
-    all <= quota as u64
+    let words = limits::words_taken(plot.bench.queue);
+    u64::from(words) + u64::from(plot.bench.aside) <= u64::from(plot.quota)
+}
+
+// The first plots.
+fn first(yard: &Yard, count: usize) -> &[Plot]
+    requires { count ≤ 4 }
+    ensures value { result.now ≡ take count yard.now.plots }
+    ensures inside { count ≤ length yard.now.plots }
+{
+    &yard.plots[..count]
+}
+
+// The plots that are made.
+fn made(yard: &Yard) -> &[Plot]
+    requires { yard.now.made ≤ 4 }
+    ensures value { result.now ≡ take yard.now.made yard.now.plots }
+    ensures inside { yard.now.made ≤ length yard.now.plots }
+{
+    first(yard, yard.made as usize)
 }
 
 // Every queue that is made keeps to them.
-fn all_keep(yard: Yard) -> bool
-    requires { yard.made ≤ 4 }
-    ensures { result ≡ all_below (keeps_at yard) yard.made }
+fn all_keep(yard: &Yard) -> bool
+    requires { yard.now.made ≤ 4 }
+    ensures { result ≡ all_below (keeps_at yard.now) yard.now.made }
 {
-    let mut q: u32 = 0;
-    while q < yard.made {
-        if !keeps(bench_at(yard, q), quota_at(yard, q)) {
-            return false;
-        }
-        q += 1;
-    }
-    true
+    made(yard).iter().all(|plot| keeps(*plot))
 }
 
-// The words that the queues have claimed together, and those that they have set aside; both are far below 64 bits.
-#[derive(Clone, Copy)]
-struct Total {
-    claimed: u64,
-    aside: u64,
+// The words that the queues have claimed together; far below 64 bits.
+fn claimed_words(yard: &Yard) -> u64
+    requires { Kept yard.now }
+    ensures value { result ≡ claimed_words yard.now }
+    ensures bound { result ≤ 17179869180 }
+{
+    let mut sum = 0;
+    for plot in made(yard) {
+        sum += u64::from(limits::words_taken(plot.bench.queue));
+    }
+    sum
 }
 
-fn sums(yard: Yard) -> Total
-    requires { Kept yard }
-    ensures { (result.claimed ≡ claimed_words yard) × (result.aside ≡ aside_words yard) × (result.claimed + result.aside ≤ 34359738360) }
+// And those that they have set aside.
+fn aside_words(yard: &Yard) -> u64
+    requires { Kept yard.now }
+    ensures value { result ≡ aside_words yard.now }
+    ensures bound { result ≤ 17179869180 }
 {
-    let mut claimed: u64 = 0;
-    let mut aside: u64 = 0;
-    let mut q: u32 = 0;
-    while q < yard.made {
-        let bench = bench_at(yard, q);
-        let words = limits::words_taken(bench.queue);
-        claimed += words as u64;
-        aside += bench.aside as u64;
-        q += 1;
+    let mut sum = 0;
+    for plot in made(yard) {
+        sum += u64::from(plot.bench.aside);
     }
-    Total { claimed, aside }
+    sum
 }
 
 // A queue overlaps none of the first `place` queues.
-fn clear_of_earlier(queue: Queue, yard: Yard, place: u32) -> bool
-    requires claimed_bound { queue.claimed ≤ 11 }
-    requires kept { Kept yard }
-    requires place_lt_made { place < yard.made }
-    ensures { result ≡ clear_of_earlier queue yard place }
+fn clear_of_earlier(queue: &Queue, yard: &Yard, place: usize) -> bool
+    requires claimed_bound { queue.now.claimed ≤ 11 }
+    requires kept { Kept yard.now }
+    requires place_lt_made { place < yard.now.made }
+    ensures { result ≡ clear_of_earlier queue.now yard.now place }
 {
-    let mut q: u32 = 0;
-    while q < place {
-        let other = bench_at(yard, q);
-        if !no_overlap(queue, other.queue) {
+    for plot in first(yard, place) {
+        if !no_overlap(queue, &plot.bench.queue) {
             return false;
         }
-        q += 1;
     }
     true
 }
 
 // Where a queue's arrays lie, in a yard whose queues claimed `claimed` words: none ends behind these, or there would be a gap below
 // the last one; and none overlaps an array of a queue that was made before.
-fn lies(queue: Queue, yard: Yard, place: u32, claimed: u64) -> bool
-    requires claimed_nonzero { (0 < queue.claimed) × (queue.claimed ≤ 11) }
-    requires kept { Kept yard }
-    requires place_lt_made { place < yard.made }
-    requires claimed_value { claimed ≡ claimed_words yard }
-    ensures { result ≡ lies_for queue yard place }
+fn lies(queue: &Queue, yard: &Yard, place: usize, claimed: u64) -> bool
+    requires claimed_nonzero { (0 < queue.now.claimed) × (queue.now.claimed ≤ 11) }
+    requires kept { Kept yard.now }
+    requires place_lt_made { place < yard.now.made }
+    requires claimed_value { claimed ≡ claimed_words yard.now }
+    ensures { result ≡ lies_for queue.now yard.now place }
 {
-    let at = queue.claimed - 1;
-    let last = slots::region_at(queue, at);
-    let end = last.offset as u64 + last.length as u64;
+    let last = slots::region_at(*queue, queue.claimed - 1);
+    let end = end_of(last);
     let beyond = claimed < end;
-    if beyond {
-        return false;
-    }
-    clear_of_earlier(queue, yard, place)
+    !beyond && clear_of_earlier(queue, yard, place)
 }
 
 // Every queue that is made lies so.
-fn all_lie(yard: Yard, claimed: u64) -> bool
-    requires kept { Kept yard }
-    requires claimed_value { claimed ≡ claimed_words yard }
-    ensures { result ≡ all_below (lies_at yard) yard.made }
+fn all_lie(yard: &Yard, claimed: u64) -> bool
+    requires kept { Kept yard.now }
+    requires claimed_value { claimed ≡ claimed_words yard.now }
+    ensures { result ≡ all_below (lies_at yard.now) yard.now.made }
 {
-    let mut q: u32 = 0;
-    while q < yard.made {
-        let bench = bench_at(yard, q);
-        if !lies(bench.queue, yard, q, claimed) {
+    for (place, plot) in made(yard).iter().enumerate() {
+        if !lies(&plot.bench.queue, yard, place, claimed) {
             return false;
         }
-        q += 1;
     }
     true
 }
@@ -187,19 +177,11 @@ fn all_lie(yard: Yard, claimed: u64) -> bool
 pub fn sound(yard: Yard, store: &[u32]) -> bool
     ensures { result ≡ yard_ok yard store.now }
 {
-    if 4 < yard.made {
+    if 4 < yard.made || !all_keep(&yard) {
         return false;
     }
-    if !all_keep(yard) {
-        return false;
-    }
-    let total = sums(yard);
-    if !all_lie(yard, total.claimed) {
-        return false;
-    }
-    let all = total.claimed + total.aside;
-    let most = slots::usable(store);
-    all <= most as u64
+    let claimed = claimed_words(&yard);
+    all_lie(&yard, claimed) && claimed + aside_words(&yard) <= u64::from(slots::usable(store))
 }
 
 // Whether a call of queue `queue` is refused before the queue is looked at: refusals 12, of which the queue's log is a part, and
@@ -226,21 +208,12 @@ pub fn room_left(yard: Yard, store: &[u32]) -> Room
     requires { yard_ok yard store.now ≡ true }
     ensures { result ≡ record { next = claimed_words yard; left = words_left (the_ground yard store.now []) } }
 {
-    let total = sums(yard);
-    let most = slots::usable(store);
-    let next = total.claimed as u32;
-    let used = next + total.aside as u32;
-    let left = most - used;
-    Room { next, left }
-}
-
-fn least(one: u32, other: u32) -> u32
-    ensures { result ≡ least one other }
-{
-    if one <= other {
-        return one;
+    let next = claimed_words(&yard) as u32;
+    let used = next + aside_words(&yard) as u32;
+    Room {
+        next,
+        left: slots::usable(store) - used,
     }
-    other
 }
 
 // What X1 finds for a queue of the yard: what it has set aside itself is there for it, and its quota bounds its own words.
@@ -254,7 +227,8 @@ pub fn room_of(yard: Yard, queue: u32, store: &[u32]) -> Room
     let own = limits::words_taken(bench.queue);
     let free = room.left + bench.aside;
     let rest = quota_at(yard, queue) - own;
-    let next = room.next;
-    let left = least(free, rest);
-    Room { next, left }
+    Room {
+        next: room.next,
+        left: free.min(rest),
+    }
 }

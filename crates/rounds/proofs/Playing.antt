@@ -1,6 +1,6 @@
 -- What the loop of `play` keeps: where the play stands after n steps of the order.
 use mathlib.Core.Path.{◌≡◌, refl, sym, ◌∙◌, ap, subst}
-use mathlib.Core.Bool.{Bool, true, false, true≢false}
+use mathlib.Core.Bool.{Bool, true, false}
 use mathlib.Core.List.{List, [], ◌∷◌, ◌++◌}
 use Prim.Native.Nat.{ℕ, ◌+◌, ◌-◌, ◌≤◌, ◌<◌}
 use native.Mathlib.Omega.{arith}
@@ -33,7 +33,9 @@ use Rattle.machine.specs.Steps.{moves, bench_after, answer_after, moved_by}
 use Rattle.machine.proofs.Stepping.{steppable}
 use Rattle.state.specs.declared.Returned.{Returned}
 use Rattle.rounds.specs.declared.Begun.{Begun}
-use Rattle.rounds.specs.Rounds.{next_operation, PlayedBy}
+use Rattle.std.specs.Prelude.{Some, None}
+use Rattle.rounds.specs.declared.Played.{Played}
+use Rattle.rounds.specs.Rounds.{next_operation, Out, PlayedBy}
 use Rattle.rounds.proofs.Begins.{first}
 use Rattle.rounds.proofs.Opening.{counting, ready, Owners, Opens, opens_busy, opens_idle, world_after, fits_after}
 
@@ -99,28 +101,29 @@ module _ {S : Play} {p : Order} {puts : List Bool} {order₀ : List ℕ} {most :
       let all : take n o ≡ o = take_all n o (omega (arith, e)) in
       (P.same ∙ all, λ k h. P.higher k (omega (arith, h, e)), subst (λ (q : Order). (after_order S q).world ≡ lent b m l) all P.world)
 
-  pub played_out_lem : length o ≡ n → PlayedBy S p most (record { steps = n; words = b.words; written = b.written; cut = false }) order others l
-  played_out_lem e =
+  pub played_out_lem : (k : ℕ) → n ≡ k → length o ≡ n → PlayedBy S p most (Some (record { steps = k; words = b.words; written = b.written })) order others l
+  played_out_lem k is e =
       let a = all_out_lem e in
+      let out : Out S o most (record { steps = n; words = b.words; written = b.written }) order others l =
       record {
-        out = λ f.
-            record {
-              made = a.0;
-              steps = sym e;
-              paid = P.paid;
-              higher = a.1;
-              logged = ap (λ (W : World). W.log) a.2;
-              words = ap (λ (W : World). W.bench.words) a.2;
-              written = ap (λ (W : World). W.bench.written) a.2;
-            };
-        off = λ f. absurd (true≢false (sym f));
+        made = a.0;
+        steps = sym e;
+        paid = P.paid;
+        higher = a.1;
+        logged = ap (λ (W : World). W.log) a.2;
+        words = ap (λ (W : World). W.bench.words) a.2;
+        written = ap (λ (W : World). W.bench.written) a.2;
+      } in
+      record {
+        out = λ d f. subst (λ (x : Played). Out S o most x order others l) (let s : record { steps = n; words = b.words; written = b.written } ≡ d = cc in s) out;
+        off = λ f. absurd (let z : ⊥ = cc in z);
         long = P.long;
         wide = P.wide;
       }
 
   -- or its next step is not paid
-  pub cut_off : n ≡ most → n < length o → PlayedBy S p most (record { steps = n; words = 0; written = 0; cut = true }) order others l
-  cut_off e h = record { out = λ f. absurd (true≢false f); off = λ f. (e, omega (arith, e, h)); long = P.long; wide = P.wide }
+  pub cut_off : n ≡ most → n < length o → PlayedBy S p most None order others l
+  cut_off e h = record { out = λ d f. absurd (let z : ⊥ = cc in z); off = λ f. omega (arith, e, h); long = P.long; wide = P.wide }
 
   pub valid_here : valid_of (lent b m l) ≡ true
   valid_here = reached_valid good.reached

@@ -1,5 +1,5 @@
 -- One order played by the code.
-use Rattle.std.specs.Prelude.{◌≡◌, Bool, true, false, List, ℕ, zero, suc, ◌-◌, ◌≤◌, ◌<◌, length, get_or, take, drop}
+use Rattle.std.specs.Prelude.{◌≡◌, Bool, false, Option, Some, None, List, ℕ, zero, suc, ◌-◌, ◌≤◌, ◌<◌, length, get_or, take, drop}
 use Rattle.model.specs.declared.Bench.{Bench}
 use Rattle.model.specs.declared.Operation.{Operation}
 use Rattle.model.specs.declared.Operation.TheVariants.{Steal}
@@ -32,9 +32,9 @@ pub record Out (S : Play) (o : Order) (most : ℕ) (r : Played) (order others lo
   pub words : (after_order S o).world.bench.words ≡ r.words
   pub written : (after_order S o).world.bench.written ≡ r.written
 
--- the order that starts with the given steps p was played out, or was cut off
-pub record PlayedBy (S : Play) (p : Order) (most : ℕ) (r : Played) (order others log : List ℕ) : Type 0 where
-  pub out : r.cut ≡ false → Out S (first_of 256 S p) most r order others log
-  pub off : r.cut ≡ true → (r.steps ≡ most) × (most < length (first_of 256 S p))
+-- the order that starts with the given steps p was played out, or has too many steps
+pub record PlayedBy (S : Play) (p : Order) (most : ℕ) (r : Option Played) (order others log : List ℕ) : Type 0 where
+  pub out : (d : Played) → r ≡ Some d → Out S (first_of 256 S p) most d order others log
+  pub off : r ≡ None → most < length (first_of 256 S p)
   pub long : length order ≡ 256
   pub wide : length others ≡ 256

@@ -102,16 +102,15 @@ fn chosen(order: &[u32; 256], given: u32, n: u32, todo: &[u32; 8]) -> u32
     turns::up(todo, 0)
 }
 
-// What playing an order left: its steps, the payload words of a task and the words that were logged; or it was cut off.
+// What playing an order left: its steps, the payload words of a task and the words that were logged.
 #[derive(Clone, Copy)]
 pub struct Played {
     pub steps: u32,
     pub words: u32,
     pub written: u32,
-    pub cut: bool,
 }
 
-// Plays the order that starts with the given steps, with at most `most` steps. `all` are the operations of each worker. The order
+// Plays the order that starts with the given steps; none where more than `most` steps would be needed. `all` are the operations of each worker. The order
 // is left in `order`, and beside each step in `others` the next higher worker that might have made it. The bench stays in place:
 // most steps replace one worker's record.
 pub fn play(
@@ -124,7 +123,7 @@ pub fn play(
     most: u32,
     store: &mut [u32],
     log: &mut [u32],
-) -> Played
+) -> Option<Played>
     requires good { Good (play_of fresh store.old log.old puts.now all) }
     requires fits { Fits fresh.workers (plan_of puts.now all) all }
     requires complete { Complete 256 (play_of fresh store.old log.old puts.now all) (first_of 256 (play_of fresh store.old log.old puts.now all) (take given order.old)) }
@@ -135,19 +134,17 @@ pub fn play(
 {
     let mut bench = fresh;
     let mut todo = all;
-    let mut n: u32 = 0;
-    while n < 256 {
+    for n in 0..256u32 {
         let worker = chosen(order, given, n, &todo);
         if worker == 8 {
-            break;
+            return Some(Played {
+                steps: n,
+                words: bench.words,
+                written: bench.written,
+            });
         }
         if n == most {
-            return Played {
-                steps: n,
-                words: 0,
-                written: 0,
-                cut: true,
-            };
+            return None;
         }
         let k = n as usize;
         let i = worker as usize;
@@ -180,7 +177,6 @@ pub fn play(
         let to = moved.line;
         let made = moved.made;
         todo[i] = still(left, to);
-        n += 1;
         let Made::Nothing = made else {
             let done = machine::settled(bench, i, to, made);
             bench = done.bench;
@@ -188,10 +184,9 @@ pub fn play(
         };
         bench.workers[i] = Worker { line: to };
     }
-    Played {
-        steps: n,
+    Some(Played {
+        steps: 256,
         words: bench.words,
         written: bench.written,
-        cut: false,
-    }
+    })
 }

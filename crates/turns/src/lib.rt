@@ -6,18 +6,15 @@
 ghost use Rattle.std.specs.Prelude.{◌≡◌, ◌-◌, ◌≤◌, length};
 ghost use Rattle.turns.specs.Turns.{from, first_busy, Turned};
 
-// The first worker from `first` on that has an operation open or left; 8 if there is none.
+// The first worker from `first` on that has an operation open or left; 8 if there is none, as `first_busy` and `Turned` have it.
 pub fn up(todo: &[u32; 8], first: u32) -> u32
     requires { length todo.now ≡ 8 }
     ensures { result ≡ first_busy todo.now (from first (8 - first)) }
 {
-    let mut i = first;
-    while i < 8 {
-        let k = i as usize;
-        if 0 < todo[k] {
+    for i in first..8 {
+        if 0 < todo[i as usize] {
             return i;
         }
-        i += 1;
     }
     8
 }
@@ -30,16 +27,12 @@ pub fn turn(order: &mut [u32; 256], others: &[u32; 256], steps: u32) -> u32
     requires others_len { length others.now ≡ 256 }
     ensures { Turned order.old others.now steps result order.new }
 {
-    let mut n = steps;
-    while 0 < n {
-        let m = n - 1;
-        let k = m as usize;
+    for k in (0..steps as usize).rev() {
         let other = others[k];
         if other < 8 {
             order[k] = other;
-            return n;
+            return k as u32 + 1;
         }
-        n = m;
     }
     0
 }

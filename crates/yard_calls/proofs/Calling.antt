@@ -24,10 +24,7 @@ use Rattle.opening.proofs.Admits.{decided, one, past}
 use Rattle.plots.specs.Places.{the_ground, fit_for, called}
 use Rattle.plots.proofs.Rooms.{kept, within}
 use Rattle.yard_calls.specs.declared.Yielded.{Yielded}
-use Rattle.yard_calls.specs.Yielding.{yielded, back_in, refused_in}
-
-abbrev stopped : Yard → ℕ → List ℕ → List ℕ → Result ⊤ Refusal
-stopped Y q m l = called Y q m l (λ w. Err w) (Ok tt)
+use Rattle.yard_calls.specs.Yielding.{yielded, stopped, back_in, refused_in}
 
 -- past the stop the yard is sound and has the queue, whose own call can count on its limits
 pub record Past (Y : Yard) (q : ℕ) (m l : List ℕ) : Type 0 where
@@ -89,6 +86,13 @@ module _ (Y : Yard) (q : ℕ) (m l : List ℕ) (ls : List (List ℕ)) (lies : ge
       ∙ ap (λ (D : Outcome). leaves (the_ground Y m ls) q D)
       (did ∙ ap (λ (x : Bench). call_in ρ (lent x m l) c) here ∙ ap (λ (x : Room). call_in x (lent (bench_at Y q) m l) c) room)
       ∙ sym (outcome (refuse_all (the_ground Y m ls)) (own c) (Ok tt) e g)
+
+  -- either, where no memory is written
+  pub calls : (c : Call) {r : Yielded} (s : Result ⊤ Refusal) → s ≡ stopped Y q m l → ((w : Refusal) → s ≡ Err w → r ≡ refused_in Y w)
+      → (s ≡ Ok tt → (d : Returned) × (returned d m l ≡ call_in (room_of (the_ground Y m []) q) (lent (bench_at Y q) m l) c) × (r ≡ back_in Y q d))
+      → yielded r m (set ls q l) ≡ on_of (the_ground Y m ls) q c
+  calls c (Err w) e f g = refuses c e refl (f w refl)
+  calls c (Ok tt) e f g = let d = g refl in goes_on_lem c m l e refl refl refl d.2 d.1
 
   -- who
   pub tallies : (i : ℕ) {s : Result ⊤ Refusal} (t : Result ⊤ Refusal) → s ≡ called Y q m l (λ w. Err w) (Ok tt) → s ≡ t

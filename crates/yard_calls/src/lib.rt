@@ -6,11 +6,13 @@
 
 ghost use Rattle.std.specs.Prelude.{List, [], ◌≡◌, ℕ, ◌<◌, get_or, set, Ok, Err};
 ghost use Rattle.model.specs.Calls.{begin, step, drop_link, drain, ask, drop_ask};
-ghost use Rattle.model.specs.Yard.{on_of, make_of, who_at, front_at, bare};
+ghost use Rattle.model.specs.Yard.{bench_at, on_of, make_of, who_at, front_at, bare};
+ghost use Rattle.model.specs.declared.Refusal.{Refusal};
+ghost use Rattle.state.specs.declared.Returned.{Returned};
 ghost use Rattle.plots.specs.Places.{the_ground};
-ghost use Rattle.yard_calls.specs.Yielding.{yielded, back_in, with_one, refused_in, makes};
+ghost use Rattle.yard_calls.specs.Yielding.{yielded, stopped, back_in, with_one, refused_in, makes};
 
-use model::{Answer, Bench, Operation, Refusal, Setup, Yard};
+use model::{Answer, Bench, Operation, Plot, Refusal, Setup, Yard};
 use state::Returned;
 
 // What a call hands back: the next yard, and the answer.
@@ -24,12 +26,12 @@ pub struct Yielded {
 pub fn bare() -> Yard
     ensures { result ≡ bare }
 {
-    let none = state::none();
-    let benches = [none; 4];
-    let quotas = [0u32; 4];
+    let none = Plot {
+        bench: state::none(),
+        quota: 0,
+    };
     Yard {
-        benches: benches,
-        quotas: quotas,
+        plots: [none; 4],
         made: 0,
     }
 }
@@ -38,10 +40,9 @@ pub fn bare() -> Yard
 fn refused(yard: Yard, why: Refusal) -> Yielded
     ensures { result ≡ refused_in yard why }
 {
-    let answer = Answer::Refused { why: why };
     Yielded {
-        yard: yard,
-        answer: answer,
+        yard,
+        answer: Answer::Refused { why },
     }
 }
 
@@ -50,15 +51,10 @@ fn put_back(yard: Yard, queue: u32, reply: Returned) -> Yielded
     requires { queue < 4 }
     ensures { result ≡ back_in yard queue reply }
 {
-    let place = queue as usize;
-    let bench = reply.bench;
     let answer = reply.answer;
     let mut next = yard;
-    next.benches[place] = bench;
-    Yielded {
-        yard: next,
-        answer: answer,
-    }
+    next.plots[queue as usize].bench = reply.bench;
+    Yielded { yard: next, answer }
 }
 
 // The next place gets a queue.
@@ -66,10 +62,8 @@ fn add(yard: Yard, bench: Bench, quota: u32) -> Yielded
     requires { yard.made < 4 }
     ensures { result ≡ with_one yard bench quota }
 {
-    let place = yard.made as usize;
     let mut next = yard;
-    next.benches[place] = bench;
-    next.quotas[place] = quota;
+    next.plots[yard.made as usize] = Plot { bench, quota };
     next.made += 1;
     Yielded {
         yard: next,
@@ -88,10 +82,7 @@ fn make_stop(yard: Yard, setup: Setup, quota: u32, store: &[u32]) -> Result<(), 
         return Err(Refusal::NoSuchQueue);
     }
     let room = plots::room_left(yard, store);
-    let stop = opening::admission_stop(setup, room.left);
-    if let Err(why) = stop {
-        return Err(why);
-    }
+    opening::admission_stop(setup, room.left)?;
     if quota < opening::first_length(setup) {
         return Err(Refusal::ShortQuota);
     }
@@ -108,10 +99,27 @@ pub fn make(yard: Yard, setup: Setup, quota: u32, store: &mut [u32]) -> Yielded
         return refused(yard, why);
     }
     let room = plots::room_left(yard, store);
-    let from = room.next as usize;
     let long = opening::first_length(setup) as usize;
-    memory::zero(store, from, long);
+    memory::zero(store, room.next as usize, long);
     add(yard, opening::new_bench(room.next, setup), quota)
+}
+
+// A call that writes no memory: it is refused, or it is the queue's own call of its bench, whose state goes back to its plot.
+fn on<F: FnOnce(Bench) -> Returned>(
+    yard: Yard,
+    queue: u32,
+    store: &[u32],
+    log: &[u32],
+    call: F,
+) -> Yielded
+    requires { stopped yard queue store.now log.now ≡ Ok tt → F.pre call (bench_at yard queue) }
+    ensures refused { (w : Refusal) → stopped yard queue store.now log.now ≡ Err w → result ≡ refused_in yard w }
+    ensures called { stopped yard queue store.now log.now ≡ Ok tt → (d : Returned) × F.post call (bench_at yard queue) d × (result ≡ back_in yard queue d) }
+{
+    match plots::stop(yard, queue, store, log) {
+        Ok(()) => put_back(yard, queue, call(plots::bench_at(yard, queue))),
+        Err(why) => refused(yard, why),
+    }
 }
 
 pub fn begin(
@@ -124,14 +132,17 @@ pub fn begin(
 ) -> Yielded
     ensures { (ls : List (List ℕ)) → get_or ls queue [] ≡ log.now → yielded result store.now (set ls queue log.now) ≡ on_of (the_ground yard store.now ls) queue (begin worker operation) }
 {
-    let stop = plots::stop(yard, queue, store, log);
-    if let Err(why) = stop {
-        return refused(yard, why);
-    }
-    let bench = plots::bench_at(yard, queue);
-    put_back(yard, queue, opening::begin_in(bench, worker, operation))
+    on(
+        yard,
+        queue,
+        store,
+        log,
+        |bench| opening::begin_in(bench, worker, operation),
+    )
 }
 
+// `step` and `drain` write memory, and test for themselves: no contract can say of a closure which was not called that the store
+// it borrows is as it was, as a refusal has to.
 pub fn step(yard: Yard, queue: u32, worker: u32, store: &mut [u32], log: &mut [u32]) -> Yielded
     ensures { (ls : List (List ℕ)) → get_or ls queue [] ≡ log.old → yielded result store.new (set ls queue log.new) ≡ on_of (the_ground yard store.old ls) queue (step worker) }
 {
@@ -147,12 +158,13 @@ pub fn step(yard: Yard, queue: u32, worker: u32, store: &mut [u32], log: &mut [u
 pub fn drop_link(yard: Yard, queue: u32, worker: u32, store: &[u32], log: &[u32]) -> Yielded
     ensures { (ls : List (List ℕ)) → get_or ls queue [] ≡ log.now → yielded result store.now (set ls queue log.now) ≡ on_of (the_ground yard store.now ls) queue (drop_link worker) }
 {
-    let stop = plots::stop(yard, queue, store, log);
-    if let Err(why) = stop {
-        return refused(yard, why);
-    }
-    let bench = plots::bench_at(yard, queue);
-    put_back(yard, queue, events::drop_link_in(bench, worker))
+    on(
+        yard,
+        queue,
+        store,
+        log,
+        |bench| events::drop_link_in(bench, worker),
+    )
 }
 
 pub fn drain(yard: Yard, queue: u32, store: &mut [u32], log: &[u32]) -> Yielded
@@ -169,24 +181,22 @@ pub fn drain(yard: Yard, queue: u32, store: &mut [u32], log: &[u32]) -> Yielded
 pub fn ask(yard: Yard, queue: u32, worker: u32, store: &[u32], log: &[u32]) -> Yielded
     ensures { (ls : List (List ℕ)) → get_or ls queue [] ≡ log.now → yielded result store.now (set ls queue log.now) ≡ on_of (the_ground yard store.now ls) queue (ask worker) }
 {
-    let stop = plots::stop(yard, queue, store, log);
-    if let Err(why) = stop {
-        return refused(yard, why);
-    }
-    let room = plots::room_of(yard, queue, store);
-    let bench = plots::bench_at(yard, queue);
-    put_back(yard, queue, events::ask_in(room, bench, worker))
+    on(yard, queue, store, log, |bench| {
+        let room = plots::room_of(yard, queue, store);
+        events::ask_in(room, bench, worker)
+    })
 }
 
 pub fn drop_ask(yard: Yard, queue: u32, worker: u32, store: &[u32], log: &[u32]) -> Yielded
     ensures { (ls : List (List ℕ)) → get_or ls queue [] ≡ log.now → yielded result store.now (set ls queue log.now) ≡ on_of (the_ground yard store.now ls) queue (drop_ask worker) }
 {
-    let stop = plots::stop(yard, queue, store, log);
-    if let Err(why) = stop {
-        return refused(yard, why);
-    }
-    let bench = plots::bench_at(yard, queue);
-    put_back(yard, queue, events::drop_ask_in(bench, worker))
+    on(
+        yard,
+        queue,
+        store,
+        log,
+        |bench| events::drop_ask_in(bench, worker),
+    )
 }
 
 // A worker's restarts. Nothing changes.
@@ -199,10 +209,7 @@ pub fn tally(
 ) -> Result<u32, Refusal>
     ensures { (ls : List (List ℕ)) → get_or ls queue [] ≡ log.now → result ≡ who_at (the_ground yard store.now ls) queue worker }
 {
-    let stop = plots::stop(yard, queue, store, log);
-    if let Err(why) = stop {
-        return Err(why);
-    }
+    plots::stop(yard, queue, store, log)?;
     events::tally_in(plots::bench_at(yard, queue), worker)
 }
 
@@ -210,11 +217,8 @@ pub fn tally(
 pub fn front(yard: Yard, queue: u32, log: &[u32]) -> &[u32]
     ensures { (m : List ℕ) (ls : List (List ℕ)) → get_or ls queue [] ≡ log.now → result.now ≡ front_at (the_ground yard m ls) queue }
 {
-    if yard.made <= queue {
-        return &log[..0];
-    }
     // A foreign yard may say that more than four are made.
-    if 4 <= queue {
+    if yard.made <= queue || 4 <= queue {
         return &log[..0];
     }
     memory::front(plots::bench_at(yard, queue), log)

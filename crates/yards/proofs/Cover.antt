@@ -10,15 +10,14 @@ use lib.ListN.{get_or}
 use borrow.Author.Tests.{leb-true}
 use Rattle.model.specs.declared.Queue.{Queue}
 use Rattle.model.specs.declared.Region.{Region}
-use Rattle.model.specs.declared.Bench.{Bench}
+use Rattle.model.specs.declared.Plot.{Plot}
 use Rattle.model.specs.declared.Yard.{Yard}
 use Rattle.model.proofs.Tests.{and_left, and_right, or_cases}
 use Rattle.model.specs.Memory.{offset_at, end_at, words_to}
 use Rattle.model.specs.Stores.{taken}
 use Rattle.model.specs.Limits.{tidy}
 use Rattle.model.specs.World.{line_at}
-use Rattle.model.specs.Calls.{no_bench}
-use Rattle.model.specs.Yard.{Ground, bench_at, queue_at, owners_queue, all_below, total_of, claimed_by, claimed_words, no_overlap, place_ok, sound_yard}
+use Rattle.model.specs.Yard.{Ground, no_plot, bench_at, queue_at, owners_queue, all_below, total_of, claimed_by, claimed_words, no_overlap, place_ok, sound_yard}
 use Rattle.model.proofs.Alone.{directory_of, tidy_of}
 use Rattle.theorems.proofs.Remainders.{le_or_lt}
 use Rattle.theorems.proofs.Directory.{tidy_below, tidy_sorted}
@@ -116,15 +115,15 @@ hits_one ω l n a t = sum_one (λ k. within (offset_at l k) (end_at l k) a) n (�
     two i j h g x y (inr b) ne = omega (arith, tidy_sorted ω l n j i t b h)
 
 -- how many arrays of the first n queues
-abbrev all_hits : List Bench → ℕ → ℕ → ℕ
-all_hits bs n a = sum (λ q. hits (get_or bs q no_bench).queue.arrays (get_or bs q no_bench).queue.claimed a) n
+abbrev all_hits : List Plot → ℕ → ℕ → ℕ
+all_hits ps n a = sum (λ q. hits (get_or ps q no_plot).bench.queue.arrays (get_or ps q no_plot).bench.queue.claimed a) n
 
-all_sum : (bs : List Bench) (n m : ℕ) → ((q k : ℕ) → q < n → k < (get_or bs q no_bench).queue.claimed → end_at (get_or bs q no_bench).queue.arrays k ≤ m) → sum (all_hits bs n) m ≡ total_of claimed_by bs n
+all_sum : (ps : List Plot) (n m : ℕ) → ((q k : ℕ) → q < n → k < (get_or ps q no_plot).bench.queue.claimed → end_at (get_or ps q no_plot).bench.queue.arrays k ≤ m) → sum (all_hits ps n) m ≡ total_of claimed_by ps n
 unfolding sum total_of
-all_sum bs zero m f = sum_none m
-all_sum bs (suc n) m f =
-    sum_plus (all_hits bs n) (hits (get_or bs n no_bench).queue.arrays (get_or bs n no_bench).queue.claimed) _ m (λ i. refl)
-    ∙ omega (arith, all_sum bs n m (λ q k h g. f q k (omega arith) g), hits_sum (get_or bs n no_bench).queue.arrays (get_or bs n no_bench).queue.claimed m (λ k g. f n k (omega arith) g))
+all_sum ps zero m f = sum_none m
+all_sum ps (suc n) m f =
+    sum_plus (all_hits ps n) (hits (get_or ps n no_plot).bench.queue.arrays (get_or ps n no_plot).bench.queue.claimed) _ m (λ i. refl)
+    ∙ omega (arith, all_sum ps n m (λ q k h g. f q k (omega arith) g), hits_sum (get_or ps n no_plot).bench.queue.arrays (get_or ps n no_plot).bench.queue.claimed m (λ k g. f n k (omega arith) g))
 
 -- WHAT THE TEST SAYS
 below_true : (p : ℕ → Bool) (n k : ℕ) → all_below p n ≡ true → k < n → p k ≡ true
@@ -179,7 +178,7 @@ module _ (G : Ground) (t : sound_yard G ≡ true) where
       off k j b c d e (inl z) = omega arith
       off k j b c d e (inr z) = omega arith
 
-  all_one : (a : ℕ) → all_hits Y.benches Y.made a ≤ 1
+  all_one : (a : ℕ) → all_hits Y.plots Y.made a ≤ 1
   all_one a =
       sum_one (λ q. hits (queue_at Y q).arrays (queue_at Y q).claimed a) Y.made (λ q h. hits_one (bench_at Y q).words (queue_at Y q).arrays (queue_at Y q).claimed a (tidied q h))
       (λ q r h g ne x y. two q r h g x y (le_or_lt q r) ne)
@@ -191,7 +190,7 @@ module _ (G : Ground) (t : sound_yard G ≡ true) where
 pub no_gaps : NoGaps
 no_gaps G t a h =
     let Y = G.yard in
-    let f = sum_all (all_hits Y.benches Y.made) (claimed_words Y) (λ i g. all_one G t i) (omega (arith, all_sum Y.benches Y.made (claimed_words Y) (ends_in G t))) a h in
+    let f = sum_all (all_hits Y.plots Y.made) (claimed_words Y) (λ i g. all_one G t i) (omega (arith, all_sum Y.plots Y.made (claimed_words Y) (ends_in G t))) a h in
     let q = sum_some (λ q. hits (queue_at Y q).arrays (queue_at Y q).claimed a) Y.made f in
     let k = hit (queue_at Y q.0).arrays (queue_at Y q.0).claimed a q.2 in
     (q.0, k.0, q.1, k.1, k.2, k.3)

@@ -12,6 +12,7 @@ use borrow.Author.Tests.{leb-true, le-leb, ltb-true, lt-ltb}
 use Rattle.model.specs.declared.Queue.{Queue}
 use Rattle.model.specs.declared.Region.{Region}
 use Rattle.model.specs.declared.Bench.{Bench}
+use Rattle.model.specs.declared.Plot.{Plot}
 use Rattle.model.specs.declared.Room.{Room}
 use Rattle.model.specs.declared.Setup.{Setup}
 use Rattle.model.specs.declared.Refusal.{Refusal}
@@ -24,8 +25,8 @@ use Rattle.model.specs.Memory.{zeros, offset_at, length_at, size_at, end_at, wor
 use Rattle.model.specs.Stores.{Shared, taken, words_taken, next_length, claiming, in_line}
 use Rattle.model.specs.Limits.{is_size, width_ok, crew_ok, words_ok, bench_ok}
 use Rattle.model.specs.World.{World, Outcome, owners_view}
-use Rattle.model.specs.Calls.{no_bench, lent, new_bench, first_length, admitted, Call, call_in}
-use Rattle.model.specs.Yard.{Ground, bench_at, queue_at, quota_at, world_of, total_of, claimed_by, held_by, claimed_words, aside_words, room_of, words_left, all_below, no_overlap, place_ok, sound_yard, sound_for, Yields, refuse_all, leaves, on_of, making, make_of, YardCall, make, on, yields, ground_after}
+use Rattle.model.specs.Calls.{lent, new_bench, first_length, admitted, Call, call_in}
+use Rattle.model.specs.Yard.{Ground, no_plot, plot_at, bench_at, queue_at, quota_at, world_of, total_of, claimed_by, held_by, claimed_words, aside_words, room_of, words_left, all_below, no_overlap, place_ok, sound_yard, sound_for, Yields, refuse_all, leaves, on_of, making, make_of, YardCall, make, on, yields, ground_after}
 use Rattle.theorems.proofs.Remainders.{le_or_lt}
 use Rattle.theorems.proofs.Directory.{both, Arrays, Admits, Others, end}
 use Rattle.theorems.proofs.Valid.{Whole, own_valid, log_valid}
@@ -40,8 +41,7 @@ use Rattle.yards.proofs.Writes.{Untouched, zeroed, Changes, call_changes, apart_
 
 pub record Tended (G : Ground) : Type 0 where
   pub made : G.yard.made ≤ 4
-  pub benches : length G.yard.benches ≡ 4
-  pub quotas : length G.yard.quotas ≡ 4
+  pub plots : length G.yard.plots ≡ 4
   pub logs : length G.logs ≡ 4
   pub whole : (q : ℕ) → q < G.yard.made → Whole (world_of G q)
   pub quota : (q : ℕ) → q < G.yard.made → words_taken (queue_at G.yard q) + (bench_at G.yard q).aside ≤ quota_at G.yard q
@@ -93,37 +93,37 @@ sound_for_lem G T q = and_both _ _ (sound G T) (lent_either (ltb q G.yard.made) 
 
 -- TOTALS, after one queue is replaced
 module _ (f : Bench → ℕ) where
-  pub total_keep : (bs : List Bench) (n r : ℕ) (b : Bench) → n ≤ r → total_of f (set bs r b) n ≡ total_of f bs n
+  pub total_keep : (ps : List Plot) (n r : ℕ) (b : Plot) → n ≤ r → total_of f (set ps r b) n ≡ total_of f ps n
   unfolding total_of
-  total_keep bs zero r b h = refl
-  total_keep bs (suc n) r b h = omega (arith, total_keep bs n r b (omega arith), ap f (get_or-set_other bs r n b no_bench (omega arith)))
+  total_keep ps zero r b h = refl
+  total_keep ps (suc n) r b h = omega (arith, total_keep ps n r b (omega arith), ap (λ (p : Plot). f p.bench) (get_or-set_other ps r n b no_plot (omega arith)))
 
-  pub total_set : (bs : List Bench) (n r : ℕ) (b : Bench) → r < length bs → r < n → total_of f (set bs r b) n + f (get_or bs r no_bench) ≡ total_of f bs n + f b
+  pub total_set : (ps : List Plot) (n r : ℕ) (b : Plot) → r < length ps → r < n → total_of f (set ps r b) n + f (get_or ps r no_plot).bench ≡ total_of f ps n + f b.bench
   unfolding total_of
-  total_set bs zero r b l h = absurd (omega arith)
-  total_set bs (suc n) r b l h = go (le_or_lt n r) (λ a. total_set bs n r b l a)
+  total_set ps zero r b l h = absurd (omega arith)
+  total_set ps (suc n) r b l h = go (le_or_lt n r) (λ a. total_set ps n r b l a)
     where
       at : ℕ → ℕ
-      at k = f (get_or bs k no_bench)
+      at k = f (get_or ps k no_plot).bench
 
       at' : ℕ → ℕ
-      at' k = f (get_or (set bs r b) k no_bench)
+      at' k = f (get_or (set ps r b) k no_plot).bench
 
-      go : (n ≤ r) ⊎ (r < n) → (r < n → total_of f (set bs r b) n + at r ≡ total_of f bs n + f b) → total_of f (set bs r b) n + at' n + at r ≡ total_of f bs n + at n + f b
-      go (inl a) g = omega (arith, total_keep bs n r b a, ap at is, ap at' is, ap f (get_or-set_same bs r b no_bench l))
+      go : (n ≤ r) ⊎ (r < n) → (r < n → total_of f (set ps r b) n + at r ≡ total_of f ps n + f b.bench) → total_of f (set ps r b) n + at' n + at r ≡ total_of f ps n + at n + f b.bench
+      go (inl a) g = omega (arith, total_keep ps n r b a, ap at is, ap at' is, ap (λ (p : Plot). f p.bench) (get_or-set_same ps r b no_plot l))
         where
           is : n ≡ r
           is = omega arith
-      go (inr a) g = omega (arith, g a, ap f (get_or-set_other bs r n b no_bench (omega arith)))
+      go (inr a) g = omega (arith, g a, ap (λ (p : Plot). f p.bench) (get_or-set_other ps r n b no_plot (omega arith)))
 
   -- each has its part in it
-  pub part_of : (bs : List Bench) (n r : ℕ) → r < n → f (get_or bs r no_bench) ≤ total_of f bs n
+  pub part_of : (ps : List Plot) (n r : ℕ) → r < n → f (get_or ps r no_plot).bench ≤ total_of f ps n
   unfolding total_of
-  part_of bs zero r h = absurd (omega arith)
-  part_of bs (suc n) r h = go (le_or_lt n r) (λ a. part_of bs n r a)
+  part_of ps zero r h = absurd (omega arith)
+  part_of ps (suc n) r h = go (le_or_lt n r) (λ a. part_of ps n r a)
     where
-      go : (n ≤ r) ⊎ (r < n) → (r < n → f (get_or bs r no_bench) ≤ total_of f bs n) → f (get_or bs r no_bench) ≤ total_of f bs n + f (get_or bs n no_bench)
-      go (inl a) g = omega (arith, ap (λ (k : ℕ). f (get_or bs k no_bench)) is)
+      go : (n ≤ r) ⊎ (r < n) → (r < n → f (get_or ps r no_plot).bench ≤ total_of f ps n) → f (get_or ps r no_plot).bench ≤ total_of f ps n + f (get_or ps n no_plot).bench
+      go (inl a) g = omega (arith, ap (λ (k : ℕ). f (get_or ps k no_plot).bench) is)
         where
           is : n ≡ r
           is = omega arith
@@ -147,34 +147,38 @@ apart_sym q r A k j h g = go (A j k g h)
 same_usable : (m m' : List ℕ) → length m' ≡ length m → usable m' ≡ usable m
 same_usable m m' e = ap (λ (n : ℕ). least n 10235) e
 
--- ONE QUEUE IS REPLACED, or made: queue p becomes b, with the log l, and the store m
-abbrev pub replaced : Ground → ℕ → ℕ → Bench → List ℕ → List ℕ → List ℕ → Ground
-replaced G n p b qs m l = record { yard = record { benches = set G.yard.benches p b; quotas = qs; made = n }; store = m; logs = set G.logs p l }
+-- ONE QUEUE IS REPLACED, or made: queue p becomes b, with the quota x and the log l, and the store m
+abbrev pub replaced : Ground → ℕ → ℕ → Bench → ℕ → List ℕ → List ℕ → Ground
+replaced G n p b x m l = record { yard = record { plots = set G.yard.plots p (record { bench = b; quota = x }); made = n }; store = m; logs = set G.logs p l }
 
-pub record Replaces (G : Ground) (n p : ℕ) (b : Bench) (qs m l : List ℕ) : Type 0 where
+pub record Replaces (G : Ground) (n p : ℕ) (b : Bench) (x : ℕ) (m l : List ℕ) : Type 0 where
   pub few : n ≤ 4
   pub inside : p < n
   pub more : G.yard.made ≤ n
   pub before : (r : ℕ) → r < n → r ≢ p → r < G.yard.made
-  pub four : length qs ≡ 4
-  pub quotas : (r : ℕ) → r ≢ p → get_or qs r 0 ≡ quota_at G.yard r
   pub whole : Whole (record { bench = b; store = m; log = l })
   pub untouched : Untouched b.queue.arrays b.queue.claimed G.store m
-  pub quota : words_taken b.queue + b.aside ≤ get_or qs p 0
-  pub grows : claimed_words G.yard ≤ total_of claimed_by (set G.yard.benches p b) n
-  pub gapless : taken b.queue ≤ total_of claimed_by (set G.yard.benches p b) n
-  pub fits : total_of claimed_by (set G.yard.benches p b) n + total_of held_by (set G.yard.benches p b) n ≤ usable G.store
+  pub quota : words_taken b.queue + b.aside ≤ x
+  pub grows : claimed_words G.yard ≤ total_of claimed_by (set G.yard.plots p (record { bench = b; quota = x })) n
+  pub gapless : taken b.queue ≤ total_of claimed_by (set G.yard.plots p (record { bench = b; quota = x })) n
+  pub fits : total_of claimed_by (set G.yard.plots p (record { bench = b; quota = x })) n + total_of held_by (set G.yard.plots p (record { bench = b; quota = x })) n ≤ usable G.store
   pub apart : (r : ℕ) → r < G.yard.made → r ≢ p → Apart (queue_at G.yard r) b.queue
 
-module _ {G : Ground} (T : Tended G) {n p : ℕ} {b : Bench} {qs m l : List ℕ} (R : Replaces G n p b qs m l) where
+module _ {G : Ground} (T : Tended G) {n p : ℕ} {b : Bench} {x : ℕ} {m l : List ℕ} (R : Replaces G n p b x m l) where
   abbrev G' : Ground
-  G' = replaced G n p b qs m l
+  G' = replaced G n p b x m l
+
+  plot_here : plot_at G'.yard p ≡ record { bench = b; quota = x }
+  plot_here = get_or-set_same G.yard.plots p (record { bench = b; quota = x }) no_plot (omega (arith, T.plots, R.inside, R.few))
+
+  plot_there : (r : ℕ) → r ≢ p → plot_at G'.yard r ≡ plot_at G.yard r
+  plot_there r ne = get_or-set_other G.yard.plots p r (record { bench = b; quota = x }) no_plot ne
 
   bench_here : bench_at G'.yard p ≡ b
-  bench_here = get_or-set_same G.yard.benches p b no_bench (omega (arith, T.benches, R.inside, R.few))
+  bench_here = ap (λ (a : Plot). a.bench) plot_here
 
   bench_there : (r : ℕ) → r ≢ p → bench_at G'.yard r ≡ bench_at G.yard r
-  bench_there r ne = get_or-set_other G.yard.benches p r b no_bench ne
+  bench_there r ne = ap (λ (a : Plot). a.bench) (plot_there r ne)
 
   pub world_here : world_of G' p ≡ record { bench = b; store = m; log = l }
   world_here = rw (bench_here, get_or-set_same G.logs p l [] (omega (arith, T.logs, R.inside, R.few)))
@@ -210,14 +214,13 @@ module _ {G : Ground} (T : Tended G) {n p : ℕ} {b : Bench} {qs m l : List ℕ}
   tended_replaced =
       record {
         made = R.few;
-        benches = length-set G.yard.benches p b ∙ T.benches;
-        quotas = R.four;
+        plots = length-set G.yard.plots p (record { bench = b; quota = x }) ∙ T.plots;
         logs = length-set G.logs p l ∙ T.logs;
         whole = whole_each;
-        quota = each (λ (x : Bench) (r : ℕ). words_taken x.queue + x.aside ≤ get_or qs r 0) R.quota (λ r h ne. omega (arith, R.quotas r ne, T.quota r h));
-        gapless = each (λ (x : Bench) (r : ℕ). taken x.queue ≤ total_of claimed_by (set G.yard.benches p b) n) R.gapless (λ r h ne. omega (arith, T.gapless r h, R.grows));
+        quota = each (λ (a : Bench) (r : ℕ). words_taken a.queue + a.aside ≤ quota_at G'.yard r) (omega (arith, R.quota, ap (λ (a : Plot). a.quota) plot_here)) (λ r h ne. omega (arith, T.quota r h, ap (λ (a : Plot). a.quota) (plot_there r ne)));
+        gapless = each (λ (a : Bench) (r : ℕ). taken a.queue ≤ total_of claimed_by (set G.yard.plots p (record { bench = b; quota = x })) n) R.gapless (λ r h ne. omega (arith, T.gapless r h, R.grows));
         apart = apart_each;
-        fits = subst (λ (x : ℕ). total_of claimed_by (set G.yard.benches p b) n + total_of held_by (set G.yard.benches p b) n ≤ x) (sym (same_usable G.store m R.untouched.long)) R.fits;
+        fits = subst (λ (u : ℕ). total_of claimed_by (set G.yard.plots p (record { bench = b; quota = x })) n + total_of held_by (set G.yard.plots p (record { bench = b; quota = x })) n ≤ u) (sym (same_usable G.store m R.untouched.long)) R.fits;
       }
 
 -- A CALL of queue q. What X1 finds left
@@ -232,7 +235,7 @@ module _ {G : Ground} (T : Tended G) (q : ℕ) (h : q < G.yard.made) where
   left_quota = least_right (usable G.store - (claimed_words G.yard + others)) (quota_at G.yard q - words_taken (queue_at G.yard q))
 
   held_part : (bench_at G.yard q).aside ≤ aside_words G.yard
-  held_part = part_of held_by G.yard.benches G.yard.made q h
+  held_part = part_of held_by G.yard.plots G.yard.made q h
 
   pub yard_admits : Admits (room_of G q) (bench_at G.yard q) G.store
   yard_admits =
@@ -288,16 +291,16 @@ module _ {G : Ground} (T : Tended G) (q : ℕ) (h : q < G.yard.made) (c : Call) 
 
   -- the totals then
   abbrev all' : ℕ
-  all' = total_of claimed_by (set G.yard.benches q D.world.bench) G.yard.made
+  all' = total_of claimed_by (set G.yard.plots q (record { bench = D.world.bench; quota = quota_at G.yard q })) G.yard.made
 
   abbrev held' : ℕ
-  held' = total_of held_by (set G.yard.benches q D.world.bench) G.yard.made
+  held' = total_of held_by (set G.yard.plots q (record { bench = D.world.bench; quota = quota_at G.yard q })) G.yard.made
 
   summed : all' + words_taken W.bench.queue ≡ claimed_words G.yard + words_taken D.world.bench.queue
-  summed = total_set claimed_by G.yard.benches G.yard.made q D.world.bench (omega (arith, T.benches, T.made)) h
+  summed = total_set claimed_by G.yard.plots G.yard.made q (record { bench = D.world.bench; quota = quota_at G.yard q }) (omega (arith, T.plots, T.made)) h
 
   summed_held : held' + W.bench.aside ≡ aside_words G.yard + D.world.bench.aside
-  summed_held = total_set held_by G.yard.benches G.yard.made q D.world.bench (omega (arith, T.benches, T.made)) h
+  summed_held = total_set held_by G.yard.plots G.yard.made q (record { bench = D.world.bench; quota = quota_at G.yard q }) (omega (arith, T.plots, T.made)) h
 
   abbrev arrays' : List Region
   arrays' = arrays_after (room_of G q) changes.claims W.bench.queue
@@ -350,7 +353,7 @@ module _ {G : Ground} (T : Tended G) (q : ℕ) (h : q < G.yard.made) (c : Call) 
       (apart_grown (room_of G q) changes.claims (bench_at G.yard r).words W.bench.queue (queue_at G.yard r) G.store (T.whole r g).shape.arrays (T.gapless r g) (λ e. (changes.left e).0)
       (T.apart q r h g ne) k j (subst (λ (n : ℕ). k < n) changes.claimed a) b)
 
-  pub call_replaces : Replaces G G.yard.made q D.world.bench G.yard.quotas D.world.store D.world.log
+  pub call_replaces : Replaces G G.yard.made q D.world.bench (quota_at G.yard q) D.world.store D.world.log
   call_replaces =
       let S = sums in
       record {
@@ -358,8 +361,6 @@ module _ {G : Ground} (T : Tended G) (q : ℕ) (h : q < G.yard.made) (c : Call) 
         inside = h;
         more = omega arith;
         before = λ r g ne. g;
-        four = T.quotas;
-        quotas = λ r ne. refl;
         whole = call_whole (room_of G q) (T.whole q h) (yard_admits T q h) c;
         untouched = untouched_now;
         quota = S.quota;
@@ -427,20 +428,20 @@ module _ {G : Ground} (T : Tended G) (s : Setup) (quota : ℕ) (l : List ℕ) (M
   unfolding words_to
   takes = omega (arith, lies.1)
 
-  summed' : (f : Bench → ℕ) → total_of f (set G.yard.benches G.yard.made first) (G.yard.made + 1) ≡ total_of f G.yard.benches G.yard.made + f first
+  summed' : (f : Bench → ℕ) → total_of f (set G.yard.plots G.yard.made (record { bench = first; quota = quota })) (G.yard.made + 1) ≡ total_of f G.yard.plots G.yard.made + f first
   unfolding total_of
   summed' f =
-      ap (total_of f (set G.yard.benches G.yard.made first)) up
+      ap (total_of f (set G.yard.plots G.yard.made (record { bench = first; quota = quota }))) up
       ∙ omega (
         arith,
-        total_keep f G.yard.benches G.yard.made G.yard.made first (omega arith),
-        ap f (get_or-set_same G.yard.benches G.yard.made first no_bench (omega (arith, T.benches, M.free))),
+        total_keep f G.yard.plots G.yard.made G.yard.made (record { bench = first; quota = quota }) (omega arith),
+        ap (λ (p : Plot). f p.bench) (get_or-set_same G.yard.plots G.yard.made (record { bench = first; quota = quota }) no_plot (omega (arith, T.plots, M.free))),
       )
     where
       up : G.yard.made + 1 ≡ suc G.yard.made
       up = omega arith
 
-  pub make_replaces : Replaces G (G.yard.made + 1) G.yard.made first (set G.yard.quotas G.yard.made quota) (zeros G.store total (first_length s)) l
+  pub make_replaces : Replaces G (G.yard.made + 1) G.yard.made first quota (zeros G.store total (first_length s)) l
   make_replaces =
       let w = summed' claimed_by in
       let a = summed' held_by in
@@ -451,11 +452,9 @@ module _ {G : Ground} (T : Tended G) (s : Setup) (quota : ℕ) (l : List ℕ) (M
         inside = omega arith;
         more = omega arith;
         before = λ r g ne. omega arith;
-        four = length-set G.yard.quotas G.yard.made quota ∙ T.quotas;
-        quotas = λ r ne. get_or-set_other G.yard.quotas G.yard.made r quota 0 ne;
         whole = made_started.whole;
         untouched = zeroed first.queue.arrays 1 G.store 0 total (first_length s) (omega arith) lies.0 (omega (arith, lies.0, lies.1)) (omega (arith, i, room));
-        quota = omega (arith, takes, M.enough, get_or-set_same G.yard.quotas G.yard.made quota 0 (omega (arith, T.quotas, M.free)));
+        quota = omega (arith, takes, M.enough);
         grows = omega (arith, w);
         gapless = omega (arith, w, takes, lies.0, lies.1);
         fits = omega (arith, w, a, takes, room, T.fits);
@@ -493,8 +492,7 @@ unfolding total_of
 opened_tended m =
     record {
       made = omega arith;
-      benches = refl;
-      quotas = refl;
+      plots = refl;
       logs = refl;
       whole = λ q h. absurd (omega arith);
       quota = λ q h. absurd (omega arith);

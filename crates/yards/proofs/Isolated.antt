@@ -2,7 +2,7 @@
 use mathlib.Core.Path.{◌≡◌, refl, sym, ◌∙◌, ap, subst}
 use mathlib.Core.Bool.{true}
 use mathlib.Core.Logic.{◌≢◌, ◌⊎◌, inl, inr}
-use mathlib.Core.List.{List, [], ◌∷◌}
+use mathlib.Core.List.{List, [], ◌∷◌, map}
 use Prim.Native.Nat.{ℕ, zero, suc, ◌+◌, ◌-◌, ◌*◌, ◌≤◌, ◌<◌}
 use native.Mathlib.Omega.{arith}
 use native.Mathlib.Nat.{mul-div_cancel_left}
@@ -14,6 +14,7 @@ use Rattle.model.specs.declared.Queue.{Queue}
 use Rattle.model.specs.declared.Region.{Region}
 use Rattle.model.specs.declared.Room.{Room}
 use Rattle.model.specs.declared.Bench.{Bench}
+use Rattle.model.specs.declared.Plot.{Plot}
 use Rattle.model.specs.declared.Setup.{Setup}
 use Rattle.model.specs.declared.Refusal.{Refusal}
 use Rattle.model.specs.declared.Answer.{Answer}
@@ -24,7 +25,7 @@ use Rattle.model.specs.Stores.{words_taken}
 use Rattle.model.specs.World.{World, Outcome, refuse, room_alone}
 use Rattle.model.specs.Calls.{no_bench, lent, new_bench, first_length, admitted, fresh_of, Call, call_in, call_of}
 use Rattle.model.specs.Run.{Played, played, after}
-use Rattle.model.specs.Yard.{Ground, bench_at, queue_at, quota_at, world_of, total_of, claimed_by, held_by, claimed_words, aside_words, room_of, Yields, make_of, YardCall, make, on, yields, ground_after, part}
+use Rattle.model.specs.Yard.{Ground, no_plot, bench_at, queue_at, quota_at, world_of, total_of, claimed_by, held_by, claimed_words, aside_words, room_of, Yields, make_of, YardCall, make, on, yields, ground_after, part}
 use Rattle.model.proofs.Tests.{if_true, and_both}
 use Rattle.model.proofs.Alone.{least_is_left, least_is_right, least_right, left_alone, at_most_usable}
 use Rattle.theorems.proofs.Words.{earlier_slot, zeros_length}
@@ -107,28 +108,37 @@ isolated quota small (own ρ c ∷ ts) W d m H K s n L (R, C) (e, E) =
 abbrev spent : Bench → ℕ
 spent b = words_taken b.queue + b.aside
 
-quotas_cover : (bs : List Bench) (qs : List ℕ) (n : ℕ) → ((r : ℕ) → r < n → spent (get_or bs r no_bench) ≤ get_or qs r 0) → total_of claimed_by bs n + total_of held_by bs n ≤ quotas_of qs n
+-- the sum of the plots' own
+abbrev sums : List Plot → ℕ → ℕ
+sums ps n = quotas_of (map (λ (p : Plot). p.quota) ps) n
+
+quota_in : (ps : List Plot) (n : ℕ) → get_or (map (λ (p : Plot). p.quota) ps) n 0 ≡ (get_or ps n no_plot).quota
+quota_in [] n = refl
+quota_in (p ∷ ps) zero = refl
+quota_in (p ∷ ps) (suc n) = quota_in ps n
+
+quotas_cover : (ps : List Plot) (n : ℕ) → ((r : ℕ) → r < n → spent (get_or ps r no_plot).bench ≤ (get_or ps r no_plot).quota) → total_of claimed_by ps n + total_of held_by ps n ≤ sums ps n
 unfolding total_of quotas_of
-quotas_cover bs qs zero f = omega arith
-quotas_cover bs qs (suc n) f = omega (arith, quotas_cover bs qs n (λ r h. f r (omega arith)), f n (omega arith))
+quotas_cover ps zero f = omega arith
+quotas_cover ps (suc n) f = omega (arith, quotas_cover ps n (λ r h. f r (omega arith)), f n (omega arith), quota_in ps n)
 
 -- so what the others have claimed and set aside leaves q its quota
-quotas_leave : (bs : List Bench) (qs : List ℕ) (n q : ℕ) → ((r : ℕ) → r < n → spent (get_or bs r no_bench) ≤ get_or qs r 0) → q < n
-    → (total_of claimed_by bs n + total_of held_by bs n + get_or qs q 0 ≤ quotas_of qs n + spent (get_or bs q no_bench)) × (get_or qs q 0 ≤ quotas_of qs n)
+quotas_leave : (ps : List Plot) (n q : ℕ) → ((r : ℕ) → r < n → spent (get_or ps r no_plot).bench ≤ (get_or ps r no_plot).quota) → q < n
+    → (total_of claimed_by ps n + total_of held_by ps n + (get_or ps q no_plot).quota ≤ sums ps n + spent (get_or ps q no_plot).bench) × ((get_or ps q no_plot).quota ≤ sums ps n)
 unfolding total_of quotas_of
-quotas_leave bs qs zero q f h = absurd (omega arith)
-quotas_leave bs qs (suc n) q f h = go (same_or q n) (λ a. quotas_leave bs qs n q (λ r h. f r (omega arith)) a)
+quotas_leave ps zero q f h = absurd (omega arith)
+quotas_leave ps (suc n) q f h = go (same_or q n) (λ a. quotas_leave ps n q (λ r h. f r (omega arith)) a)
   where
     before : ℕ
-    before = total_of claimed_by bs n + total_of held_by bs n
+    before = total_of claimed_by ps n + total_of held_by ps n
 
-    go : (q ≡ n) ⊎ (q ≢ n) → (q < n → (before + get_or qs q 0 ≤ quotas_of qs n + spent (get_or bs q no_bench)) × (get_or qs q 0 ≤ quotas_of qs n))
-        → (total_of claimed_by bs n + words_taken (get_or bs n no_bench).queue + (total_of held_by bs n + (get_or bs n no_bench).aside) + get_or qs q 0 ≤ quotas_of qs n + get_or qs n 0 + spent (get_or bs q no_bench)) × (get_or qs q 0 ≤ quotas_of qs n + get_or qs n 0)
+    go : (q ≡ n) ⊎ (q ≢ n) → (q < n → (before + (get_or ps q no_plot).quota ≤ sums ps n + spent (get_or ps q no_plot).bench) × ((get_or ps q no_plot).quota ≤ sums ps n))
+        → (total_of claimed_by ps n + words_taken (get_or ps n no_plot).bench.queue + (total_of held_by ps n + (get_or ps n no_plot).bench.aside) + (get_or ps q no_plot).quota ≤ sums ps n + get_or (map (λ (p : Plot). p.quota) ps) n 0 + spent (get_or ps q no_plot).bench) × ((get_or ps q no_plot).quota ≤ sums ps n + get_or (map (λ (p : Plot). p.quota) ps) n 0)
     go (inl e) k = (
-      omega (arith, quotas_cover bs qs n (λ r h. f r (omega arith)), ap (λ (x : ℕ). get_or qs x 0) e, ap (λ (x : ℕ). spent (get_or bs x no_bench)) e),
-      omega (arith, ap (λ (x : ℕ). get_or qs x 0) e),
+      omega (arith, quotas_cover ps n (λ r h. f r (omega arith)), quota_in ps n, ap (λ (x : ℕ). (get_or ps x no_plot).quota) e, ap (λ (x : ℕ). spent (get_or ps x no_plot).bench) e),
+      omega (arith, quota_in ps n, ap (λ (x : ℕ). (get_or ps x no_plot).quota) e),
     )
-    go (inr ne) k = let r = k (omega arith) in (omega (arith, r.0, f n (omega arith)), omega (arith, r.1))
+    go (inr ne) k = let r = k (omega arith) in (omega (arith, r.0, f n (omega arith), quota_in ps n), omega (arith, r.1))
 
 -- the quotas fit, and queue q's is this
 abbrev Fair : ℕ → ℕ → Ground → Type 0
@@ -137,20 +147,38 @@ Fair q quota G = QuotasFit G × (quota_at G.yard q ≡ quota)
 fair_left : (q quota : ℕ) (G : Ground) → Tended G → q < G.yard.made → Fair q quota G → Quota quota (room_of G q) (world_of G q)
 fair_left q quota G T h (fit, is) =
     let Y = G.yard in
-    let leave = (quotas_leave Y.benches Y.quotas Y.made q T.quota h).0 in
-    least_is_right (usable G.store - (claimed_words Y + (aside_words Y - (bench_at Y q).aside))) (quota_at Y q - words_taken (queue_at Y q)) (omega (arith, leave, fit, T.fits, part_of held_by Y.benches Y.made q h))
+    let leave = (quotas_leave Y.plots Y.made q T.quota h).0 in
+    least_is_right (usable G.store - (claimed_words Y + (aside_words Y - (bench_at Y q).aside))) (quota_at Y q - words_taken (queue_at Y q)) (omega (arith, leave, fit, T.fits, part_of held_by Y.plots Y.made q h))
     ∙ ap (λ (x : ℕ). x - words_taken (queue_at Y q)) is
 
 -- a call keeps queue q's quota, and the sum does not fall
 record Dearer (q : ℕ) (G G' : Ground) : Type 0 where
-  sum : quotas_of G.yard.quotas G.yard.made ≤ quotas_of G'.yard.quotas G'.yard.made
+  sum : sums G.yard.plots G.yard.made ≤ sums G'.yard.plots G'.yard.made
   own : quota_at G'.yard q ≡ quota_at G.yard q
   long : length G'.store ≡ length G.store
 
-quotas_keep : (qs : List ℕ) (n r x : ℕ) → n ≤ r → quotas_of (set qs r x) n ≡ quotas_of qs n
+quotas_keep : (ps : List Plot) (n r : ℕ) (x : Plot) → n ≤ r → sums (set ps r x) n ≡ sums ps n
 unfolding quotas_of
-quotas_keep qs zero r x h = refl
-quotas_keep qs (suc n) r x h = omega (arith, quotas_keep qs n r x (omega arith), get_or-set_other qs r n x 0 (omega arith))
+quotas_keep ps zero r x h = refl
+quotas_keep ps (suc n) r x h =
+    omega (arith, quotas_keep ps n r x (omega arith), quota_in (set ps r x) n, quota_in ps n, ap (λ (p : Plot). p.quota) (get_or-set_other ps r n x no_plot (omega arith)))
+
+-- a plot whose bench alone is another
+same_quota : (ps : List Plot) (r : ℕ) (b : Bench) → r < length ps → (k : ℕ) → (get_or (set ps r (record { bench = b; quota = (get_or ps r no_plot).quota })) k no_plot).quota ≡ (get_or ps k no_plot).quota
+same_quota ps r b h k = go (same_or k r)
+  where
+    x : Plot
+    x = record { bench = b; quota = (get_or ps r no_plot).quota }
+
+    go : (k ≡ r) ⊎ (k ≢ r) → (get_or (set ps r x) k no_plot).quota ≡ (get_or ps k no_plot).quota
+    go (inl e) = rw e (ap (λ (p : Plot). p.quota) (get_or-set_same ps r x no_plot h))
+    go (inr ne) = ap (λ (p : Plot). p.quota) (get_or-set_other ps r k x no_plot ne)
+
+quotas_same : (ps : List Plot) (r : ℕ) (b : Bench) → r < length ps → (n : ℕ) → sums (set ps r (record { bench = b; quota = (get_or ps r no_plot).quota })) n ≡ sums ps n
+unfolding quotas_of
+quotas_same ps r b h zero = refl
+quotas_same ps r b h (suc n) =
+    omega (arith, quotas_same ps r b h n, quota_in (set ps r (record { bench = b; quota = (get_or ps r no_plot).quota })) n, quota_in ps n, same_quota ps r b h n)
 
 as_dear : (q : ℕ) (G : Ground) → Dearer q G G
 as_dear q G = record { sum = omega arith; own = refl; long = refl }
@@ -159,15 +187,24 @@ dearer : {G : Ground} → Tended G → (q : ℕ) → q < G.yard.made → (c : Ya
 unfolding quotas_of
 dearer {G} T q h (make s quota l) =
     make_cases (λ (Y : Yields). Dearer q G Y.the_ground) T (λ r x. as_dear q G) s quota l
-    (λ M. record {
+    (λ M.
+    let x : Plot = record { bench = new_bench (claimed_words G.yard) s; quota = quota } in
+    record {
       sum =
-          subst (λ (x : ℕ). quotas_of G.yard.quotas G.yard.made ≤ quotas_of (set G.yard.quotas G.yard.made quota) x) {x = suc G.yard.made} {y = G.yard.made + 1} (omega arith)
-          (omega (arith, quotas_keep G.yard.quotas G.yard.made G.yard.made quota (omega arith)));
-      own = get_or-set_other G.yard.quotas G.yard.made q quota 0 (omega arith);
+          subst (λ (n : ℕ). sums G.yard.plots G.yard.made ≤ sums (set G.yard.plots G.yard.made x) n) {x = suc G.yard.made} {y = G.yard.made + 1} (omega arith)
+          (omega (arith, quotas_keep G.yard.plots G.yard.made G.yard.made x (omega arith)));
+      own = ap (λ (p : Plot). p.quota) (get_or-set_other G.yard.plots G.yard.made q x no_plot (omega arith));
       long = (make_replaces T s quota l M).untouched.long;
     })
 dearer {G} T q h (on r c) =
-    on_cases (λ (Y : Yields). Dearer q G Y.the_ground) T (λ r x. as_dear q G) r c (λ g. record { sum = omega arith; own = refl; long = (call_replaces T r g c).untouched.long })
+    on_cases (λ (Y : Yields). Dearer q G Y.the_ground) T (λ r x. as_dear q G) r c
+    (λ g.
+    let b = (call_in (room_of G r) (world_of G r) c).world.bench in
+    record {
+      sum = omega (arith, quotas_same G.yard.plots r b (omega (arith, g, T.plots, T.made)) G.yard.made);
+      own = same_quota G.yard.plots r b (omega (arith, g, T.plots, T.made)) q;
+      long = (call_replaces T r g c).untouched.long;
+    })
 
 back : (q quota : ℕ) (G : Ground) → Tended G → q < G.yard.made → (c : YardCall) → Fair q quota (yields G c).the_ground → Fair q quota G
 back q quota G T h c (fit, is) =
@@ -214,7 +251,7 @@ fresh_accepted s m l A = admits_it (λ r. refuse (lent no_bench m l) r) s (usabl
 made_quota : (G : Ground) → Tended G → (s : Setup) (quota : ℕ) (l : List ℕ) → (make_of G s quota l).answer ≡ Accepted → quota_at (make_of G s quota l).the_ground.yard G.yard.made ≡ quota
 made_quota G T s quota l =
     make_cases (λ (Y : Yields). Y.answer ≡ Accepted → quota_at Y.the_ground.yard G.yard.made ≡ quota) T (λ r x e. absurd (refused_not r e)) s quota l
-    (λ M e. get_or-set_same G.yard.quotas G.yard.made quota 0 (omega (arith, T.quotas, M.free)))
+    (λ M e. ap (λ (p : Plot). p.quota) (get_or-set_same G.yard.plots G.yard.made (record { bench = new_bench (claimed_words G.yard) s; quota = quota }) no_plot (omega (arith, T.plots, M.free))))
 
 pub isolation : Isolation
 isolation m before s quota l e cs fit lone long = (ap (λ (D : Outcome). D.answer) fresh, both.0, both.1)
@@ -242,7 +279,7 @@ isolation m before s quota l e cs fit lone long = (ap (λ (D : Outcome). D.answe
 
     small : quota ≤ 10235
     small =
-        let own = (quotas_leave G₁.yard.benches G₁.yard.quotas G₁.yard.made q M.0.tended.quota M.0.inside).1 in
+        let own = (quotas_leave G₁.yard.plots G₁.yard.made q M.0.tended.quota M.0.inside).1 in
         omega (arith, fair₁.0, fair₁.1, own, least_right (length G₁.store) 10235)
 
     all_usable : usable lone ≡ quota

@@ -6,6 +6,7 @@ use Rattle.model.specs.declared.Line.TheVariants.{Claim}
 use Rattle.model.specs.declared.Queue.{Queue}
 use Rattle.model.specs.declared.Room.{Room}
 use Rattle.model.specs.declared.Setup.{Setup}
+use Rattle.model.specs.declared.Yard.{Yard}
 use Rattle.model.specs.declared.Refusal.TheVariants.{ForeignState}
 use Rattle.model.specs.declared.Answer.{Answer}
 use Rattle.model.specs.declared.Answer.TheVariants.{Accepted, GoesOn, Refused}
@@ -119,8 +120,11 @@ unfoldable pub quotas_of : List ℕ → ℕ → ℕ
 quotas_of l zero = 0
 quotas_of l (suc q) = quotas_of l q + get_or l q 0
 
+abbrev pub quotas : Yard → List ℕ
+quotas Y = map (λ p. p.quota) Y.plots
+
 abbrev pub QuotasFit : Ground → Type 0
-QuotasFit G = quotas_of G.yard.quotas G.yard.made ≤ usable G.store
+QuotasFit G = quotas_of (quotas G.yard) G.yard.made ≤ usable G.store
 
 -- what a queue was asked, and what it answered
 abbrev pub calls_of : List Played → List Call

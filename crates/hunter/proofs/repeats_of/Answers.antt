@@ -9,4 +9,4 @@ returns-clause-value c W e f g =
     let o = c.of-different.result in let i = c.of-different.ensures.of in
     repeats_from W _ _ _ _ _ _ _ e f g refl c.entries_of-outs.ensures
     (o.counted ∙ ap (λ (g : Log). count_below (out_first g.words g.memory.now) o.entries) i.0 ∙ ap (count_below (out_first c.args.words c.args.log.now)) i.1)
-    c.less.ensures
+    c.saturating_sub.ensures

@@ -12,9 +12,10 @@ pub returns-then-not-bench_ok : goal.returns-then-not-bench_ok
 returns-then-not-bench_ok c = sym (fails _ (refused (c.bench_ok.ensures [] []) (ap not c.if-not-bench_ok.true)))
 
 pub words_taken-words-requires : goal.words_taken-words-requires
-words_taken-words-requires c = laid (lent c.args.bench [] []) (passed (c.bench_ok.ensures [] []) (ap not c.if-not-bench_ok.false))
+words_taken-words-requires c = laid (lent c.args.plot.bench [] []) (passed (c.bench_ok.ensures [] []) (ap not c.if-not-bench_ok.false))
 
 pub returns : goal.returns
-returns c = let a = c.args in
-    ap (λ (x : ℕ). leb (x + a.bench.aside) a.quota) c.words_taken-words.ensures
-    ∙ sym (holds (passed (c.bench_ok.ensures [] []) (ap not c.if-not-bench_ok.false)))
+returns c =
+    let p = c.args.plot in
+    rw (c.from.ensures, c.from-2.ensures, c.from-3.ensures)
+    (ap (λ (x : ℕ). leb (x + p.bench.aside) p.quota) c.words_taken-words.ensures ∙ sym (holds (passed (c.bench_ok.ensures [] []) (ap not c.if-not-bench_ok.false))))

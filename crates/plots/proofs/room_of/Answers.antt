@@ -9,7 +9,7 @@ use Rattle.model.specs.Stores.{words_taken}
 use Rattle.model.specs.Yard.{bench_at, queue_at, quota_at, claimed_by, held_by, claimed_words, aside_words}
 use Rattle.model.proofs.Alone.{least_right}
 use Rattle.plots.proofs.Kept.{laid_at, within_quota}
-use Rattle.plots.proofs.Rooms.{kept, fits, own_aside, same_room}
+use Rattle.plots.proofs.Rooms.{kept, fits, own_aside, same_room, min_least}
 use Rattle.plots.proofs.room_of.Goals as goal
 
 pub bench_at-bench-requires : goal.bench_at-bench-requires
@@ -41,4 +41,4 @@ returns c = let Y = c.args.yard in
     let free : c.room_left-room.result.left + c.bench_at-bench.result.aside ≡ usable m - (claimed_words Y + (aside_words Y - (bench_at Y q).aside)) = omega (arith, left, aside, own_aside Y m c.requires.store_value q c.requires.queue_lt_made, fits Y m c.requires.store_value) in
     let words : c.words_taken-own.result ≡ words_taken (queue_at Y q) = c.words_taken-own.ensures ∙ ap claimed_by c.bench_at-bench.ensures in
     let rest : c.quota_at.result - c.words_taken-own.result ≡ quota_at Y q - words_taken (queue_at Y q) = omega (arith, c.quota_at.ensures, words) in
-    same_room next (c.least-left.ensures ∙ ap (λ (x : ℕ). least x (c.quota_at.result - c.words_taken-own.result)) free ∙ ap (least (usable m - (claimed_words Y + (aside_words Y - (bench_at Y q).aside)))) rest)
+    same_room next (c.min.ensures ∙ min_least _ _ ∙ ap (λ (x : ℕ). least x (c.quota_at.result - c.words_taken-own.result)) free ∙ ap (least (usable m - (claimed_words Y + (aside_words Y - (bench_at Y q).aside)))) rest)

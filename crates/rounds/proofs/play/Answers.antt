@@ -149,11 +149,11 @@ loop-n-preserved c = let k = c.loop-n in
       c.step_in-moved.auto.log ∙ k.invariant.2,
     )
 
-pub returns-after-loop-n : goal.returns-after-loop-n
-returns-after-loop-n c = let k = c.loop-n in
+pub returns : goal.returns
+returns c = let k = c.loop-n in
     let P = k.invariant.0 in
     let C = c.requires.complete in
-    played_out_lem P c.requires.good C (omega (arith, P.within, c.requires.complete.short, c.loop-n-test.false))
+    played_out_lem P c.requires.good C 256 (omega arith) (omega (arith, P.within, c.requires.complete.short))
 
 pub returns-then-worker-eq8 : goal.returns-then-worker-eq8
 returns-then-worker-eq8 c = let k = c.loop-n in
@@ -162,4 +162,4 @@ returns-then-worker-eq8 c = let k = c.loop-n in
     let C = c.requires.complete in
     let w = c.chosen-worker.result in
     let N = next P G C c.loop-n-test.true c.args.given w c.requires.given_bound refl c.requires.order_len c.chosen-worker.ensures.0 c.chosen-worker.ensures.1 in
-    played_out_lem P G C (N.over c.if-worker-eq8.true)
+    played_out_lem P G C k.n refl (N.over c.if-worker-eq8.true)

@@ -1,25 +1,14 @@
+use Rattle.std.proofs.Common.{rules, refl}
 use Rattle.model.specs.Calls.{ask}
-use Rattle.yard_calls.proofs.Calling.{past_stop, inside_of, refuses, goes_on_lem}
+use Rattle.yard_calls.proofs.Calling.{past_stop, calls}
 use Rattle.yard_calls.proofs.ask.Goals as goal
 
-pub returns-in-Err : goal.returns-in-Err
-returns-in-Err c = let a = c.args in
-    λ ls e. refuses a.yard a.queue a.store.now a.log.now ls e (ask a.worker) c.stop-stop.ensures c.in-Err.is c.refused.ensures
-
-pub room_of-room-requires : goal.room_of-room-requires
-room_of-room-requires c = let P = past_stop c.args.yard c.args.queue c.args.store.now c.args.log.now c.stop-stop.ensures c.in_default.is in record { store_value = P.sound; queue_lt_made = P.made }
-
-pub bench_at-bench-requires : goal.bench_at-bench-requires
-bench_at-bench-requires c = (past_stop c.args.yard c.args.queue c.args.store.now c.args.log.now c.stop-stop.ensures c.in_default.is).place
-
-pub ask_in-requires : goal.ask_in-requires
-ask_in-requires c = (c.args.store.now, (inside_of c.args.yard c.args.queue c.args.store.now c.args.log.now (past_stop c.args.yard c.args.queue c.args.store.now c.args.log.now c.stop-stop.ensures c.in_default.is) c.bench_at-bench.ensures c.room_of-room.ensures).limits)
-
-pub put_back-requires : goal.put_back-requires
-put_back-requires c = (past_stop c.args.yard c.args.queue c.args.store.now c.args.log.now c.stop-stop.ensures c.in_default.is).place
+pub on-requires : goal.on-requires
+on-requires c = λ n.
+    let a = c.args in
+    let P = past_stop a.yard a.queue a.store.now a.log.now refl n in
+    search (rules, P.sound, P.made, P.inside)
 
 pub returns : goal.returns
 returns c = let a = c.args in
-    λ ls e.
-    goes_on_lem a.yard a.queue a.store.now a.log.now ls e (ask a.worker) a.store.now a.log.now c.stop-stop.ensures c.in_default.is
-    c.bench_at-bench.ensures c.room_of-room.ensures c.put_back.ensures (c.ask_in.ensures a.store.now a.log.now)
+    λ ls e. calls a.yard a.queue a.store.now a.log.now ls e (ask a.worker) _ refl c.on.ensures.refused (λ n. let d = c.on.ensures.called n in (d.0, search rules, d.2))

@@ -1,24 +1,17 @@
-use mathlib.Core.Path.{refl}
+use Rattle.std.proofs.Common.{rules, refl}
+use Rattle.model.specs.Calls.{begin, lent}
+use Rattle.model.specs.Yard.{bench_at}
 use Rattle.limits.proofs.Bounds.{bounds_of}
-use Rattle.model.specs.Calls.{lent, begin}
-use Rattle.yard_calls.proofs.Calling.{past_stop, inside_of, refuses, goes_on_lem}
+use Rattle.yard_calls.proofs.Calling.{past_stop, calls}
 use Rattle.yard_calls.proofs.begin.Goals as goal
 
-pub returns-in-Err : goal.returns-in-Err
-returns-in-Err c = let a = c.args in
-    λ ls e. refuses a.yard a.queue a.store.now a.log.now ls e (begin a.worker a.operation) c.stop-stop.ensures c.in-Err.is c.refused.ensures
-
-pub bench_at-bench-requires : goal.bench_at-bench-requires
-bench_at-bench-requires c = (past_stop c.args.yard c.args.queue c.args.store.now c.args.log.now c.stop-stop.ensures c.in_default.is).place
-
-pub begin_in-requires : goal.begin_in-requires
-begin_in-requires c = let b = bounds_of (lent c.bench_at-bench.result c.args.store.now c.args.log.now) (inside_of c.args.yard c.args.queue c.args.store.now c.args.log.now (past_stop c.args.yard c.args.queue c.args.store.now c.args.log.now c.stop-stop.ensures c.in_default.is) c.bench_at-bench.ensures refl).limits in record { crew_bound = b.crew; used_bound = b.used; words_nonzero = b.wide }
-
-pub put_back-requires : goal.put_back-requires
-put_back-requires c = (past_stop c.args.yard c.args.queue c.args.store.now c.args.log.now c.stop-stop.ensures c.in_default.is).place
+pub on-requires : goal.on-requires
+on-requires c = λ n.
+    let a = c.args in
+    let P = past_stop a.yard a.queue a.store.now a.log.now refl n in
+    let b = bounds_of (lent (bench_at a.yard a.queue) a.store.now a.log.now) P.inside.limits in
+    search (rules, b.crew, b.used, b.wide)
 
 pub returns : goal.returns
 returns c = let a = c.args in
-    λ ls e.
-    goes_on_lem a.yard a.queue a.store.now a.log.now ls e (begin a.worker a.operation) a.store.now a.log.now c.stop-stop.ensures c.in_default.is
-    c.bench_at-bench.ensures refl c.put_back.ensures (c.begin_in.ensures a.store.now a.log.now)
+    λ ls e. calls a.yard a.queue a.store.now a.log.now ls e (begin a.worker a.operation) _ refl c.on.ensures.refused (λ n. let d = c.on.ensures.called n in (d.0, search rules, d.2))
