@@ -13,7 +13,8 @@ use Rattle.model.specs.World.{World, remembered, memory, owners_view}
 use Rattle.model.specs.Limits.{bench_ok}
 use Rattle.model.specs.Calls.{drained}
 use Rattle.waiting.specs.Places.{notes_ok, Placed}
-use Rattle.waiting.proofs.Line.{note_at, one_note, placed_at}
+use Rattle.waiting.proofs.Line.{one_note, placed_at}
+use Rattle.waiting.proofs.Line as line
 use Rattle.limits.proofs.Waits.{waits_noted, waits_placed}
 
 module _ (W : World) (v : bench_ok W.bench W.bench.queue (owners_view W).queue ≡ true) (fits : taken W.bench.queue ≤ length W.store) (some : 0 < W.bench.waiting.count) (eight : length W.bench.waiting.stores ≡ 8) where
@@ -27,7 +28,7 @@ module _ (W : World) (v : bench_ok W.bench W.bench.queue (owners_view W).queue �
   oldest_noted e =
       subst (λ (x : Store). notes_ok (x ∷ []) ≡ true) (sym e)
       (one_note (oldest W.bench.waiting)
-      (note_at W.bench.waiting.stores 0 W.bench.waiting.count some (omega (arith, eight)) (waits_noted W v)))
+      (line.oldest_noted W.bench.waiting.stores W.bench.waiting.count some (omega (arith, eight)) (waits_noted W v)))
 
 same_world : (W : World) {q r : Queue} {m n : List ℕ} {k l : Waiting} → q ≡ r → m ≡ n → k ≡ l
     → remembered W (shared q m) k W.bench.aside ≡ remembered W (shared r n) l W.bench.aside

@@ -1,11 +1,13 @@
 -- What the owner reads of the queue, from a line that can be put down.
-use mathlib.Core.Bool.{Bool, true, false, true≢false}
+use mathlib.Core.Bool.{Bool, true, false}
 use mathlib.Core.List.{List}
 use mathlib.Core.Path.{◌≡◌, sym, ap, ◌∙◌}
 use Prim.Native.Nat.{ℕ, ◌<◌}
 use native.Mathlib.Omega.{arith}
 use lib.Dec.{leb}
 use borrow.Author.Tests.{le-leb, lt-leb}
+use Rattle.std.specs.Option.{is_some, IfSome}
+use Rattle.std.specs.Prelude.{Option, Some}
 use Rattle.model.specs.declared.Queue.{Queue}
 use Rattle.model.specs.declared.Waiting.{Waiting}
 use Rattle.model.specs.declared.Bench.{Bench}
@@ -37,38 +39,30 @@ pub unheld_note : (d : Bool) (l : Waiting) → notes_ok (in_line l) ≡ false �
 unheld_note d l e = ap (λ (x : Bool). leb l.count (when d then 8 else 0) and x) e ∙ and_false _
 
 -- a view, told or not
-abbrev Told : Bench → View → Type 0
+abbrev Told : Bench → Option View → Type 0
 Told b o =
-    (o.fine ≡ line_held b.delayed b.waiting)
-    × (o.fine ≡ true → (m : List ℕ) → Seen o b (landed_all b.words (shared b.queue m) (in_line b.waiting)).queue)
+    (is_some o ≡ line_held b.delayed b.waiting)
+    × IfSome o (λ v. (m : List ℕ) → Seen v b (landed_all b.words (shared b.queue m) (in_line b.waiting)).queue)
 
 module _ (b : Bench) where
   abbrev seen_by : List ℕ → Queue
   seen_by m = (landed_all b.words (shared b.queue m) (in_line b.waiting)).queue
 
-  pub told : {o : View} (q : Queue) → o ≡ record { fine = true; published = q.published; anchor = q.anchor }
-      → line_held b.delayed b.waiting ≡ true → ((m : List ℕ) → q ≡ seen_by m) → Told b o
-  told {o} q e h s = (
-    ap (λ (x : View). x.fine) e ∙ sym h,
-    λ t m.
+  pub told : (q : Queue) → line_held b.delayed b.waiting ≡ true → ((m : List ℕ) → q ≡ seen_by m)
+      → Told b (Some (record { published = q.published; anchor = q.anchor }))
+  told q h s = (
+    sym h,
+    λ m.
         record {
-          published = ap (λ (x : Queue). x.published) (sym (s m)) ∙ sym (ap (λ (x : View). x.published) e);
-          anchor = ap (λ (x : Queue). x.anchor) (sym (s m)) ∙ sym (ap (λ (x : View). x.anchor) e);
+          published = ap (λ (x : Queue). x.published) (sym (s m));
+          anchor = ap (λ (x : Queue). x.anchor) (sym (s m));
           arrays = arrays_stay b.words (shared b.queue m) (in_line b.waiting);
           claimed = claimed_stays b.words (shared b.queue m) (in_line b.waiting);
           same = λ n. ap (λ (S : Shared). S.queue) (none_lands b.words (shared b.queue m) b.waiting n);
         },
   )
 
-  pub untold : {o : View} (q : Queue) → o ≡ record { fine = false; published = q.published; anchor = q.anchor }
-      → line_held b.delayed b.waiting ≡ false → Told b o
-  untold {o} q e h = (
-    ap (λ (x : View). x.fine) e ∙ sym h,
-    λ t m. absurd (true≢false (sym t ∙ ap (λ (x : View). x.fine) e)),
-  )
-
-  pub none_told : {o : View} → o ≡ record { fine = true; published = b.queue.published; anchor = b.queue.anchor }
-      → b.waiting.count ≡ 0 → Told b o
-  none_told {o} e n =
-      told b.queue e (none_held b.delayed b.waiting n)
+  pub none_told : b.waiting.count ≡ 0 → Told b (Some (record { published = b.queue.published; anchor = b.queue.anchor }))
+  none_told n =
+      told b.queue (none_held b.delayed b.waiting n)
       (λ m. sym (ap (λ (S : Shared). S.queue) (none_lands b.words (shared b.queue m) b.waiting n)))

@@ -1,10 +1,9 @@
 -- The limits of a state from those that code tests one after the other.
 use mathlib.Core.Bool.{Bool, true, false, true≢false}
-use mathlib.Core.Path.{◌≡◌, refl, sym, ap, ◌∙◌}
+use mathlib.Core.Path.{◌≡◌, sym, ap, ◌∙◌}
 use Prim.Native.Nat.{ℕ, ◌≤◌, ◌<◌}
 use borrow.Author.Tests.{ltb-true, leb-true}
 use Rattle.model.specs.declared.Bench.{Bench}
-use Rattle.model.specs.Tests.{◌and◌}
 use Rattle.model.specs.World.{World, owners_view, line_at}
 use Rattle.model.specs.Limits.{bench_ok}
 use Rattle.model.proofs.Tests.{holds, fails, and_left, and_right}
@@ -48,18 +47,16 @@ module _ (W : World) where
   frame_fails : frame_ok W.bench (owners_view W).queue.published ≡ false → good W ≡ false
   frame_fails e = regroup _ _ _ _ _ _ ∙ fails _ e
 
-  module _ (o : View) (told : o.fine ≡ true → Seen o W.bench (owners_view W).queue) where
-    -- as the view o tells it
-    pub frame_of : o.fine ≡ true → frame_ok W.bench o.published ≡ frame_ok W.bench (owners_view W).queue.published
-    frame_of f = ap (λ (n : ℕ). frame_ok W.bench n) (sym (told f).published)
+  pub not_held : line_held W.bench.delayed W.bench.waiting ≡ false → good W ≡ false
+  not_held f = never (good W) (λ v. true≢false (sym (line_held_lem W v) ∙ f))
 
-    pub not_framed : o.fine ≡ line_held W.bench.delayed W.bench.waiting
-        → (o.fine and frame_ok W.bench o.published) ≡ false → good W ≡ false
-    not_framed h e = by o.fine refl
-      where
-        by : (x : Bool) → o.fine ≡ x → good W ≡ false
-        by true f = frame_fails (sym (frame_of f) ∙ sym (holds f) ∙ e)
-        by false f = never (good W) (λ v. true≢false (sym (line_held_lem W v) ∙ sym h ∙ f))
+  module _ (o : View) (S : Seen o W.bench (owners_view W).queue) where
+    -- as the view o tells it
+    pub frame_of : frame_ok W.bench o.published ≡ frame_ok W.bench (owners_view W).queue.published
+    frame_of = ap (λ (n : ℕ). frame_ok W.bench n) (sym S.published)
+
+    pub not_framed : frame_ok W.bench o.published ≡ false → good W ≡ false
+    not_framed e = frame_fails (sym frame_of ∙ e)
 
   module _ (e : frame_ok W.bench (owners_view W).queue.published ≡ true) where
     pub not_filled : contents_ok W.bench (owners_view W).queue ≡ false → good W ≡ false

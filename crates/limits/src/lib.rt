@@ -8,6 +8,7 @@
 
 #![tactic(auto)]
 
+ghost use Rattle.std.specs.Option.{is_some, IfSome};
 ghost use Rattle.std.specs.Prelude.{◌≡◌, true, false, List, ℕ, ◌+◌, ◌-◌, ◌*◌, ◌≤◌, ◌<◌, eqb, ltb};
 ghost use Rattle.model.specs.declared.Queue.{Queue};
 ghost use Rattle.model.specs.Tests.{when◌then◌else◌, ◌and◌};
@@ -67,15 +68,12 @@ fn tidy(words: u32, queue: Queue) -> bool
     }
     let arrays = queue.arrays;
     let mut before = first;
-    let mut last: usize = 0;
-    while last + 1 < claimed {
-        let i = last + 1;
-        let next = arrays[i];
+    for last in 0..claimed - 1 {
+        let next = arrays[last + 1];
         if !follows(words, before, next) {
             return false;
         }
         before = next;
-        last = i;
     }
     true
 }
@@ -214,16 +212,15 @@ fn workers_ok(bench: Bench, bits: u32, memory: Reach, owner: Reach) -> bool
     let anchor = bench.queue.anchor;
     let links = bench.queue.links;
     let scope = Scope {
-        kind: kind,
+        kind,
         width: bits,
         words: bench.words,
         crew: bench.crew,
         first: bench.queue.initial,
-        memory: memory,
-        owner: owner,
+        memory,
+        owner,
     };
-    let mut worker: u32 = 0;
-    while worker < 8 {
+    for worker in 0..8 {
         let k = worker as usize;
         if links[k] && !link_ok(kind, linked, anchor, bench.workers[k]) {
             return false;
@@ -231,16 +228,14 @@ fn workers_ok(bench: Bench, bits: u32, memory: Reach, owner: Reach) -> bool
         if !rests(bench.workers[k]) && !busy_ok(scope, worker, bench.workers[k]) {
             return false;
         }
-        worker += 1;
     }
     true
 }
 
 // What the owner reads of the queue, as far as its waiting stores change it: how many arrays are published, and the anchor. It
-// is told only of a `fine` line, of at most 8 stores, of none without the mode, and with notes that name places of the directory.
+// is told only of a line of at most 8 stores, of none without the mode, and with notes that name places of the directory.
 #[derive(Clone, Copy)]
 struct View {
-    fine: bool,
     published: u32,
     anchor: Anchor,
 }
@@ -252,43 +247,28 @@ fn most_waiting(delayed: bool) -> u32
     if delayed { 8 } else { 0 }
 }
 
-fn owners_view(bench: Bench) -> View
-    ensures fine_value { result.fine ≡ line_held bench.delayed bench.waiting }
-    ensures seen { result.fine ≡ true → (m : List ℕ) → Seen result bench (landed_all bench.words (shared bench.queue m) (in_line bench.waiting)).queue }
+fn owners_view(bench: Bench) -> Option<View>
+    ensures held { is_some result ≡ line_held bench.delayed bench.waiting }
+    ensures seen { IfSome result (λ view. (m : List ℕ) → Seen view bench (landed_all bench.words (shared bench.queue m) (in_line bench.waiting)).queue) }
 {
-    let count = bench.waiting.count;
-    let published = bench.queue.published;
-    let anchor = bench.queue.anchor;
-    if count == 0 {
-        return View {
-            fine: true,
-            published: published,
-            anchor: anchor,
-        };
-    }
-    if most_waiting(bench.delayed) < count {
-        return View {
-            fine: false,
-            published: published,
-            anchor: anchor,
-        };
-    }
     let line = bench.waiting;
+    if line.count == 0 {
+        return Some(View {
+            published: bench.queue.published,
+            anchor: bench.queue.anchor,
+        });
+    }
+    if most_waiting(bench.delayed) < line.count {
+        return None;
+    }
     if !waiting::notes_ok(line) {
-        return View {
-            fine: false,
-            published: published,
-            anchor: anchor,
-        };
+        return None;
     }
-    let queue = bench.queue;
-    let seen = waiting::seen(queue, line);
-    let last = seen.anchor;
-    View {
-        fine: true,
-        published: seen.published,
-        anchor: last,
-    }
+    let queue = waiting::seen(bench.queue, line);
+    Some(View {
+        published: queue.published,
+        anchor: queue.anchor,
+    })
 }
 
 // The anchor as the owner reads it, and its waiting stores, over a directory that is in order.
@@ -304,25 +284,23 @@ fn waits_ok(bench: Bench, view: View) -> bool
     let words = bench.words;
     let claimed = bench.queue.claimed;
     let first = bench.queue.initial;
-    let stores = bench.waiting.stores;
-    let count = bench.waiting.count as usize;
     let anchor = view.anchor;
     let published = view.published;
     let most = anchor.count;
     let bits = stages::tag_bits(bench.queue.linked, bench.width);
     let current = published - 1;
     let tasks = first << current;
-    let mut good = ranges::anchor_ok(kind, bits, tasks, anchor);
-    let mut i: usize = 0;
-    while i < count {
-        let store = stores[i];
-        let fine = ranges::store_ok(
-            kind, bits, words, published, claimed, first, tasks, most, store,
-        );
-        good = good && fine;
-        i += 1;
+    if !ranges::anchor_ok(kind, bits, tasks, anchor) {
+        return false;
     }
-    good
+    for store in &bench.waiting.stores[..bench.waiting.count as usize] {
+        if !ranges::store_ok(
+            kind, bits, words, published, claimed, first, tasks, most, *store,
+        ) {
+            return false;
+        }
+    }
+    true
 }
 
 // The words set aside; the current array, as the owner reads it, has `tasks` tasks. Without an ask only a commit's X1 is out of
@@ -380,7 +358,7 @@ fn contents_ok(bench: Bench, seen: u32) -> bool
     }
     let memory = Reach {
         published: queue.published,
-        tasks: tasks,
+        tasks,
     };
     let owner = Reach {
         published: seen,
@@ -394,24 +372,21 @@ fn kind_ok(kind: Kind, linked: bool) -> bool
     ensures { result ≡ kind_ok kind linked }
 {
     match kind {
-        Kind::Lifo => true,
         Kind::Fifo => !linked,
-        Kind::Deque => true,
+        Kind::Lifo | Kind::Deque => true,
     }
 }
 
 // The limits before those on what stands in the directory. They are a function of their own so that `bench_ok` branches once for
-// them: past many early returns a compiler takes the rest for rare, and copies the state for it.
-fn frame_ok(bench: Bench, view: View) -> bool
-    ensures { result ≡ (view.fine and frame_ok bench view.published) }
+// them: past many early returns a compiler takes the rest for rare, and copies the state for it. The owner reads `seen` arrays as
+// published.
+fn frame_ok(bench: Bench, seen: u32) -> bool
+    ensures { result ≡ frame_ok bench seen }
 {
     let queue = bench.queue;
     let owner = bench.workers[0];
     let line = owner.line;
     let kind = bench.kind;
-    if !view.fine {
-        return false;
-    }
     if !kind_ok(kind, queue.linked) {
         return false;
     }
@@ -424,7 +399,7 @@ fn frame_ok(bench: Bench, view: View) -> bool
     if !admission::crew_ok(bench.crew) {
         return false;
     }
-    directory_ok(bench.words, queue, view.published, line)
+    directory_ok(bench.words, queue, seen, line)
 }
 
 // The limits on one queue, wherever in a store its arrays lie. What the owner reads of the queue does not depend on the words of
@@ -432,8 +407,10 @@ fn frame_ok(bench: Bench, view: View) -> bool
 pub fn bench_ok(bench: Bench) -> bool
     ensures { (m l : List ℕ) → result ≡ bench_ok bench bench.queue (owners_view (lent bench m l)).queue }
 {
-    let view = owners_view(bench);
-    if !frame_ok(bench, view) {
+    let Some(view) = owners_view(bench) else {
+        return false;
+    };
+    if !frame_ok(bench, view.published) {
         return false;
     }
     if !contents_ok(bench, view.published) {

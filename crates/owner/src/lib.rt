@@ -24,28 +24,15 @@ use model::{Answer, Bench, Line, Refusal, Region, Store, Task, Waiting, Worker};
 use state::Returned;
 
 // How many stores an action makes.
+#[tactic(auto, unfolding(lines::specs::Actions::stores_by))]
 fn stores_in(words: u32, action: Action) -> u32
     requires { words ≤ 4 }
     ensures { result ≡ length (stores_by words action) }
 {
     match action {
-        Action::Nothing => 0,
-        Action::Fails => 0,
-        Action::Stores { store: _ } => 1,
-        Action::Copies {
-            place: _,
-            slot: _,
-            task: _,
-        } => words + 1,
-        Action::Claims {
-            offset: _,
-            length: _,
-        } => 0,
-        Action::Stops { answer: _ } => 0,
-        Action::Ends {
-            store: _,
-            answer: _,
-        } => 1,
+        Action::Stores { .. } | Action::Ends { .. } => 1,
+        Action::Copies { .. } => words + 1,
+        Action::Nothing | Action::Fails | Action::Claims { .. } | Action::Stops { .. } => 0,
     }
 }
 
@@ -56,8 +43,7 @@ fn join_task(words: u32, waiting: Waiting, place: u32, slot: u32, task: Task) ->
     ensures { result ≡ joined waiting (word_stores place slot task (words + 1)) }
 {
     let mut next = waiting;
-    let mut word: u32 = 0;
-    while word <= words {
+    for word in 0..words + 1 {
         let value = tasks::word_in(task, word);
         next = waiting::join(
             next,
@@ -68,50 +54,35 @@ fn join_task(words: u32, waiting: Waiting, place: u32, slot: u32, task: Task) ->
                 value,
             },
         );
-        word += 1;
     }
     next
 }
 
 // An action's stores join the line, in their order.
+#[tactic(auto, unfolding(lines::specs::Actions::stores_by))]
 fn join_all(words: u32, waiting: Waiting, action: Action) -> Waiting
     requires words_bound { words ≤ 4 }
     requires action_bound { waiting.count + length (stores_by words action) ≤ 8 }
     ensures { result ≡ joined waiting (stores_by words action) }
 {
     match action {
-        Action::Nothing => waiting,
-        Action::Fails => waiting,
-        Action::Stores { store: joining } => waiting::join(waiting, joining),
+        Action::Stores { store } | Action::Ends { store, .. } => waiting::join(waiting, store),
         Action::Copies { place, slot, task } => join_task(words, waiting, place, slot, task),
-        Action::Claims {
-            offset: _,
-            length: _,
-        } => waiting,
-        Action::Stops { answer: _ } => waiting,
-        Action::Ends {
-            store: joining,
-            answer: _,
-        } => waiting::join(waiting, joining),
+        Action::Nothing | Action::Fails | Action::Claims { .. } | Action::Stops { .. } => waiting,
     }
 }
 
 // What is left of an action once its stores have joined the line. The owner never compares.
+#[tactic(auto, unfolding(crate::specs::Reads::at_once))]
 fn at_once(action: Action) -> Action
     ensures { result ≡ at_once action }
 {
     match action {
-        Action::Nothing => Action::Nothing,
-        Action::Fails => Action::Nothing,
-        Action::Stores { store: _ } => Action::Nothing,
-        Action::Copies {
-            place: _,
-            slot: _,
-            task: _,
-        } => Action::Nothing,
-        Action::Claims { offset, length } => Action::Claims { offset, length },
-        Action::Stops { answer } => Action::Stops { answer },
+        Action::Claims { .. } | Action::Stops { .. } => action,
         Action::Ends { store: _, answer } => Action::Stops { answer },
+        Action::Nothing | Action::Fails | Action::Stores { .. } | Action::Copies { .. } => {
+            Action::Nothing
+        }
     }
 }
 

@@ -1,5 +1,5 @@
 -- A line of pending stores, one store after another.
-use mathlib.Core.Bool.{Bool, true}
+use mathlib.Core.Bool.{Bool, true, false}
 use mathlib.Core.List.{List, [], ◌∷◌, ◌++◌}
 use mathlib.Core.Path.{◌≡◌, refl, sym, ap, ◌∙◌}
 use Prim.Native.Nat.{ℕ, zero, suc, ◌<◌}
@@ -9,7 +9,7 @@ use Rattle.model.specs.declared.Queue.{Queue}
 use Rattle.model.specs.declared.Store.{Store}
 use Rattle.model.specs.Tests.{◌and◌}
 use Rattle.model.specs.Stores.{Shared, landed, landed_all, none_pending}
-use Rattle.model.proofs.Tests.{and_left, and_right, and_true, and_assoc}
+use Rattle.model.proofs.Tests.{and_left, and_right, and_true, and_both, and_false, fails}
 use Rattle.model.proofs.Landing.{landed_more}
 use Rattle.waiting.specs.Places.{note_ok, notes_ok, first_in, Placed, AllPlaced}
 
@@ -30,25 +30,24 @@ lands_next v S l i h = ap (landed_all v S) (first_more l i h) ∙ landed_more v 
 -- a test of each store
 module _ (test : Store → Bool) (all : List Store → Bool) (none : all [] ≡ true)
     (turn : (s : Store) (l : List Store) → all (s ∷ l) ≡ (test s and all l)) where
-  pub tests_next : (l : List Store) (i : ℕ) → i < length l → all (first_in l (suc i)) ≡ (all (first_in l i) and test (store_at l i))
-  tests_next [] i h = absurd (omega arith)
-  tests_next (x ∷ l) zero h =
-      turn x []
-      ∙ ap (λ (b : Bool). test x and b) none
-      ∙ and_true (test x)
-      ∙ ap (λ (b : Bool). b and test x) (sym none)
-  tests_next (x ∷ l) (suc i) h =
-      turn x (first_in l (suc i))
-      ∙ ap (λ (b : Bool). test x and b) (tests_next l i (omega arith))
-      ∙ and_assoc (test x) (all (first_in l i)) (test (store_at l i))
-      ∙ ap (λ (b : Bool). b and test (store_at l i)) (sym (turn x (first_in l i)))
+  pub test_in : (l : List Store) (i : ℕ) → i < length l → all l ≡ true → test (store_at l i) ≡ true
+  test_in [] i h e = absurd (omega arith)
+  test_in (x ∷ l) zero h e = and_left (test x) (all l) (sym (turn x l) ∙ e)
+  test_in (x ∷ l) (suc i) h e = test_in l i (omega arith) (and_right (test x) (all l) (sym (turn x l) ∙ e))
 
-  pub test_at : (l : List Store) (i n : ℕ) → i < n → i < length l → all (first_in l n) ≡ true → test (store_at l i) ≡ true
-  test_at [] i n h k e = absurd (omega arith)
-  test_at (x ∷ l) i zero h k e = absurd (omega arith)
-  test_at (x ∷ l) zero (suc n) h k e = and_left (test x) (all (first_in l n)) (sym (turn x (first_in l n)) ∙ e)
-  test_at (x ∷ l) (suc i) (suc n) h k e =
-      test_at l i n (omega arith) (omega arith) (and_right (test x) (all (first_in l n)) (sym (turn x (first_in l n)) ∙ e))
+  pub test_fails : (l : List Store) (i : ℕ) → i < length l → test (store_at l i) ≡ false → all l ≡ false
+  test_fails [] i h e = absurd (omega arith)
+  test_fails (x ∷ l) zero h e = turn x l ∙ fails (all l) e
+  test_fails (x ∷ l) (suc i) h e = turn x l ∙ ap (λ (b : Bool). test x and b) (test_fails l i (omega arith) e) ∙ and_false (test x)
+
+  pub tests_next : (l : List Store) (i : ℕ) → i < length l → all (first_in l i) ≡ true → test (store_at l i) ≡ true → all (first_in l (suc i)) ≡ true
+  tests_next [] i h e f = absurd (omega arith)
+  tests_next (x ∷ l) zero h e f = turn x [] ∙ and_both (test x) (all []) f none
+  tests_next (x ∷ l) (suc i) h e f =
+      let both = sym (turn x (first_in l i)) ∙ e in
+      turn x (first_in l (suc i))
+      ∙ and_both (test x) (all (first_in l (suc i))) (and_left (test x) (all (first_in l i)) both)
+      (tests_next l i (omega arith) (and_right (test x) (all (first_in l i)) both) f)
 
 -- notes that name a place of the directory
 no_notes : notes_ok [] ≡ true
@@ -59,11 +58,19 @@ notes_turn : (s : Store) (l : List Store) → notes_ok (s ∷ l) ≡ (note_ok s 
 unfolding notes_ok
 notes_turn s l = refl
 
-pub notes_next : (l : List Store) (i : ℕ) → i < length l → notes_ok (first_in l (suc i)) ≡ (notes_ok (first_in l i) and note_ok (store_at l i))
-notes_next = tests_next note_ok notes_ok no_notes notes_turn
+pub note_in : (l : List Store) (i : ℕ) → i < length l → notes_ok l ≡ true → note_ok (store_at l i) ≡ true
+note_in = test_in note_ok notes_ok no_notes notes_turn
 
-pub note_at : (l : List Store) (i n : ℕ) → i < n → i < length l → notes_ok (first_in l n) ≡ true → note_ok (store_at l i) ≡ true
-note_at = test_at note_ok notes_ok no_notes notes_turn
+pub oldest_noted : (l : List Store) (n : ℕ) → 0 < n → 0 < length l → notes_ok (first_in l n) ≡ true → note_ok (store_at l 0) ≡ true
+oldest_noted [] n p h e = absurd (omega arith)
+oldest_noted (x ∷ l) zero p h e = absurd (omega arith)
+oldest_noted (x ∷ l) (suc n) p h e = note_in (x ∷ first_in l n) 0 (omega arith) e
+
+pub note_fails : (l : List Store) (i : ℕ) → i < length l → note_ok (store_at l i) ≡ false → notes_ok l ≡ false
+note_fails = test_fails note_ok notes_ok no_notes notes_turn
+
+pub notes_next : (l : List Store) (i : ℕ) → i < length l → notes_ok (first_in l i) ≡ true → note_ok (store_at l i) ≡ true → notes_ok (first_in l (suc i)) ≡ true
+notes_next = tests_next note_ok notes_ok no_notes notes_turn
 
 pub one_note : (s : Store) → note_ok s ≡ true → notes_ok (s ∷ []) ≡ true
 unfolding notes_ok ◌and◌

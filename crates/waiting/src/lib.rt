@@ -16,17 +16,8 @@ fn note_ok(landing: Store) -> bool
     ensures { result ≡ note_ok landing }
 {
     match landing {
-        Store::StoreWord {
-            place: _,
-            slot: _,
-            word: _,
-            value: _,
-        } => true,
         Store::StoreNote { place } => place <= 10,
-        Store::StorePut { value: _ } => true,
-        Store::StoreOut { value: _ } => true,
-        Store::StoreHead { value: _ } => true,
-        Store::StoreTail { value: _ } => true,
+        _ => true,
     }
 }
 
@@ -35,17 +26,12 @@ pub fn notes_ok(waiting: Waiting) -> bool
     requires { waiting.count ≤ 8 }
     ensures { result ≡ notes_ok (in_line waiting) }
 {
-    let stores = waiting.stores;
-    let count = waiting.count as usize;
-    let mut good = true;
-    let mut i: usize = 0;
-    while i < count {
-        let landing = stores[i];
-        let fine = note_ok(landing);
-        good = good && fine;
-        i += 1;
+    for landing in &waiting.stores[..waiting.count as usize] {
+        if !note_ok(*landing) {
+            return false;
+        }
     }
-    good
+    true
 }
 
 // What a landed store leaves of the queue: a task's word leaves it as it is.
@@ -53,31 +39,15 @@ pub fn after(queue: Queue, landing: Store) -> Queue
     requires { notes_ok (landing ∷ []) ≡ true }
     ensures { (v : ℕ) (m : List ℕ) → result ≡ (landed v (shared queue m) landing).queue }
 {
-    let anchor = queue.anchor;
     match landing {
-        Store::StoreWord {
-            place: _,
-            slot: _,
-            word: _,
-            value: _,
-        } => queue,
+        Store::StoreWord { .. } => queue,
         Store::StoreNote { place } => state::publish(queue, place),
-        Store::StorePut { value: _ } => state::with_anchor(
-            queue,
-            anchors::after_store(anchor, landing),
-        ),
-        Store::StoreOut { value: _ } => state::with_anchor(
-            queue,
-            anchors::after_store(anchor, landing),
-        ),
-        Store::StoreHead { value: _ } => state::with_anchor(
-            queue,
-            anchors::after_store(anchor, landing),
-        ),
-        Store::StoreTail { value: _ } => state::with_anchor(
-            queue,
-            anchors::after_store(anchor, landing),
-        ),
+        Store::StorePut { .. }
+        | Store::StoreOut { .. }
+        | Store::StoreHead { .. }
+        | Store::StoreTail { .. } => {
+            state::with_anchor(queue, anchors::after_store(queue.anchor, landing))
+        }
     }
 }
 
@@ -87,14 +57,9 @@ pub fn seen(queue: Queue, waiting: Waiting) -> Queue
     requires waiting_value { notes_ok (in_line waiting) ≡ true }
     ensures { (v : ℕ) (m : List ℕ) → result ≡ (landed_all v (shared queue m) (in_line waiting)).queue }
 {
-    let stores = waiting.stores;
-    let count = waiting.count as usize;
     let mut next = queue;
-    let mut i: usize = 0;
-    while i < count {
-        let landing = stores[i];
-        next = after(next, landing);
-        i += 1;
+    for landing in &waiting.stores[..waiting.count as usize] {
+        next = after(next, *landing);
     }
     next
 }
@@ -127,7 +92,7 @@ fn covered(words: u32, queue: Queue, landing: Store, store: &[u32]) -> u32
         place,
         slot,
         word,
-        value: _,
+        ..
     } = landing
     {
         let at = slots::address(words, queue, place as usize, slot, word);
@@ -140,21 +105,20 @@ fn covered(words: u32, queue: Queue, landing: Store, store: &[u32]) -> u32
 fn with_value(landing: Store, value: u32) -> Store
     ensures { result ≡ valued landing value }
 {
-    if let Store::StoreWord {
-        place,
-        slot,
-        word,
-        value: _,
-    } = landing
-    {
-        return Store::StoreWord {
+    match landing {
+        Store::StoreWord {
+            place,
+            slot,
+            word,
+            ..
+        } => Store::StoreWord {
             place,
             slot,
             word,
             value,
-        };
+        },
+        _ => landing,
     }
-    landing
 }
 
 // Puts the waiting words down, in order, and answers the words that they cover. Landed stores never move an array, so memory's
@@ -166,15 +130,11 @@ pub fn put_down(words: u32, queue: Queue, waiting: Waiting, store: &mut [u32]) -
     ensures store_after { store.new ≡ (landed_all words (shared queue store.old) (in_line waiting)).store }
     ensures kept_by { KeptBy words queue store.old waiting result }
 {
-    let stores = waiting.stores;
-    let count = waiting.count as usize;
     let mut kept = [0u32; 8];
-    let mut i: usize = 0;
-    while i < count {
-        let landing = stores[i];
+    for i in 0..waiting.count as usize {
+        let landing = waiting.stores[i];
         kept[i] = covered(words, queue, landing, store);
         write(words, queue, landing, store);
-        i += 1;
     }
     kept
 }
@@ -186,15 +146,9 @@ pub fn lift(words: u32, queue: Queue, waiting: Waiting, kept: [u32; 8], store: &
     requires all_placed { AllPlaced words queue (length store.old) (in_line waiting) }
     ensures { (m : List ℕ) → store.old ≡ (landed_all words (shared queue m) (in_line waiting)).store → KeptBy words queue m waiting kept → store.new ≡ m }
 {
-    let stores = waiting.stores;
-    let mut left = waiting.count as usize;
-    while 0 < left {
-        let i = left - 1;
-        let landing = stores[i];
-        let word = kept[i];
-        let lifting = with_value(landing, word);
+    for i in (0..waiting.count as usize).rev() {
+        let lifting = with_value(waiting.stores[i], kept[i]);
         write(words, queue, lifting, store);
-        left = i;
     }
 }
 
@@ -204,9 +158,8 @@ pub fn join(waiting: Waiting, joining: Store) -> Waiting
     ensures { result ≡ joined waiting (joining ∷ []) }
 {
     let count = waiting.count;
-    let end = count as usize;
     let mut next = waiting;
-    next.stores[end] = joining;
+    next.stores[count as usize] = joining;
     next.count = count + 1;
     next
 }

@@ -29,26 +29,26 @@ returns-then-claimed-eq1 c = let a = c.args in
 
 pub loop-last-init : goal.loop-last-init
 loop-last-init c = let a = c.args in
-    (omega arith, refl, starts_tidy a.words a.queue.arrays true (and_left _ _ (passed c.starts.ensures (not_from_true _ c.if-not-starts.false))))
+    (refl, starts_tidy a.words a.queue.arrays true (and_left _ _ (passed c.starts.ensures (not_from_true _ c.if-not-starts.false))))
 
 pub returns-then-not-follows : goal.returns-then-not-follows
 returns-then-not-follows c = let q = c.args.queue in let v = c.args.words in
     let k = c.loop-last.last in
-    let link = c.follows.ensures ∙ ap (λ (p : Region). follows_ok v p (get_or q.arrays (k + 1) nowhere)) c.loop-last.invariant.1 in
+    let link = c.follows.ensures ∙ ap (λ (p : Region). follows_ok v p (get_or q.arrays (k + 1) nowhere)) c.loop-last.invariant.0 in
     sym
     (fails _
     (never_tidy v q.arrays (suc k) q.claimed (omega arith)
-    (next_tidy v q.arrays false k c.loop-last.invariant.2 (rw add-one at (refused link (not_from_false _ c.if-not-follows.true))))))
+    (next_tidy v q.arrays false k c.loop-last.invariant.1 (rw add-one at (refused link (not_from_false _ c.if-not-follows.true))))))
 
 pub loop-last-preserved : goal.loop-last-preserved
 loop-last-preserved c = let q = c.args.queue in let v = c.args.words in
     let k = c.loop-last.last in
-    let link = c.follows.ensures ∙ ap (λ (p : Region). follows_ok v p (get_or q.arrays (k + 1) nowhere)) c.loop-last.invariant.1 in
-    (omega arith, refl, rw add-one (next_tidy v q.arrays true k c.loop-last.invariant.2 (rw add-one at (passed link (not_from_true _ c.if-not-follows.false)))))
+    let link = c.follows.ensures ∙ ap (λ (p : Region). follows_ok v p (get_or q.arrays (k + 1) nowhere)) c.loop-last.invariant.0 in
+    (refl, rw add-one (next_tidy v q.arrays true k c.loop-last.invariant.1 (rw add-one at (passed link (not_from_true _ c.if-not-follows.false)))))
 
 pub returns : goal.returns
 returns c = let a = c.args in
     let e : suc c.loop-last.last ≡ a.queue.claimed = omega arith in
     sym
-    (holds (subst (λ (n : ℕ). tidy a.words a.queue.arrays n ≡ true) e c.loop-last.invariant.2)
+    (holds (subst (λ (n : ℕ). tidy a.words a.queue.arrays n ≡ true) e c.loop-last.invariant.1)
     ∙ kept a.words a.queue (and_right _ _ (passed c.starts.ensures (not_from_true _ c.if-not-starts.false))))

@@ -1,13 +1,10 @@
 use mathlib.Core.Bool.{true}
 use mathlib.Core.Path.{◌≡◌}
-use Prim.Native.Nat.{suc, ◌-◌, ◌<◌}
+use Prim.Native.Nat.{suc}
 use lib.ListN.{get_or}
 use Rattle.model.specs.Memory.{nowhere}
 use Rattle.model.specs.Limits.{tidy}
 use Rattle.limits.proofs.tidy.Given as goal
 
 abbrev pub invariant-loop-last : goal.invariant-loop-last
-invariant-loop-last l = (l.last < l.claimed) × (l.before ≡ get_or l.arrays l.last nowhere) × (tidy l.words l.arrays (suc l.last) ≡ true)
-
-abbrev pub decreases-loop-last : goal.decreases-loop-last
-decreases-loop-last l = l.claimed - l.last
+invariant-loop-last l = (l.before ≡ get_or l.arrays l.last nowhere) × (tidy l.words l.arrays (suc l.last) ≡ true)

@@ -1,11 +1,7 @@
 use mathlib.Core.Path.{◌≡◌}
-use Prim.Native.Nat.{◌+◌, ◌-◌, ◌≤◌}
 use Rattle.model.specs.Stores.{joined}
 use Rattle.lines.specs.Actions.{word_stores}
 use Rattle.owner.proofs.join_task.Given as goal
 
 abbrev pub invariant-loop-word : goal.invariant-loop-word
-invariant-loop-word l = (l.next ≡ joined l.initial.next (word_stores l.place l.slot l.task l.word)) × (l.word ≤ l.words + 1)
-
-abbrev pub decreases-loop-word : goal.decreases-loop-word
-decreases-loop-word l = l.words + 1 - l.word
+invariant-loop-word l = l.next ≡ joined l.initial.next (word_stores l.place l.slot l.task l.word)

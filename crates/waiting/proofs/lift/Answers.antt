@@ -13,28 +13,27 @@ use Rattle.waiting.proofs.lift.Goals as goal
 pub write-requires-clause-placed : goal.write-requires-clause-placed
 write-requires-clause-placed c =
     let a = c.args in
-    let l = c.loop-left in
-    let s = store_at a.waiting.stores (l.left - 1) in
+    let l = c.loop-i in
+    let s = store_at a.waiting.stores (l.i - 1) in
     let eight : length a.waiting.stores ≡ 8 = search (rules, mapped_length) in
-    subst (λ (n : ℕ). Placed a.words a.queue n c.with_value-lifting.result) (sym l.invariant.1)
+    subst (λ (n : ℕ). Placed a.words a.queue n c.with_value-lifting.result) (sym l.invariant.0)
     (subst (Placed a.words a.queue (length a.store.now)) (sym c.with_value-lifting.ensures)
     (placed_valued a.words a.queue (length a.store.now) s _
-    (placed_at a.words a.queue (length a.store.now) a.waiting.stores (l.left - 1) a.waiting.count (omega (arith, l.invariant.0, c.loop-left-test.true))
-    (omega (arith, eight, l.invariant.0, c.loop-left-test.true, c.requires.count_bound)) c.requires.all_placed)))
+    (placed_at a.words a.queue (length a.store.now) a.waiting.stores (l.i - 1) a.waiting.count (omega (arith, l.auto.i, c.loop-i-test.true))
+    (omega (arith, eight, l.auto.i, c.loop-i-test.true, c.requires.count_bound)) c.requires.all_placed)))
 
-pub loop-left-preserved : goal.loop-left-preserved
+pub loop-i-preserved : goal.loop-i-preserved
 unfolding KeptBy
-loop-left-preserved c =
+loop-i-preserved c =
     let a = c.args in
-    let l = c.loop-left in
+    let l = c.loop-i in
     let s = a.waiting.stores in
     let eight : length a.waiting.stores ≡ 8 = search (rules, mapped_length) in (
-      omega (arith, l.invariant.0),
       search rules,
       λ m e k.
-          let up : l.left ≡ suc (l.left - 1) = omega (arith, c.loop-left-test.true) in
-          lift_one a.words a.queue m s (l.left - 1) (omega (arith, eight, l.invariant.0, c.loop-left-test.true, c.requires.count_bound))
-          (l.invariant.2 m e k ∙ ap (down a.words a.queue m s) up) (k (l.left - 1) (omega (arith, l.invariant.0, c.loop-left-test.true)))
+          let up : l.i ≡ suc (l.i - 1) = omega (arith, c.loop-i-test.true) in
+          lift_one a.words a.queue m s (l.i - 1) (omega (arith, eight, l.auto.i, c.loop-i-test.true, c.requires.count_bound))
+          (l.invariant.1 m e k ∙ ap (down a.words a.queue m s) up) (k (l.i - 1) (omega (arith, l.auto.i, c.loop-i-test.true)))
           c.with_value-lifting.ensures c.write.ensures,
     )
 
@@ -42,6 +41,6 @@ pub returns : goal.returns
 unfolding landed_all
 returns c =
     let a = c.args in
-    let l = c.loop-left in
-    let none : l.left ≡ 0 = omega (arith, c.loop-left-test.false) in
-    λ m e k. l.invariant.2 m e k ∙ ap (down a.words a.queue m a.waiting.stores) none
+    let l = c.loop-i in
+    let none : l.i ≡ 0 = omega (arith, c.loop-i-test.false) in
+    λ m e k. l.invariant.1 m e k ∙ ap (down a.words a.queue m a.waiting.stores) none

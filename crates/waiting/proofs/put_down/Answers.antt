@@ -14,14 +14,14 @@ use Rattle.waiting.proofs.put_down.Goals as goal
 
 pub loop-i-init : goal.loop-i-init
 unfolding landed_all
-loop-i-init c = let a = c.args in (omega arith, refl, refl, refl, kept_none a.words a.queue a.store.now a.waiting.stores _)
+loop-i-init c = let a = c.args in (refl, refl, refl, kept_none a.words a.queue a.store.now a.waiting.stores _)
 
 pub covered-requires-clause-placed : goal.covered-requires-clause-placed
 covered-requires-clause-placed c =
     let a = c.args in
     let l = c.loop-i in
     let eight : length a.waiting.stores ≡ 8 = search (rules, mapped_length) in
-    subst (λ (n : ℕ). Placed a.words a.queue n (store_at a.waiting.stores l.i)) (sym l.invariant.1)
+    subst (λ (n : ℕ). Placed a.words a.queue n (store_at a.waiting.stores l.i)) (sym l.invariant.0)
     (placed_at a.words a.queue (length a.store.now) a.waiting.stores l.i a.waiting.count (omega (arith, c.loop-i-test.true))
     (omega (arith, eight, c.loop-i-test.true, c.requires.count_bound)) c.requires.all_placed)
 
@@ -30,7 +30,7 @@ write-requires-clause-placed c =
     let a = c.args in
     let l = c.loop-i in
     let eight : length a.waiting.stores ≡ 8 = search (rules, mapped_length) in
-    subst (λ (n : ℕ). Placed a.words a.queue n (store_at a.waiting.stores l.i)) (sym l.invariant.1)
+    subst (λ (n : ℕ). Placed a.words a.queue n (store_at a.waiting.stores l.i)) (sym l.invariant.0)
     (placed_at a.words a.queue (length a.store.now) a.waiting.stores l.i a.waiting.count (omega (arith, c.loop-i-test.true))
     (omega (arith, eight, c.loop-i-test.true, c.requires.count_bound)) c.requires.all_placed)
 
@@ -41,12 +41,11 @@ loop-i-preserved c =
     let s = a.waiting.stores in
     let m = a.store.now in
     let eight : length a.waiting.stores ≡ 8 = search (rules, mapped_length) in (
-      omega (arith, c.loop-i-test.true),
       search rules,
       search rules,
       rw add-one
-          (c.write.ensures ∙ ap (λ (x : List ℕ). (landed a.words (shared a.queue x) (store_at s l.i)).store) l.invariant.3
+          (c.write.ensures ∙ ap (λ (x : List ℕ). (landed a.words (shared a.queue x) (store_at s l.i)).store) l.invariant.2
           ∙ sym (next_word a.words a.queue m s l.i (omega (arith, eight, c.loop-i-test.true, c.requires.count_bound)))),
-      kept_more a.words a.queue m s l.kept l.i _ (omega (arith, l.invariant.2, c.loop-i-test.true, c.requires.count_bound)) l.invariant.4
-          (c.covered.ensures ∙ ap (λ (x : List ℕ). covered_by a.words a.queue x (store_at s l.i)) l.invariant.3),
+      kept_more a.words a.queue m s l.kept l.i _ (omega (arith, l.invariant.1, c.loop-i-test.true, c.requires.count_bound)) l.invariant.3
+          (c.covered.ensures ∙ ap (λ (x : List ℕ). covered_by a.words a.queue x (store_at s l.i)) l.invariant.2),
     )
