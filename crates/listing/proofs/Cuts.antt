@@ -1,13 +1,12 @@
 -- It does not matter how an input is cut into buffers.
 use Prim.Native.Nat.{ℕ, zero, suc, ◌+◌, ◌-◌, ◌≤◌, ◌<◌, min}
 use native.Mathlib.Omega.{arith}
-use native.Mathlib.Numerals.{add-one}
 use mathlib.Core.Path.{◌≡◌, refl, ap, sym, ◌∙◌}
 use mathlib.Core.Bool.{Bool, true, false}
 use mathlib.Core.List.{List, [], ◌∷◌, ◌++◌, append_assoc, append-nil, map}
 use lib.Dec.{ltb}
-use lib.ListN.{length, get_or, take, drop, set, length-append, length-take, length-drop}
-use lib.Seq.{take-suc-set, take-suc, drop-set-lt, get_or-drop, drop-drop, take_all, take-take, take-nil}
+use lib.ListN.{length, take, drop, length-append, length-take, length-drop}
+use lib.Seq.{paste, take_at, length-take-le, take_all, take-take, take-nil}
 use borrow.Author.Tests.{ltb-true, ltb-false}
 use Rattle.model.specs.declared.Command.{Command}
 use Rattle.model.specs.declared.Command.TheVariants as command
@@ -107,17 +106,9 @@ closed P buf n h = listing_last P buf n h ∙ sym (ap (listing_of P) (sym (appen
         ∙ ap (λ (l : List ℕ). shown_all (respond P (command_of buf)).output ++ listing_of (respond P (command_of buf)).program (l ++ [])) (ap (λ (l : List ℕ). drop (length l + 1) (buf ++ 10 ∷ [])) (sym (front_closed buf h)) ∙ none)
         ∙ ap (λ (l : List ℕ). shown_all (respond P (command_of buf)).output ++ l) (listing_none _) ∙ append-nil _
 
--- one byte more moved to the front
-pub carry_step : (b₀ b : List ℕ) (from i : ℕ) → from + i < length b → take i b ≡ take i (drop from b₀) → drop i b ≡ drop i b₀ → length b ≡ length b₀ →
-    (take (i + 1) (set b i (get_or b (from + i) 0)) ≡ take (i + 1) (drop from b₀)) × (drop (i + 1) (set b i (get_or b (from + i) 0)) ≡ drop (i + 1) b₀)
-carry_step b₀ b from i h e f g =
-    let x : ℕ = get_or b (from + i) 0 in
-    let k : i < length (drop from b₀) = rw length-drop (omega arith) in
-    let v : x ≡ get_or b₀ (from + i) 0 =
-    ap (λ (n : ℕ). get_or b n 0) (let q : from + i ≡ i + from = omega arith in q) ∙ sym (get_or-drop i b from 0) ∙ ap (λ (l : List ℕ). get_or l from 0) f ∙ get_or-drop i b₀ from 0 ∙ ap (λ (n : ℕ). get_or b₀ n 0) (let q : i + from ≡ from + i = omega arith in q) in (
-      rw add-one (take-suc-set b i x (omega arith) ∙ ap (λ (l : List ℕ). l ++ (x ∷ [])) e ∙ ap (λ (y : ℕ). take i (drop from b₀) ++ (y ∷ [])) (v ∙ sym (get_or-drop from b₀ i 0)) ∙ sym (take-suc (drop from b₀) i 0 k)),
-      drop-set-lt (i + 1) b i x (omega arith) ∙ sym (drop-drop 1 i b) ∙ ap (drop 1) f ∙ drop-drop 1 i b₀,
-    )
+-- what stands in front after a move to the front
+pub moved_front : (xs : List ℕ) (from k j : ℕ) → j ≡ k → k ≤ length (drop from xs) → take k (paste xs 0 (drop from xs) j) ≡ take k (drop from xs)
+moved_front xs from k j e h = ap (λ (n : ℕ). take k (paste xs 0 (drop from xs) n)) e ∙ take_at (take k (drop from xs)) (drop (0 + k) xs) k (length-take-le k (drop from xs) h)
 
 drop_take : (a n : ℕ) (l : List ℕ) → drop a (take n l) ≡ take (n - a) (drop a l)
 drop_take zero n l = ap (λ (k : ℕ). take k l) (let q : n ≡ n - 0 = omega arith in q)

@@ -34,7 +34,8 @@ use Rattle.rooms.proofs.Handed.{handed, within, same_step}
 use Rattle.text.specs.Numbers.{Placed}
 use Rattle.text.specs.Commands.{command_of}
 use Rattle.replies.specs.declared.Session.{Session}
-use Rattle.replies.specs.declared.Asked.TheVariants.{Step}
+use Rattle.std.specs.declared.option.Option.{Option}
+use Rattle.std.specs.declared.option.Option.TheVariants.{None, Some}
 use Rattle.replies.specs.declared.Answered.{Answered}
 use Rattle.replies.specs.Shown.{shown_all}
 use Rattle.listing.specs.Listing.{until_newline}
@@ -101,22 +102,26 @@ pub refusal_room : (v : ℕ) (r : Refusal) (at n : ℕ) → at + 256 ≤ n → a
 refusal_room v r at n h = omega (arith, answer_most v (Refused r))
 
 -- a line that asks for steps
-asked_steps : (v : Bool) (c : Command) (i n : ℕ) → asked_of v c ≡ Step i n → (v ≡ true) × (c ≡ Steps i n)
-unfolding when◌then◌else◌
+steps_said : Option (ℕ × ℕ) → Command
+steps_said None = End
+steps_said (Some p) = Steps p.0 p.1
+
+asked_steps : (v : Bool) (c : Command) (i n : ℕ) → asked_of v c ≡ Some (i, n) → (v ≡ true) × (c ≡ Steps i n)
+unfolding when◌then◌else◌ steps_said
 asked_steps v (Open k w z x s y) i n e = absurd (let z : ◌≡◌ {A = ℕ} 0 1 = cc in let b : ⊥ = omega arith in b)
 asked_steps v (BeginPut y p) i n e = absurd (let z : ◌≡◌ {A = ℕ} 0 1 = cc in let b : ⊥ = omega arith in b)
 asked_steps v BeginTake i n e = absurd (let z : ◌≡◌ {A = ℕ} 0 1 = cc in let b : ⊥ = omega arith in b)
 asked_steps v (BeginSteal k) i n e = absurd (let z : ◌≡◌ {A = ℕ} 0 1 = cc in let b : ⊥ = omega arith in b)
-asked_steps true (Steps k x) i n e = (refl, cc)
+asked_steps true (Steps k x) i n e = (refl, ap steps_said e)
 asked_steps false (Steps k x) i n e = absurd (let z : ◌≡◌ {A = ℕ} 0 1 = cc in let b : ⊥ = omega arith in b)
 asked_steps v (Who k) i n e = absurd (let z : ◌≡◌ {A = ℕ} 0 1 = cc in let b : ⊥ = omega arith in b)
 asked_steps v End i n e = absurd (let z : ◌≡◌ {A = ℕ} 0 1 = cc in let b : ⊥ = omega arith in b)
 asked_steps v Bad i n e = absurd (let z : ◌≡◌ {A = ℕ} 0 1 = cc in let b : ⊥ = omega arith in b)
 
-pub asked_live : (v : Bool) (c : Command) (i n : ℕ) → asked_of v c ≡ Step i n → v ≡ true
+pub asked_live : (v : Bool) (c : Command) (i n : ℕ) → asked_of v c ≡ Some (i, n) → v ≡ true
 asked_live v c i n e = (asked_steps v c i n e).0
 
-pub steps_by : (s : Session) (m l : List ℕ) (c : Command) (i n : ℕ) (p : Answered) (m' l' before : List ℕ) (at : ℕ) (after : List ℕ) → asked_of s.live c ≡ Step i n →
+pub steps_by : (s : Session) (m l : List ℕ) (c : Command) (i n : ℕ) (p : Answered) (m' l' before : List ℕ) (at : ℕ) (after : List ℕ) → asked_of s.live c ≡ Some (i, n) →
     AnsweredBy (steps_of (world_of s m l) i n) p m' l' before at after → AnsweredBy (respond (program_of s m l) c) p m' l' before at after
 unfolding respond
 steps_by s m l c i n p m' l' before at after e by =

@@ -10,7 +10,7 @@ ghost use Rattle.listing.specs.Consuming.{Reachable, ConsumedBy, CarriedBy};
 
 use machine::Made;
 use model::{Answer, Worker};
-use replies::{Asked, LONGEST, Session};
+use replies::{LONGEST, Session};
 
 // What consuming a buffer left: the session, how many bytes were played and how many written, and whether an accepted `end` was
 // among them.
@@ -27,14 +27,12 @@ fn line_end(buf: &[u8], at: usize) -> usize
     requires { at ≤ length buf.now }
     ensures { result ≡ at + length (until_newline (drop at buf.now)) }
 {
-    let mut i = at;
-    while i < buf.len() {
+    for i in at..buf.len() {
         if buf[i] == b'\n' {
             return i;
         }
-        i += 1;
     }
-    i
+    buf.len()
 }
 
 // Plays the lines of the buffer that end in a newline, as long as the output has room for another line's text. `step I M` is
@@ -70,7 +68,7 @@ pub fn consume(
         let command = text::parse(&buf[used..end]);
         used = end + 1;
         let asked = replies::ask(live, command);
-        let Asked::Step { worker, times } = asked else {
+        let Some((worker, times)) = asked else {
             let stop = replies::refused_at_once(live, bench, command);
             if let Err(why) = stop {
                 let answer = Answer::Refused { why };
@@ -150,35 +148,15 @@ pub fn consume(
     }
 }
 
-fn least(a: usize, b: usize) -> usize
-    ensures { result ≡ min a b }
-{
-    if a < b {
-        return a;
-    }
-    b
-}
-
-fn less(a: usize, b: usize) -> usize
-    ensures { result ≡ a - b }
-{
-    if a < b {
-        return 0;
-    }
-    a - b
-}
-
 // Moves the bytes from `from` to `n`, a line that has begun, to the front of the buffer, and answers how many there are. Of more
 // than 72 the first 72 are enough: a line that long is refused whatever follows.
 pub fn carry(buf: &mut [u8], from: usize, n: usize) -> usize
     ensures { CarriedBy buf.old from n result buf.new }
 {
-    let to = least(n, buf.len());
-    let k = least(72, less(to, from));
-    let mut i = 0;
-    while i < k {
-        buf[i] = buf[from + i];
-        i += 1;
+    let to = n.min(buf.len());
+    let k = to.saturating_sub(from).min(72);
+    if 0 < k {
+        buf.copy_within(from..from + k, 0);
     }
     k
 }

@@ -8,7 +8,7 @@ use Rattle.model.specs.declared.Command.{Command}
 use Rattle.model.specs.declared.Command.TheVariants.{Open, BeginPut, BeginTake, BeginSteal, Steps, Who, End, Bad}
 use Rattle.model.specs.World.{World}
 use Rattle.model.specs.Listing.{waiting, playing, respond, bad}
-use Rattle.replies.specs.declared.Asked.TheVariants.{Other}
+use Rattle.std.specs.declared.option.Option.TheVariants.{None}
 use Rattle.replies.specs.Choices.{asked_of}
 use Rattle.replies.proofs.Replies.{asks_steps}
 
@@ -25,7 +25,7 @@ waits_bad m l End h = refl
 waits_bad m l Bad h = refl
 
 -- while a bench is played, a `queue` and what is no line of the form; a `step` is asked elsewhere
-pub plays_bad : (W : World) (x : Command) → asked_of true x ≡ Other → ((v : ℕ) (p : Payload) → x ≡ BeginPut v p → ⊥) → (x ≡ BeginTake → ⊥)
+pub plays_bad : (W : World) (x : Command) → asked_of true x ≡ None → ((v : ℕ) (p : Payload) → x ≡ BeginPut v p → ⊥) → (x ≡ BeginTake → ⊥)
     → ((i : ℕ) → x ≡ BeginSteal i → ⊥) → ((i : ℕ) → x ≡ Who i → ⊥) → (x ≡ End → ⊥) → respond (playing W) x ≡ bad (playing W)
 unfolding respond
 plays_bad W (Open k w z n s v) q put take steal who end = refl

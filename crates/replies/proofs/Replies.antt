@@ -11,7 +11,7 @@ use Rattle.model.specs.declared.Refusal.{Refusal}
 use Rattle.model.specs.declared.Setup.{Setup}
 use Rattle.model.specs.declared.Bench.{Bench}
 use Rattle.model.specs.declared.Answer.{Answer}
-use Rattle.model.specs.declared.Answer.TheVariants.{Accepted, Numbered, GoesOn, Finished, HandedOut, Empty, Full, Grown, Refused}
+use Rattle.model.specs.declared.Answer.TheVariants.{Refused}
 use Rattle.model.specs.declared.Refusal.TheVariants.{NoSuchWorker}
 use Rattle.model.specs.declared.Payload.{Payload}
 use Rattle.model.specs.declared.Operation.{Operation}
@@ -28,13 +28,13 @@ use Rattle.model.specs.Counts.{counts_of}
 use Rattle.model.specs.Listing.{Program, Response, waiting, playing, ended, printed, printed_tally, is_refused, totals, response, opened, showing, bad, putting, respond}
 use Rattle.model.proofs.Tests.{if_true, if_false}
 use Rattle.text.specs.Numbers.{line_of, Placed}
-use Rattle.replies.specs.declared.Progress.TheVariants.{Made, Stopped}
-use Rattle.replies.specs.declared.Asked.TheVariants.{Other, Step}
+use Rattle.std.specs.declared.option.Option.{Option}
+use Rattle.std.specs.declared.option.Option.TheVariants.{None, Some}
 use Rattle.replies.specs.declared.Session.{Session}
 use Rattle.replies.specs.declared.Answered.{Answered}
 use Rattle.replies.specs.Shown.{shown, shown_all}
 use Rattle.replies.specs.Sessions.{world_of, program_of, left_by, AnsweredBy}
-use Rattle.replies.specs.Choices.{progress_of, asked_of, RefusedAtOnce}
+use Rattle.replies.specs.Choices.{asked_of, RefusedAtOnce}
 use Rattle.replies.proofs.Shows.{shows_one}
 use Rattle.replies.proofs.Fronts.{lent_front, given_back, unchanged}
 use Rattle.replies.proofs.Ways.{either, never}
@@ -91,9 +91,9 @@ pub put_wrong : (W : World) (v : ℕ) (p : Payload) → (v ≡ W.bench.words →
 put_wrong W v p e = if_false _ (ne_eqb v W.bench.words e)
 
 -- a `step` while a bench is played asks for steps
-pub asks_steps : (c : Command) (i n : ℕ) → c ≡ Steps i n → asked_of true c ≡ Other → ⊥
+pub asks_steps : (c : Command) (i n : ℕ) → c ≡ Steps i n → asked_of true c ≡ None → ⊥
 unfolding when◌then◌else◌
-asks_steps c i n e h = let z : Step i n ≡ Other = ap (asked_of true) (sym e) ∙ h in let y : ◌≡◌ {A = ℕ} 0 1 = cc in omega arith
+asks_steps c i n e h = let z : ◌≡◌ {A = Option (ℕ × ℕ)} (Some (i, n)) None = ap (asked_of true) (sym e) ∙ h in let y : ◌≡◌ {A = ℕ} 0 1 = cc in omega arith
 
 -- a refused fresh leaves the store as it was
 abbrev Leaves : List ℕ → Outcome → Type 0
@@ -104,29 +104,6 @@ unfolding fresh_of
 fresh_leaves s m l =
     either (Leaves m) _ _ _ (either (Leaves m) _ _ _ (either (Leaves m) _ _ _ (either (Leaves m) _ _ _ (either (Leaves m) _ _ _
     (either (Leaves m) _ _ _ (λ e. never (sym e)) (λ e. refl)) (λ e. refl)) (λ e. refl)) (λ e. refl)) (λ e. refl)) (λ e. refl)
-
--- `progress` tells a refusal
-pub progress_made : (a : Answer) → progress_of a ≡ Made → is_refused a ≡ false
-progress_made Accepted e = refl
-progress_made (Numbered n) e = refl
-progress_made GoesOn e = refl
-progress_made (Finished i t) e = refl
-progress_made (HandedOut i t) e = refl
-progress_made (Empty i) e = refl
-progress_made (Full i t) e = refl
-progress_made (Grown i) e = refl
-progress_made (Refused r) e = cc
-
-pub progress_stopped : (a : Answer) → progress_of a ≡ Stopped → is_refused a ≡ true
-progress_stopped Accepted e = cc
-progress_stopped (Numbered n) e = cc
-progress_stopped GoesOn e = cc
-progress_stopped (Finished i t) e = cc
-progress_stopped (HandedOut i t) e = cc
-progress_stopped (Empty i) e = cc
-progress_stopped (Full i t) e = cc
-progress_stopped (Grown i) e = cc
-progress_stopped (Refused r) e = refl
 
 -- a response under another name
 pub played_as : {R S : Response} {p : Answered} {m l before : List ℕ} {at : ℕ} {after : List ℕ} → S ≡ R → AnsweredBy R p m l before at after → AnsweredBy S p m l before at after

@@ -4,7 +4,7 @@
 
 #![tactic(auto)]
 
-ghost use Rattle.std.specs.Prelude.{◌≡◌, true, false, List, [], ◌∷◌, ℕ, ◌+◌, ◌≤◌, min, length, take};
+ghost use Rattle.std.specs.Prelude.{◌≡◌, true, false, List, [], ◌∷◌, ℕ, ◌+◌, ◌≤◌, min, length, take, None};
 ghost use Rattle.model.specs.Limits.{valid_of};
 ghost use Rattle.model.specs.Calls.{lent, fresh_of, begin_of, who_of};
 ghost use Rattle.model.specs.Counts.{counts_of};
@@ -19,14 +19,14 @@ ghost use Rattle.model.specs.Listing.{
   opened,
   showing,
   bad,
+  is_refused,
   putting,
   respond,
 };
 ghost use Rattle.text.specs.Numbers.{Placed};
-ghost use Rattle.replies.specs.declared.Asked.TheVariants.{Other};
 ghost use Rattle.replies.specs.Shown.{shown_all};
 ghost use Rattle.replies.specs.Sessions.{world_of, program_of, AnsweredBy};
-ghost use Rattle.replies.specs.Choices.{progress_of, asked_of, RefusedAtOnce};
+ghost use Rattle.replies.specs.Choices.{asked_of, RefusedAtOnce};
 
 use model::{Answer, Bench, Command, Operation, Payload, Refusal, Setup};
 
@@ -40,20 +40,6 @@ pub struct Session {
     pub live: bool,
     pub long: u32,
     pub bench: Bench,
-}
-
-// What a line asks for: steps of a bench that is played, or something else.
-#[derive(Clone, Copy)]
-pub enum Asked {
-    Other,
-    Step { worker: u32, times: u32 },
-}
-
-// Whether a bench was made or refused.
-#[derive(Clone, Copy)]
-enum Progress {
-    Made,
-    Stopped,
 }
 
 // What a line left: the session, where its text ends in the output, whether it was an accepted `end`.
@@ -90,11 +76,7 @@ pub fn start() -> Session
 pub fn span(long: u32, store: &[u32]) -> usize
     ensures { result ≡ min long (length store.now) }
 {
-    let n = long as usize;
-    if n < store.len() {
-        return n;
-    }
-    store.len()
+    (long as usize).min(store.len())
 }
 
 // Puts what an answer prints into the output from `at` on, of a payload so many words, and answers where it ends.
@@ -103,27 +85,17 @@ pub fn show(words: u32, answer: Answer, out: &mut [u8], at: usize) -> usize
     ensures { Placed out.old at (shown_all (printed words answer)) result out.new }
 {
     match answer {
-        Answer::Accepted => at,
-        Answer::Numbered { number: _ } => at,
-        Answer::GoesOn => at,
-        Answer::Finished { worker: _, task } => {
-            let v = [task.number as u64];
-            text::print(out, at, b'D', &v)
-        }
+        Answer::Finished { task, .. } => text::print(out, at, b'D', &[u64::from(task.number)]),
         Answer::HandedOut { worker, task } => text::print_out(out, at, words, worker, task),
-        Answer::Empty { worker } => {
-            let v = [worker as u64];
-            text::print(out, at, b'E', &v)
-        }
-        Answer::Full { worker: _, task } => {
-            let v = [task.number as u64];
-            text::print(out, at, b'F', &v)
-        }
-        Answer::Grown { worker: _ } => at,
+        Answer::Empty { worker } => text::print(out, at, b'E', &[u64::from(worker)]),
+        Answer::Full { task, .. } => text::print(out, at, b'F', &[u64::from(task.number)]),
         Answer::Refused { why } => {
-            let v = [answers::number_of(why) as u64];
-            text::print(out, at, b'R', &v)
+            text::print(out, at, b'R', &[u64::from(answers::number_of(why))])
         }
+        Answer::Accepted => at,
+        Answer::Numbered { .. } => at,
+        Answer::GoesOn => at,
+        Answer::Grown { .. } => at,
     }
 }
 
@@ -133,31 +105,15 @@ fn show_tally(worker: u32, tally: Result<u32, Refusal>, out: &mut [u8], at: usiz
     ensures { Placed out.old at (shown_all (printed_tally worker tally)) result out.new }
 {
     match tally {
-        Ok(restarts) => {
-            let v = [worker as u64, restarts as u64];
-            text::print(out, at, b'W', &v)
-        }
-        Err(why) => {
-            let answer = Answer::Refused { why };
-            show(0, answer, out, at)
-        }
+        Ok(restarts) => { text::print(out, at, b'W', &[u64::from(worker), u64::from(restarts)]) }
+        Err(why) => show(0, Answer::Refused { why }, out, at),
     }
 }
 
-fn progress_of(answer: Answer) -> Progress
-    ensures { result ≡ progress_of answer }
+fn is_refused(answer: Answer) -> bool
+    ensures { result ≡ is_refused answer }
 {
-    match answer {
-        Answer::Accepted => Progress::Made,
-        Answer::Numbered { number: _ } => Progress::Made,
-        Answer::GoesOn => Progress::Made,
-        Answer::Finished { worker: _, task: _ } => Progress::Made,
-        Answer::HandedOut { worker: _, task: _ } => Progress::Made,
-        Answer::Empty { worker: _ } => Progress::Made,
-        Answer::Full { worker: _, task: _ } => Progress::Made,
-        Answer::Grown { worker: _ } => Progress::Made,
-        Answer::Refused { why: _ } => Progress::Stopped,
-    }
+    matches!(answer, Answer::Refused { .. })
 }
 
 // A line of no form, or out of place: 13.
@@ -195,13 +151,13 @@ fn open_queue(
     let answer = made.answer;
     let bench = made.bench;
     let end = show(bench.words, answer, out, at);
-    let Progress::Made = progress_of(answer) else {
+    if is_refused(answer) {
         return Answered {
             session,
             end,
             stops: false,
         };
-    };
+    }
     let live = true;
     let next = Session { live, long, bench };
     Answered {
@@ -301,12 +257,12 @@ fn total(session: Session, store: &[u32], log: &[u32], out: &mut [u8], at: usize
     let bench = session.bench;
     let c = counts::counts(bench, &store[..n], log);
     let v = [
-        c.finished as u64,
-        c.handouts as u64,
-        c.different as u64,
+        u64::from(c.finished),
+        u64::from(c.handouts),
+        u64::from(c.different),
         c.restarts,
-        c.window as u64,
-        c.lost as u64,
+        u64::from(c.window),
+        u64::from(c.lost),
     ];
     let end = text::print(out, at, b'T', &v);
     Answered {
@@ -362,7 +318,7 @@ fn play_live(
     at: usize,
 ) -> Answered
     requires at_in_bounds { (at + 256 ≤ length out.old) × (session.live ≡ true) }
-    requires command_value { asked_of true command ≡ Other }
+    requires command_value { asked_of true command ≡ None }
     requires count_value { session.bench.waiting.count ≡ 0 }
     ensures { AnsweredBy (respond (playing (world_of session store.old log.old)) command)
         result store.new log.new out.old at out.new }
@@ -395,7 +351,7 @@ pub fn play(
     at: usize,
 ) -> Answered
     requires at_in_bounds { at + 256 ≤ length out.old }
-    requires command_value { asked_of session.live command ≡ Other }
+    requires command_value { asked_of session.live command ≡ None }
     requires count_value { session.live ≡ true → session.bench.waiting.count ≡ 0 }
     ensures { AnsweredBy (respond (program_of session store.old log.old) command)
         result store.new log.new out.old at out.new }
@@ -406,33 +362,13 @@ pub fn play(
     play_waiting(session, command, store, out, at)
 }
 
-pub fn ask(live: bool, command: Command) -> Asked
+// The worker and the number of steps, where a line asks a bench that is played for steps.
+pub fn ask(live: bool, command: Command) -> Option<(u32, u32)>
     ensures { result ≡ asked_of live command }
 {
     match command {
-        Command::Open {
-            kind: _,
-            width: _,
-            size: _,
-            workers: _,
-            store: _,
-            words: _,
-        } => Asked::Other,
-        Command::BeginPut {
-            words: _,
-            payload: _,
-        } => Asked::Other,
-        Command::BeginTake => Asked::Other,
-        Command::BeginSteal { worker: _ } => Asked::Other,
-        Command::Steps { worker, times } => {
-            if live {
-                return Asked::Step { worker, times };
-            }
-            Asked::Other
-        }
-        Command::Who { worker: _ } => Asked::Other,
-        Command::End => Asked::Other,
-        Command::Bad => Asked::Other,
+        Command::Steps { worker, times } if live => Some((worker, times)),
+        _ => None,
     }
 }
 
@@ -445,14 +381,7 @@ pub fn refused_at_once(live: bool, bench: Bench, command: Command) -> Result<(),
         return Ok(());
     }
     match command {
-        Command::Open {
-            kind: _,
-            width: _,
-            size: _,
-            workers: _,
-            store: _,
-            words: _,
-        } => Err(Refusal::BadLine),
+        Command::Open { .. } => Err(Refusal::BadLine),
         Command::BeginPut { words, payload } => {
             if words != bench.words {
                 return Err(Refusal::BadLine);
@@ -468,10 +397,7 @@ pub fn refused_at_once(live: bool, bench: Bench, command: Command) -> Result<(),
             let operation = Operation::Steal;
             opening::begin_stop(bench, worker, operation)
         }
-        Command::Steps {
-            worker: _,
-            times: _,
-        } => Ok(()),
+        Command::Steps { .. } => Ok(()),
         Command::Who { worker } => {
             if bench.crew <= worker {
                 return Err(Refusal::NoSuchWorker);

@@ -1,15 +1,8 @@
-use native.Mathlib.Omega.{arith}
-use mathlib.Core.Path.{◌≡◌, ◌∙◌}
-use lib.ListN.{length-set}
-use Rattle.listing.proofs.Cuts.{carry_step, carried}
+use Rattle.std.proofs.Common.{arith, ◌∙◌, ◌+◌, ◌-◌, ap, take, length-drop}
+use Rattle.listing.proofs.Cuts.{carried, moved_front}
 use Rattle.listing.proofs.carry.Goals as goal
 
-pub loop-i-preserved : goal.loop-i-preserved
-loop-i-preserved c = let l = c.loop-i in let a = c.args in
-    let x = carry_step a.buf.now l.buf a.from l.i (omega (arith, l.invariant.3, c.least-k.ensures, c.less.ensures, c.least-to.ensures)) l.invariant.1 l.invariant.2 l.invariant.3 in
-    (omega arith, x.0, x.1, length-set l.buf l.i _ ∙ l.invariant.3)
-
-pub returns : goal.returns
-returns c = let l = c.loop-i in let a = c.args in
-    let e : l.i ≡ c.least-k.result = omega arith in
-    carried a.buf.now a.from a.n c.least-to.result c.least-k.result _ c.least-to.ensures (omega (arith, c.least-k.ensures, c.less.ensures)) (rw (← e) l.invariant.1)
+pub returns-then-k-gt0 : goal.returns-then-k-gt0
+returns-then-k-gt0 c = let a = c.args in let k = c.min-k.result in
+    carried a.buf.now a.from a.n c.min-to.result k _ c.min-to.ensures (omega (arith, c.min-k.ensures, c.saturating_sub.ensures))
+    (ap (take k) c.copy_within.ensures.after ∙ moved_front a.buf.now a.from k (a.from + k - a.from) (omega arith) (omega (arith, length-drop a.from a.buf.now, c.min-k.ensures, c.saturating_sub.ensures, c.min-to.ensures)))

@@ -60,7 +60,7 @@ lines-preserved-in_default c = let l = c.lines in
 pub loop-left-init : goal.loop-left-init
 loop-left-init c = let l = c.lines in
     let s = session_of l.live l.long l.bench in
-    let v = asked_live l.live c.parse-command.result c.in-Step.worker c.in-Step.times (sym c.ask-asked.ensures ∙ c.in-Step.is) in
+    let v = asked_live l.live c.parse-command.result c.in-Some.worker c.in-Some.times (sym c.ask-asked.ensures ∙ c.in-Some.is) in
     (stepping_start s l.store l.log _ _ l.out l.wrote v, reached_of s l.store l.log v l.invariant.0.reach, refl, refl, refl)
 
 pub lines-preserved : goal.lines-preserved
@@ -68,7 +68,7 @@ lines-preserved c = let l = c.lines in
     let s = session_of l.live l.long l.bench in
     let k = c.loop-left in (
       standing_on _ _ s l.store l.log l.out l.used l.wrote _ _ _ _ _ _ l.invariant.0 c.line_end-end.ensures c.if-end-buf.false (let z : l.wrote + 256 ≤ length l.out = omega (arith, l.invariant.0.fits, l.invariant.3, c.if-most-wrote-lt-LONGEST.false) in z) c.parse-command.ensures
-          (steps_by s _ _ _ _ _ _ _ _ _ _ _ (sym c.ask-asked.ensures ∙ c.in-Step.is) (stepping_over _ _ _ _ _ _ k.left _ _ _ _ k.invariant.0 (omega (arith, c.loop-left-test.false)))) (refl),
+          (steps_by s _ _ _ _ _ _ _ _ _ _ _ (sym c.ask-asked.ensures ∙ c.in-Some.is) (stepping_over _ _ _ _ _ _ k.left _ _ _ _ k.invariant.0 (omega (arith, c.loop-left-test.false)))) (refl),
       k.invariant.2 ∙ l.invariant.1,
       k.invariant.3 ∙ l.invariant.2,
       k.invariant.4 ∙ l.invariant.3,
@@ -84,16 +84,16 @@ pub step_in-moved-requires : goal.step_in-moved-requires
 step_in-moved-requires c = let l = c.lines in
     let k = c.loop-left in
     let e = c.span-n.ensures ∙ ap (min l.long) (sym k.invariant.2) in
-    steppable (lent k.bench (take c.span-n.result k.store) k.log) c.in-Step.worker c.place_of-i.result
+    steppable (lent k.bench (take c.span-n.result k.store) k.log) c.in-Some.worker c.place_of-i.result
     (within_front k.bench l.long _ c.place_of-i.result k.store k.log e k.invariant.1 c.room_at-room.ensures)
-    (once_of k.bench l.long k.store k.log c.in-Step.worker k.invariant.1) c.place_of-i.ensures.1
+    (once_of k.bench l.long k.store k.log c.in-Some.worker k.invariant.1) c.place_of-i.ensures.1
 
 pub show-wrote-requires-in-Refused : goal.show-wrote-requires-in-Refused
 show-wrote-requires-in-Refused c = let l = c.lines in
     let k = c.loop-left in
     let e = c.span-n.ensures ∙ ap (min l.long) (sym k.invariant.2) in
     let b = k.bench in
-    let i = c.in-Step.worker in
+    let i = c.in-Some.worker in
     let place = c.place_of-i.result in
     let to = c.step_in-moved.result.line in
     let made = c.step_in-moved.result.made in
@@ -109,7 +109,7 @@ lines-preserved-in-Refused c = let l = c.lines in
     let k = c.loop-left in
     let e = c.span-n.ensures ∙ ap (min l.long) (sym k.invariant.2) in
     let b = k.bench in
-    let i = c.in-Step.worker in
+    let i = c.in-Some.worker in
     let place = c.place_of-i.result in
     let to = c.step_in-moved.result.line in
     let made = c.step_in-moved.result.made in
@@ -121,7 +121,7 @@ lines-preserved-in-Refused c = let l = c.lines in
     let why = c.in-Refused.why in
     let by = refuses b place to made step why c.in-Refused.is in (
       standing_on _ _ s l.store l.log l.out l.used l.wrote _ _ _ _ _ _ l.invariant.0 c.line_end-end.ensures c.if-end-buf.false (let z : l.wrote + 256 ≤ length l.out = omega (arith, l.invariant.0.fits, l.invariant.3, c.if-most-wrote-lt-LONGEST.false) in z) c.parse-command.ensures
-          (steps_by s _ _ _ _ _ _ _ _ _ _ _ (sym c.ask-asked.ensures ∙ c.in-Step.is) (stepping_stops _ _ _ _ _ _ k.left _ _ _ _ k.invariant.0 c.loop-left-test.true t (Refused why) _ _ by k.invariant.0.live _ _ c.show-wrote-in-Refused.ensures refl)) refl,
+          (steps_by s _ _ _ _ _ _ _ _ _ _ _ (sym c.ask-asked.ensures ∙ c.in-Some.is) (stepping_stops _ _ _ _ _ _ k.left _ _ _ _ k.invariant.0 c.loop-left-test.true t (Refused why) _ _ by k.invariant.0.live _ _ c.show-wrote-in-Refused.ensures refl)) refl,
       back_length c.span-n.result k.store c.step_in-moved.new.store c.step_in-moved.auto.store ∙ k.invariant.2 ∙ l.invariant.1,
       c.step_in-moved.auto.log ∙ k.invariant.3 ∙ l.invariant.2,
       c.show-wrote-in-Refused.auto.out ∙ k.invariant.4 ∙ l.invariant.3,
@@ -133,7 +133,7 @@ loop-left-preserved-in-Fails c = let l = c.lines in
     let k = c.loop-left in
     let e = c.span-n.ensures ∙ ap (min l.long) (sym k.invariant.2) in
     let b = k.bench in
-    let i = c.in-Step.worker in
+    let i = c.in-Some.worker in
     let place = c.place_of-i.result in
     let to = c.step_in-moved.result.line in
     let made = c.step_in-moved.result.made in
@@ -154,7 +154,7 @@ show-wrote-requires-in_default-made c = let l = c.lines in
     let k = c.loop-left in
     let e = c.span-n.ensures ∙ ap (min l.long) (sym k.invariant.2) in
     let b = k.bench in
-    let i = c.in-Step.worker in
+    let i = c.in-Some.worker in
     let place = c.place_of-i.result in
     let to = c.step_in-moved.result.line in
     let made = c.step_in-moved.result.made in
@@ -170,7 +170,7 @@ loop-left-preserved-in_default-made c = let l = c.lines in
     let k = c.loop-left in
     let e = c.span-n.ensures ∙ ap (min l.long) (sym k.invariant.2) in
     let b = k.bench in
-    let i = c.in-Step.worker in
+    let i = c.in-Some.worker in
     let place = c.place_of-i.result in
     let to = c.step_in-moved.result.line in
     let made = c.step_in-moved.result.made in
@@ -194,7 +194,7 @@ loop-left-preserved c = let l = c.lines in
     let k = c.loop-left in
     let e = c.span-n.ensures ∙ ap (min l.long) (sym k.invariant.2) in
     let b = k.bench in
-    let i = c.in-Step.worker in
+    let i = c.in-Some.worker in
     let place = c.place_of-i.result in
     let to = c.step_in-moved.result.line in
     let made = c.step_in-moved.result.made in

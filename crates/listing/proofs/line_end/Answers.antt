@@ -9,15 +9,15 @@ use Rattle.listing.proofs.line_end.Goals as goal
 
 pub returns-then-buf-i-eq10 : goal.returns-then-buf-i-eq10
 returns-then-buf-i-eq10 c = let l = c.loop-i in let s = c.args.buf.now in
-    let e : length (until_newline (drop l.i s)) ≡ 0 = rw (next s l.i (omega arith), front_newline _ (drop (l.i + 1) s) c.if-buf-i-eq10.true) in
-    omega arith
+    let e : length (until_newline (drop l.i s)) ≡ 0 = rw (next s l.i c.loop-i-test.true, front_newline _ (drop (l.i + 1) s) c.if-buf-i-eq10.true) in
+    omega (arith, l.invariant)
 
 pub loop-i-preserved : goal.loop-i-preserved
 loop-i-preserved c = let l = c.loop-i in let s = c.args.buf.now in
-    let e : length (until_newline (drop l.i s)) ≡ length (until_newline (drop (l.i + 1) s)) + 1 = rw (next s l.i (omega arith), front_more _ (drop (l.i + 1) s) c.if-buf-i-eq10.false) (omega arith) in
-    (omega arith, omega arith)
+    let e : length (until_newline (drop l.i s)) ≡ length (until_newline (drop (l.i + 1) s)) + 1 = rw (next s l.i c.loop-i-test.true, front_more _ (drop (l.i + 1) s) c.if-buf-i-eq10.false) (omega arith) in
+    omega (arith, l.invariant)
 
 pub returns : goal.returns
 returns c = let l = c.loop-i in let s = c.args.buf.now in
-    let e : length (until_newline (drop l.i s)) ≡ 0 = rw (done s l.i (omega arith), front_none) in
-    omega arith
+    let e : length (until_newline (drop l.i s)) ≡ 0 = rw (done s l.i c.loop-i-test.false, front_none) in
+    omega (arith, l.invariant, l.auto.i-end c.requires)

@@ -2,10 +2,10 @@ use mathlib.Core.Path.{refl}
 use Rattle.model.specs.Tests.{when◌then◌else◌}
 use Rattle.replies.proofs.ask.Goals as goal
 
-pub returns-then-live : goal.returns-then-live
+pub returns-in-Steps : goal.returns-in-Steps
 unfolding when◌then◌else◌
-returns-then-live c = rw (c.in-Steps.is, c.if-live.true) refl
+returns-in-Steps c = rw (c.in-Steps.is, c.if-live.true) refl
 
-pub returns-else-live : goal.returns-else-live
+pub returns-in_default : goal.returns-in_default
 unfolding when◌then◌else◌
-returns-else-live c = rw (c.in-Steps.is, c.if-live.false) refl
+returns-in_default c = rw (c.in-Steps.is, c.if-live.false) refl

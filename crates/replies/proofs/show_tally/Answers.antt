@@ -14,4 +14,4 @@ show-requires c = omega (arith, answer_most 0 (Refused c.in-Err.why))
 
 pub returns-in-Ok : goal.returns-in-Ok
 unfolding shown
-returns-in-Ok c = rw c.in-Ok.is (shows_one _ _ _ refl _ _ _ _ c.print.ensures)
+returns-in-Ok c = rw c.in-Ok.is (shows_one _ _ _ refl _ _ _ _ (rw (c.from.ensures, c.from-in-Ok.ensures) at c.print.ensures))
