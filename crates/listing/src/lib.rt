@@ -13,7 +13,7 @@ use model::{Answer, Worker};
 use replies::{LONGEST, Session};
 
 // What consuming a buffer left: the session, how many bytes were played and how many written, and whether an accepted `end` was
-// among them.
+// among them. The flag stands beside the values since the definition `ConsumedBy` reads all four after an `end` too.
 #[derive(Clone, Copy)]
 pub struct Consumed {
     pub session: Session,
@@ -38,7 +38,9 @@ fn line_end(buf: &[u8], at: usize) -> usize
 // Plays the lines of the buffer that end in a newline, as long as the output has room for another line's text. `step I M` is
 // M steps, stopping at the first refusal. The bench stays in place where it can: a step that changes its worker's record alone
 // replaces that record, a compare that fails counts a restart beside it, and what is refused leaves it alone. A bench that a
-// `queue` of this program made is never foreign, so the limits are not tested at each step.
+// `queue` of this program made is never foreign, so the limits are not tested at each step. The parts of the session are locals for
+// that: a step writes them where they stand. The inner loop counts down, since what is proved of it (`Stepping`) takes the steps that
+// are left; the outer one ends in four places and moves on by lines, so a range would count nothing.
 pub fn consume(
     session: Session,
     buf: &[u8],

@@ -39,31 +39,17 @@ fn call(
     ensures { left result store.new log.new
         ≡ call_of (lent bench.state store.old log.old) (call_by operation worker payload) }
 {
-    if operation == 1 {
-        return bench.begin(worker, Operation::Put { payload }, store, log);
+    match operation {
+        1 => bench.begin(worker, Operation::Put { payload }, store, log),
+        2 => bench.begin(worker, Operation::Take, store, log),
+        3 => bench.begin(worker, Operation::Steal, store, log),
+        4 => bench.drop_link(worker, store, log),
+        5 => bench.drain(store, log),
+        6 => bench.begin(worker, Operation::Commit, store, log),
+        7 => bench.ask(worker, store, log),
+        8 => bench.drop_ask(worker, store, log),
+        _ => bench.step(worker, store, log),
     }
-    if operation == 2 {
-        return bench.begin(worker, Operation::Take, store, log);
-    }
-    if operation == 3 {
-        return bench.begin(worker, Operation::Steal, store, log);
-    }
-    if operation == 4 {
-        return bench.drop_link(worker, store, log);
-    }
-    if operation == 5 {
-        return bench.drain(store, log);
-    }
-    if operation == 6 {
-        return bench.begin(worker, Operation::Commit, store, log);
-    }
-    if operation == 7 {
-        return bench.ask(worker, store, log);
-    }
-    if operation == 8 {
-        return bench.drop_ask(worker, store, log);
-    }
-    bench.step(worker, store, log)
 }
 
 // The log entry of an answer that ends an operation, with four payload words.
@@ -93,33 +79,12 @@ pub fn words_of(answer: Answer) -> [u32; 7]
         Answer::Accepted => [0, 1, 0, 0, 0, 0, 0],
         Answer::Numbered { number } => [0, 2, number, 0, 0, 0, 0],
         Answer::Refused { why } => [0, 3, queues::number_of(why), 0, 0, 0, 0],
-        Answer::Finished { worker: _, task: _ } => entered(answer),
-        Answer::HandedOut { worker: _, task: _ } => entered(answer),
-        Answer::Empty { worker: _ } => entered(answer),
-        Answer::Full { worker: _, task: _ } => entered(answer),
-        Answer::Grown { worker: _ } => entered(answer),
+        Answer::Finished { .. } => entered(answer),
+        Answer::HandedOut { .. } => entered(answer),
+        Answer::Empty { .. } => entered(answer),
+        Answer::Full { .. } => entered(answer),
+        Answer::Grown { .. } => entered(answer),
     }
-}
-
-// Puts an answer's words into the answers from word `at` on.
-fn write(answers: &mut [u32], at: usize, words: [u32; 7])
-    requires { at + answer_words ≤ length answers.old }
-    ensures { answers.new ≡ paste answers.old at words answer_words }
-{
-    let mut i = 0;
-    while i < ANSWER {
-        answers[at + i] = words[i];
-        i += 1;
-    }
-}
-
-fn least(a: usize, b: usize) -> usize
-    ensures { result ≡ min a b }
-{
-    if a < b {
-        return a;
-    }
-    b
 }
 
 // Plays the calls, as many as both slices hold whole, and puts their answers into `answers`.
@@ -137,30 +102,23 @@ pub fn play(
         ≡ all_as_words (played (lent bench.state store.old log.old) (calls_from calls.now result.made))
         ++ drop (result.made * answer_words) answers.old }
 {
-    let all = least(calls.len() / CALL, answers.len() / ANSWER);
+    let all = (calls.len() / CALL).min(answers.len() / ANSWER);
     let mut current = bench;
-    let mut made = 0;
-    while made < all {
+    for made in 0..all {
         let at = made * CALL;
         let to = made * ANSWER;
-        let first = calls[at + 2];
-        let second = calls[at + 3];
-        let third = calls[at + 4];
-        let fourth = calls[at + 5];
         let payload = Payload {
-            first,
-            second,
-            third,
-            fourth,
+            first: calls[at + 2],
+            second: calls[at + 3],
+            third: calls[at + 4],
+            fourth: calls[at + 5],
         };
         let reply = call(current, calls[at], calls[at + 1], payload, store, log);
-        let answer = reply.answer;
-        write(answers, to, words_of(answer));
+        answers[to..to + ANSWER].copy_from_slice(&words_of(reply.answer));
         current = reply.bench;
-        made += 1;
     }
     Ended {
         bench: current,
-        made,
+        made: all,
     }
 }

@@ -34,7 +34,8 @@ use model::{Answer, Bench, Command, Operation, Payload, Refusal, Setup};
 // lines. A line is played only where the output has room for it.
 pub const LONGEST: usize = 256;
 
-// The program between two lines: whether a `queue` was accepted, and then its bench, on the first `long` words of the store.
+// The program between two lines: whether a `queue` was accepted, and then its bench, on the first `long` words of the store. The flag
+// stands beside them since the definition `program_of` reads it there, and `consume` keeps the bench in place from line to line.
 #[derive(Clone, Copy)]
 pub struct Session {
     pub live: bool,
@@ -42,7 +43,8 @@ pub struct Session {
     pub bench: Bench,
 }
 
-// What a line left: the session, where its text ends in the output, whether it was an accepted `end`.
+// What a line left: the session, where its text ends in the output, whether it was an accepted `end`. After one the text counts too,
+// so the flag excludes no other value (`AnsweredBy`).
 #[derive(Clone, Copy)]
 pub struct Answered {
     pub session: Session,

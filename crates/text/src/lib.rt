@@ -31,6 +31,7 @@ const STORE: u32 = 10235;
 
 const STEPS: u32 = 65535;
 
+// Whether two texts are the same.
 pub fn same(a: &[u8], b: &[u8]) -> bool
     ensures { result ≡ same_of a.now b.now }
 {
@@ -165,7 +166,7 @@ pub fn numbers(line: &[u8], v: &mut [u32]) -> Option<usize>
     None
 }
 
-// What a line says.
+// What a line says. The numbers lie in an array, since the library allocates nothing, and go on as a slice.
 pub fn parse(line: &[u8]) -> Command
     ensures { result ≡ command_of line.now }
 {
@@ -177,7 +178,8 @@ pub fn parse(line: &[u8]) -> Command
     form(key, &v[..n])
 }
 
-// Puts n's digits into out from at on, and answers where they end.
+// Puts n's digits into out from at on, and answers where they end. `Display` would put them into a formatter's buffer, and the clause
+// speaks of the caller's.
 pub fn decimal(out: &mut [u8], at: usize, n: u64) -> usize
     requires { at + length (decimal_of n) ≤ length out.old }
     ensures { Placed out.old at (decimal_of n) result out.new }
