@@ -1,43 +1,43 @@
 // A bench alone: what a line asks of it.
-ghost use Rattle.std.specs.Prelude.{◌≡◌, ◌≤◌, length};
-
-use crate::output::Text;
-use call_text::{Call, Request};
-use model::Setup;
+use crate::output::Output;
+use call_text::{Act, Call, Request};
+use model::{Operation, Payload};
 use queues::Bench;
+use streams::Failure;
 
-// What a line left.
-#[derive(Clone, Copy)]
-pub struct After {
-    pub bench: Bench,
-    pub text: Text,
-}
+// So many calls are made at once.
+const MANY: usize = 32;
 
-// Makes it anew; a refused one is none.
-pub fn fresh(setup: Setup, store: &mut [u32], text: Text, out: &mut [u8]) -> After
-    requires { (text.end ≤ length out.old) × (128 ≤ length out.old) }
-    ensures { result.text.end ≤ length out.new }
-{
-    let made = Bench::fresh(setup, store);
-    let answer = made.answer;
-    let shown = crate::output::show_reply(text, setup.words, answer, out);
-    let bench = made.bench;
-    After { bench, text: shown }
-}
+const NO_PAYLOAD: Payload = Payload {
+    first: 0,
+    second: 0,
+    third: 0,
+    fourth: 0,
+};
 
-// A call, again and again.
-fn fill_calls(calls: &mut [u32], call: Call) {
-    let payload = call.payload;
-    let mut at = 0;
-    while plays::CALL <= calls.len() - at {
-        calls[at] = call.operation;
-        calls[at + 1] = call.worker;
-        calls[at + 2] = payload.first;
-        calls[at + 3] = payload.second;
-        calls[at + 4] = payload.third;
-        calls[at + 5] = payload.fourth;
-        at += plays::CALL;
-    }
+// A call's words, as `plays` has them: operation, worker and payload.
+fn words_of(call: Call) -> [u32; plays::CALL] {
+    let (operation, payload) = match call.act {
+        Act::Step => (0, NO_PAYLOAD),
+        Act::Begin { operation } => match operation {
+            Operation::Put { payload } => (1, payload),
+            Operation::Take => (2, NO_PAYLOAD),
+            Operation::Steal => (3, NO_PAYLOAD),
+            Operation::Commit => (6, NO_PAYLOAD),
+        },
+        Act::DropLink => (4, NO_PAYLOAD),
+        Act::Drain => (5, NO_PAYLOAD),
+        Act::Ask => (7, NO_PAYLOAD),
+        Act::DropAsk => (8, NO_PAYLOAD),
+    };
+    [
+        operation,
+        call.worker,
+        payload.first,
+        payload.second,
+        payload.third,
+        payload.fourth,
+    ]
 }
 
 // Makes up to 32 calls.
@@ -46,51 +46,36 @@ fn make_some(
     calls: &[u32],
     store: &mut [u32],
     log: &mut [u32],
-    text: Text,
-    out: &mut [u8],
-) -> After
-    requires { (text.end ≤ length out.old) × (128 ≤ length out.old) }
-    ensures { result.text.end ≤ length out.new }
-{
-    let mut answers = [0u32; 224];
+    out: &mut Output,
+) -> Result<Bench, Failure> {
+    let mut answers = [0u32; MANY * plays::ANSWER];
     let run = plays::play(bench, calls, store, log, &mut answers);
-    let made = run.made * plays::ANSWER;
-    let next = run.bench;
-    let state = next.state;
-    let shown = crate::output::show_answers(text, state.words, &answers[..made], out);
-    After {
-        bench: next,
-        text: shown,
+    let words = run.bench.state.words;
+    for answer in answers.chunks_exact(plays::ANSWER).take(run.made) {
+        out.answer(words, answer)?;
     }
+    Ok(run.bench)
 }
 
-// Makes a call so many times, of which `calls` holds 32: memory does not grow with their number.
+// Makes a call so many times, some at once: memory does not grow with their number.
 fn make_calls(
     bench: Bench,
-    calls: &[u32],
-    times: u32,
+    call: Call,
+    times: usize,
     store: &mut [u32],
     log: &mut [u32],
-    text: Text,
-    out: &mut [u8],
-) -> After
-    requires end_in_bounds { (text.end ≤ length out.old) × (128 ≤ length out.old) }
-    requires in_bounds { 192 ≤ length calls.now }
-    ensures { result.text.end ≤ length out.new }
-{
-    let mut made = After { bench, text };
-    let mut left = times as usize;
-    while 0 < left {
-        let n = crate::least(left, 32);
-        let words = n * plays::CALL;
-        made = make_some(made.bench, &calls[..words], store, log, made.text, out);
-        let shown = made.text;
-        if !shown.good {
-            return made;
-        }
-        left -= n;
+    out: &mut Output,
+) -> Result<Bench, Failure> {
+    let mut calls = [0u32; MANY * plays::CALL];
+    for words in calls.chunks_exact_mut(plays::CALL) {
+        words.copy_from_slice(&words_of(call));
     }
-    made
+    let mut bench = bench;
+    for _ in 0..times / MANY {
+        bench = make_some(bench, &calls, store, log, out)?;
+    }
+    let rest = times % MANY * plays::CALL;
+    make_some(bench, &calls[..rest], store, log, out)
 }
 
 // Asks the bench, on the words that it is lent.
@@ -99,30 +84,15 @@ pub fn ask(
     asked: Request,
     store: &mut [u32],
     log: &mut [u32],
-    text: Text,
-    out: &mut [u8],
-) -> After
-    requires { (text.end ≤ length out.old) × (128 ≤ length out.old) }
-    ensures { result.text.end ≤ length out.new }
-{
+    out: &mut Output,
+) -> Result<Bench, Failure> {
     match asked {
-        Request::Front => {
-            let shown = crate::output::show_front(text, bench.front(log), out);
-            After { bench, text: shown }
-        }
-        Request::Who { worker } => {
-            let tally = bench.who(worker, store, log);
-            let shown = crate::output::show_tally(text, worker, tally, out);
-            After { bench, text: shown }
-        }
-        Request::State => {
-            let shown = crate::output::show_state(text, bench.state, store, out);
-            After { bench, text: shown }
-        }
+        Request::Front => out.front(bench.front(log))?,
+        Request::Who { worker } => out.tally(worker, bench.who(worker, store, log))?,
+        Request::State => out.state(&bench.state, store)?,
         Request::Calls { call, times } => {
-            let mut calls = [0u32; 192];
-            fill_calls(&mut calls, call);
-            make_calls(bench, &calls, times, store, log, text, out)
+            return make_calls(bench, call, times as usize, store, log, out);
         }
     }
+    Ok(bench)
 }

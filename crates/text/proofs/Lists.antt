@@ -2,13 +2,14 @@
 use Prim.Native.Nat.{ℕ, suc, ◌+◌, ◌≤◌, ◌<◌}
 use native.Mathlib.Numerals.{add-one}
 use native.Mathlib.Omega.{arith}
-use mathlib.Core.Path.{◌≡◌, refl, ap, ◌∙◌}
-use mathlib.Core.Bool.{Bool, true, false}
+use mathlib.Core.Path.{◌≡◌, refl, ap, sym, ◌∙◌}
+use mathlib.Core.Bool.{Bool, true, false, ◌&&◌}
 use mathlib.Core.List.{List, [], ◌∷◌, ◌++◌}
 use lib.ListN.{length, get_or, drop, set}
 use lib.Seq.{drop-cons, sets}
 use lib.Dec.{eqb}
 use Rattle.model.specs.Tests.{◌and◌, when◌then◌else◌}
+use Rattle.std.specs.Cmp.Lexicographic.{pointwise}
 use Rattle.text.specs.Same.{same}
 
 pub next : (s : List ℕ) (i : ℕ) → i < length s → drop i s ≡ get_or s i 0 ∷ drop (i + 1) s
@@ -41,27 +42,20 @@ and_right true b e = e
 and_right false true e = refl
 and_right false false e = e
 
-pub same_end : (b : List ℕ) (i : ℕ) → length b ≤ i → (x : ℕ) (s : List ℕ) → same (x ∷ s) (drop i b) ≡ false
-unfolding same
-same_end b i h x s = rw (done b i h)
-
-pub same_step : (x : ℕ) (s t : List ℕ) → same (x ∷ s) (x ∷ t) ≡ same s t
+-- `==` on slices
+pub same_is : (a b : List ℕ) → pointwise eqb a b ≡ same a b
 unfolding same ◌and◌
-same_step x s t = rw (borrow.Author.Tests.eq-eqb x x refl)
-
-pub same_differ : (x y : ℕ) (s t : List ℕ) → (x ≡ y → ⊥) → same (x ∷ s) (y ∷ t) ≡ false
-unfolding same ◌and◌
-same_differ x y s t h = rw (borrow.Author.Tests.ne_eqb x y h)
-
-pub same_rest : (b : List ℕ) (i : ℕ) → i ≤ length b → same [] (drop i b) ≡ eqb i (length b)
-unfolding same
-same_rest b i h = go (eqb i (length b)) refl
+same_is [] [] = refl
+same_is [] (y ∷ b) = refl
+same_is (x ∷ a) [] = refl
+same_is (x ∷ a) (y ∷ b) = go (eqb x y) (same_is a b)
   where
-    go : (t : Bool) → eqb i (length b) ≡ t → same [] (drop i b) ≡ t
-    go true e = let q : i ≡ length b = borrow.Author.Tests.eqb-true i (length b) e in rw (done b i (omega arith))
-    go false e =
-        let q : i ≡ length b → ⊥ = borrow.Author.Tests.eqb-false i (length b) e in
-        rw (next b i (omega arith))
+    go : (t : Bool) → pointwise eqb a b ≡ same a b → (t && pointwise eqb a b) ≡ (t and same a b)
+    go true e = e
+    go false e = refl
+
+pub said : {r t : Bool} (a s b : List ℕ) → r ≡ pointwise eqb a s → s ≡ b → r ≡ t → same a b ≡ t
+said a s b h e q = sym (same_is a b) ∙ ap (pointwise eqb a) (sym e) ∙ sym h ∙ q
 
 -- text placed behind text
 pub sets_append : (l : List ℕ) (i : ℕ) (a b : List ℕ) → sets (sets l i a) (i + length a) b ≡ sets l i (a ++ b)

@@ -13,8 +13,8 @@ use Rattle.text.specs.Same.{same}
 use Rattle.text.specs.Numbers.{all_digits, plain, onward, value_of}
 use Rattle.text.specs.Words.{onto, words, head, tail}
 use Rattle.text.specs.Commands.{Values, wrong, these, joined, values, formed, formed_of, key_of, command_of}
-use Rattle.text.specs.declared.Value.{Value}
-use Rattle.text.specs.declared.Value.TheVariants.{No, Of}
+use Rattle.std.specs.declared.option.Option.{Option}
+use Rattle.std.specs.declared.option.Option.TheVariants.{None, Some}
 use Rattle.text.specs.declared.Key as key
 use Rattle.text.specs.declared.Key.{Key}
 use Rattle.model.specs.declared.Command.TheVariants.{Bad}
@@ -38,7 +38,7 @@ big b d s h k =
     let up : v * 10 ^ suc (length s) ≤ onward v (d ∷ s) = onward_pow v (d ∷ s) in
     omega arith
 
-pub number_long : (w : List ℕ) → 10 < length w → value_of w ≡ No
+pub number_long : (w : List ℕ) → 10 < length w → value_of w ≡ None
 number_long [] h = absurd (let z : ⊥ = omega arith in z)
 number_long (b ∷ []) h = absurd (let z : ⊥ = omega arith in z)
 number_long (b ∷ (d ∷ s)) h = unfold value_of in go (plain (b ∷ (d ∷ s)) and all_digits (b ∷ (d ∷ s)) and leb (onward 0 (b ∷ (d ∷ s))) 4294967295) refl
@@ -49,7 +49,7 @@ number_long (b ∷ (d ∷ s)) h = unfold value_of in go (plain (b ∷ (d ∷ s))
     first : all_digits (b ∷ (d ∷ s)) ≡ true → 48 ≤ b
     first e = unfold all_digits in leb-true 48 b (and_left _ _ e)
 
-    go : (t : Bool) → (plain (b ∷ (d ∷ s)) and all_digits (b ∷ (d ∷ s)) and leb (onward 0 (b ∷ (d ∷ s))) 4294967295) ≡ t → (when t then Of (onward 0 (b ∷ (d ∷ s))) else No) ≡ No
+    go : (t : Bool) → (plain (b ∷ (d ∷ s)) and all_digits (b ∷ (d ∷ s)) and leb (onward 0 (b ∷ (d ∷ s))) 4294967295) ≡ t → (when t then Some (onward 0 (b ∷ (d ∷ s))) else None) ≡ None
     go false e = if_false _ _ _ refl
     go true e =
         let p = lead (and_left _ _ e) in
@@ -76,11 +76,11 @@ size_words (b ∷ s) = go (eqb b 32) (size_words s) (Rattle.text.proofs.Split.sp
     go true e f = rw (if_true true ([] ∷ words s) (onto b (words s)) refl) (unfold head tail in (let g : size (words s) ≡ 1 + length (head (words s)) + size (tail (words s)) = rw f (unfold size in refl) in omega arith))
     go false e f = rw (if_false false ([] ∷ words s) (onto b (words s)) refl) (omega (arith, size_onto b (words s)))
 
-number_most : (w : List ℕ) (x : ℕ) → value_of w ≡ Of x → length w ≤ 10
+number_most : (w : List ℕ) (x : ℕ) → value_of w ≡ Some x → length w ≤ 10
 number_most w x e = go (ltb 10 (length w)) refl
   where
     go : (t : Bool) → ltb 10 (length w) ≡ t → length w ≤ 10
-    go true h = let q : No ≡ Of x = sym (number_long w (ltb-true 10 (length w) h)) ∙ e in absurd (let z : ◌≡◌ {A = ℕ} 0 1 = cc in let y : ⊥ = omega arith in y)
+    go true h = let q : None ≡ Some x = sym (number_long w (ltb-true 10 (length w) h)) ∙ e in absurd (let z : ◌≡◌ {A = ℕ} 0 1 = cc in let y : ⊥ = omega arith in y)
     go false h = ltb-false 10 (length w) h
 
 -- as many values, each of at most ten digits
@@ -89,10 +89,10 @@ unfolding size joined values
 values_size [] v e = omega arith
 values_size (w ∷ ws) v e = go (value_of w) refl (values ws) refl (values_size ws) e
   where
-    go : (n : Value) → value_of w ≡ n → (vs : Values) → values ws ≡ vs → ((u : List ℕ) → values ws ≡ these u → size ws ≤ 11 * length u) → joined n vs ≡ these v → size (w ∷ ws) ≤ 11 * length v
-    go No p vs q h f = absurd (let z : ◌≡◌ {A = ℕ} 0 1 = cc in let y : ⊥ = omega arith in y)
-    go (Of x) p wrong q h f = absurd (let z : ◌≡◌ {A = ℕ} 0 1 = cc in let y : ⊥ = omega arith in y)
-    go (Of x) p (these u) q h f =
+    go : (n : Option ℕ) → value_of w ≡ n → (vs : Values) → values ws ≡ vs → ((u : List ℕ) → values ws ≡ these u → size ws ≤ 11 * length u) → joined n vs ≡ these v → size (w ∷ ws) ≤ 11 * length v
+    go None p vs q h f = absurd (let z : ◌≡◌ {A = ℕ} 0 1 = cc in let y : ⊥ = omega arith in y)
+    go (Some x) p wrong q h f = absurd (let z : ◌≡◌ {A = ℕ} 0 1 = cc in let y : ⊥ = omega arith in y)
+    go (Some x) p (these u) q h f =
         let k : x ∷ u ≡ v = cc in
         let l : suc (length u) ≡ length v = ap length k in
         omega (arith, number_most w x p, h u q)

@@ -11,7 +11,7 @@ use lib.Dec.{ltb, leb}
 use borrow.Author.Tests.{lt-ltb, le-ltb, le-leb, ltb-true, ltb-false, ne_eqb}
 use Rattle.model.specs.Tests.{◌and◌, when◌then◌else◌}
 use Rattle.text.specs.Numbers.{all_digits, plain, onward, value_of, spelled, decimal_of, Placed, spaced_of, line_of}
-use Rattle.text.specs.declared.Value.TheVariants.{Of}
+use Rattle.std.specs.declared.option.Option.TheVariants.{Some}
 use Rattle.text.proofs.Lists.{if_true, if_false, sets_append, next}
 use Rattle.text.proofs.Digits.{plain_more}
 
@@ -123,7 +123,7 @@ spells (suc k) n h = below n
     rw e at r))
 
 -- Reading a printed number gives the number back.
-pub read_back : (n : ℕ) → n ≤ 4294967295 → value_of (decimal_of n) ≡ Of n
+pub read_back : (n : ℕ) → n ≤ 4294967295 → value_of (decimal_of n) ≡ Some n
 unfolding value_of decimal_of ◌and◌ when◌then◌else◌
 read_back n h =
     let s = spells 19 n (omega arith) in

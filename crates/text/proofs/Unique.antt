@@ -14,8 +14,8 @@ use Rattle.text.specs.Same.{same}
 use Rattle.text.specs.Numbers.{all_digits, plain, onward, value_of, decimal_of, spaced_of}
 use Rattle.text.specs.Words.{onto, words, head, tail}
 use Rattle.text.specs.Commands.{Values, wrong, these, joined, values, formed, formed_of, key_of, command_of, payload_of, first_of, Small, text_of, short_text, InRange, Says}
-use Rattle.text.specs.declared.Value.{Value}
-use Rattle.text.specs.declared.Value.TheVariants.{No, Of}
+use Rattle.std.specs.declared.option.Option.{Option}
+use Rattle.std.specs.declared.option.Option.TheVariants.{None, Some}
 use Rattle.text.specs.declared.Key as key
 use Rattle.text.specs.declared.Key.{Key}
 use Rattle.model.specs.declared.Command.TheVariants.{Open}
@@ -96,11 +96,11 @@ one_text s t ps ds pt dt q = (same_digits s t 0 0 lengths ds dt q).1
         go false e false f = let h : length t ≤ length s = ltb-false _ _ e in let k : length s ≤ length t = ltb-false _ _ f in omega arith
 
 -- A word is read as a number only if it is how that number is printed.
-pub number_is : (w : List ℕ) (n : ℕ) → value_of w ≡ Of n → (w ≡ decimal_of n) × (n ≤ 4294967295)
+pub number_is : (w : List ℕ) (n : ℕ) → value_of w ≡ Some n → (w ≡ decimal_of n) × (n ≤ 4294967295)
 unfolding value_of when◌then◌else◌
 number_is w n q = go (plain w and all_digits w and leb (onward 0 w) 4294967295) refl q
   where
-    go : (x : Bool) → (plain w and all_digits w and leb (onward 0 w) 4294967295) ≡ x → (when x then Of (onward 0 w) else No) ≡ Of n → (w ≡ decimal_of n) × (n ≤ 4294967295)
+    go : (x : Bool) → (plain w and all_digits w and leb (onward 0 w) 4294967295) ≡ x → (when x then Some (onward 0 w) else None) ≡ Some n → (w ≡ decimal_of n) × (n ≤ 4294967295)
     go false e f = absurd (let z : ◌≡◌ {A = ℕ} 0 1 = cc in let y : ⊥ = omega arith in y)
     go true e f =
         let v : onward 0 w ≡ n = cc in
@@ -136,10 +136,10 @@ unfolding joined values glue spaced_of
 values_are [] v e = let q : [] ≡ v = cc in subst (λ (l : List ℕ). ([] ≡ spaced_of l) × Small l) q (refl, tt)
 values_are (w ∷ ws) v e = go (value_of w) refl (values ws) refl (values_are ws) e
   where
-    go : (n : Value) → value_of w ≡ n → (vs : Values) → values ws ≡ vs → ((u : List ℕ) → values ws ≡ these u → (glue ws ≡ spaced_of u) × Small u) → joined n vs ≡ these v → (glue (w ∷ ws) ≡ spaced_of v) × Small v
-    go No p vs q h f = absurd (let z : ◌≡◌ {A = ℕ} 0 1 = cc in let y : ⊥ = omega arith in y)
-    go (Of x) p wrong q h f = absurd (let z : ◌≡◌ {A = ℕ} 0 1 = cc in let y : ⊥ = omega arith in y)
-    go (Of x) p (these u) q h f =
+    go : (n : Option ℕ) → value_of w ≡ n → (vs : Values) → values ws ≡ vs → ((u : List ℕ) → values ws ≡ these u → (glue ws ≡ spaced_of u) × Small u) → joined n vs ≡ these v → (glue (w ∷ ws) ≡ spaced_of v) × Small v
+    go None p vs q h f = absurd (let z : ◌≡◌ {A = ℕ} 0 1 = cc in let y : ⊥ = omega arith in y)
+    go (Some x) p wrong q h f = absurd (let z : ◌≡◌ {A = ℕ} 0 1 = cc in let y : ⊥ = omega arith in y)
+    go (Some x) p (these u) q h f =
         let k : x ∷ u ≡ v = cc in
         let r = h u q in
         let m = number_is w x p in

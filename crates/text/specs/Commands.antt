@@ -7,8 +7,8 @@ use Rattle.model.specs.Tasks.{payload}
 use Rattle.text.specs.Same.{same}
 use Rattle.text.specs.Numbers.{value_of, spaced_of}
 use Rattle.text.specs.Words.{words, head, tail}
-use Rattle.text.specs.declared.Value.{Value}
-use Rattle.text.specs.declared.Value.TheVariants.{No, Of}
+use Rattle.std.specs.declared.option.Option.{Option}
+use Rattle.std.specs.declared.option.Option.TheVariants.{None, Some}
 use Rattle.text.specs.declared.Key as key
 use Rattle.text.specs.declared.Key.{Key}
 use Rattle.model.specs.declared.Command.TheVariants.{Bad, BeginPut, BeginSteal, BeginTake, End, Open, Steps, Who}
@@ -30,10 +30,10 @@ pub data Values : Type 0 where
   wrong : Values
   these : List ℕ → Values
 
-unfoldable pub joined : Value → Values → Values
-joined No vs = wrong
-joined (Of x) wrong = wrong
-joined (Of x) (these v) = these (x ∷ v)
+unfoldable pub joined : Option ℕ → Values → Values
+joined None vs = wrong
+joined (Some x) wrong = wrong
+joined (Some x) (these v) = these (x ∷ v)
 
 unfoldable pub values : List (List ℕ) → Values
 values [] = these []

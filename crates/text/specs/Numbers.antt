@@ -3,8 +3,8 @@
 use Rattle.std.specs.Prelude.{ℕ, zero, suc, ◌+◌, ◌-◌, ◌*◌, ◌/◌, ◌%◌, Bool, true, false, not, List, [], ◌∷◌, ◌++◌, leb, ltb, eqb, ◌≡◌, length}
 use Rattle.std.proofs.lemmas.List.Edits.{sets}
 use Rattle.model.specs.Tests.{◌and◌, when◌then◌else◌}
-use Rattle.text.specs.declared.Value.{Value}
-use Rattle.text.specs.declared.Value.TheVariants.{No, Of}
+use Rattle.std.specs.declared.option.Option.{Option}
+use Rattle.std.specs.declared.option.Option.TheVariants.{None, Some}
 
 -- every byte is one of `0` to `9`
 unfoldable pub all_digits : List ℕ → Bool
@@ -23,11 +23,11 @@ onward v [] = v
 onward v (b ∷ s) = onward (v * 10 + (b - 48)) s
 
 -- the number that a word is
-unfoldable pub value_of : List ℕ → Value
+unfoldable pub value_of : List ℕ → Option ℕ
 value_of s =
     when plain s and all_digits s and leb (onward 0 s) 4294967295
-    then Of (onward 0 s)
-    else No
+    then Some (onward 0 s)
+    else None
 
 -- the digits of n, at most k of them
 unfoldable pub spelled : ℕ → ℕ → List ℕ

@@ -3,25 +3,18 @@
 
 #![tactic(auto)]
 
-ghost use Rattle.std.specs.Prelude.{◌≡◌, ◌+◌, ◌≤◌, ◌<◌, length, get_or, take, drop};
+ghost use Rattle.std.specs.Prelude.{◌≡◌, ◌+◌, ◌≤◌, ◌<◌, List, ℕ, length, get_or, take, drop, IfSome, IsNone};
 ghost use Rattle.text.specs.Numbers.{Placed};
 ghost use Rattle.text.specs.Same.{same as same_of};
 ghost use Rattle.text.specs.Numbers.{plain as plain_of, value_of, decimal_of, line_of};
 ghost use Rattle.text.specs.Outs.{out_values};
-ghost use Rattle.text.specs.Words.{words, head};
-ghost use Rattle.text.specs.Commands.{key_of, formed, command_of};
+ghost use Rattle.text.specs.Words.{words, head, tail};
+ghost use Rattle.text.specs.Commands.{key_of, these, values, formed, command_of};
 
 use model::{Command, Payload, Task};
 
-// The number that a word is, if it is one.
-#[derive(Clone, Copy)]
-pub enum Value {
-    No,
-    Of(u32),
-}
-
 // The word that a line begins with.
-#[derive(Clone, Copy)]
+#[derive(Clone, Copy, Debug, PartialEq, Eq)]
 pub enum Key {
     Other,
     Queue,
@@ -33,223 +26,155 @@ pub enum Key {
     End,
 }
 
+// A queue has at most so many words of the store, and `step` makes at most so many steps.
+const STORE: u32 = 10235;
+
+const STEPS: u32 = 65535;
+
 pub fn same(a: &[u8], b: &[u8]) -> bool
     ensures { result ≡ same_of a.now b.now }
 {
-    let mut i = 0;
-    while i < a.len() {
-        if b.len() <= i {
-            return false;
-        }
-        if a[i] != b[i] {
-            return false;
-        }
-        i += 1;
-    }
-    i == b.len()
+    a == b
 }
 
 fn plain(word: &[u8]) -> bool
     ensures { result ≡ plain_of word.now }
 {
-    if word.len() == 0 {
-        return false;
+    match word {
+        [] => false,
+        [_] => true,
+        [first, ..] => *first != b'0',
     }
-    if word.len() == 1 {
-        return true;
-    }
-    word[0] != 48
 }
 
-pub fn number(word: &[u8]) -> Value
+// The number that a word is, if it is one.
+pub fn number(word: &[u8]) -> Option<u32>
     ensures { result ≡ value_of word.now }
 {
     if !plain(word) {
-        return Value::No;
+        return None;
     }
-    let mut v: u64 = 0;
-    let mut i = 0;
-    while i < word.len() {
-        let b = word[i];
-        if b < 48 {
-            return Value::No;
+    let mut v: u32 = 0;
+    for &b in word {
+        if !b.is_ascii_digit() {
+            return None;
         }
-        if 57 < b {
-            return Value::No;
-        }
-        v = v * 10 + wide(b - 48);
-        if 4294967295 < v {
-            return Value::No;
-        }
-        i += 1;
+        v = v.checked_mul(10)?.checked_add(u32::from(b - b'0'))?;
     }
-    Value::Of(v as u32)
-}
-
-fn wide(b: u8) -> u64
-    ensures { result ≡ b }
-{
-    b as u64
+    Some(v)
 }
 
 // Where the word that starts at `at` ends.
 pub fn word_end(line: &[u8], at: usize) -> usize
     requires { at ≤ length line.now }
-    ensures { result ≡ at + length (head (words (drop at line.now))) }
+    ensures word { result ≡ at + length (head (words (drop at line.now))) }
+    ensures within { (at ≤ result) × (result ≤ length line.now) }
 {
-    let mut i = at;
-    while i < line.len() {
-        if line[i] == 32 {
+    for i in at..line.len() {
+        if line[i] == b' ' {
             return i;
         }
-        i += 1;
     }
-    i
+    line.len()
 }
 
+// A `match` on byte strings leaves 25 goals for its last arm, one for each way in which a word can differ, so the words are compared
+// one after the other.
 pub fn keyword(word: &[u8]) -> Key
     ensures { result ≡ key_of word.now }
 {
-    if same(word, b"queue") {
-        return Key::Queue;
+    if word == b"queue".as_slice() {
+        Key::Queue
+    } else if word == b"put".as_slice() {
+        Key::Put
+    } else if word == b"take".as_slice() {
+        Key::Take
+    } else if word == b"steal".as_slice() {
+        Key::Steal
+    } else if word == b"step".as_slice() {
+        Key::Step
+    } else if word == b"who".as_slice() {
+        Key::Who
+    } else if word == b"end".as_slice() {
+        Key::End
+    } else {
+        Key::Other
     }
-    if same(word, b"put") {
-        return Key::Put;
-    }
-    if same(word, b"take") {
-        return Key::Take;
-    }
-    if same(word, b"steal") {
-        return Key::Steal;
-    }
-    if same(word, b"step") {
-        return Key::Step;
-    }
-    if same(word, b"who") {
-        return Key::Who;
-    }
-    if same(word, b"end") {
-        return Key::End;
-    }
-    Key::Other
 }
 
-// The k-th of the first n of the values v; `other` where there is none.
-fn value_at(v: [u32; 6], n: usize, k: usize, other: u32) -> u32
-    requires { (k < 6) × (n ≤ 6) }
-    ensures { result ≡ get_or (take n v) k other }
+// The k-th of the numbers; `other` where there is none.
+fn value_at(v: &[u32], k: usize, other: u32) -> u32
+    ensures { result ≡ get_or v.now k other }
 {
-    if k < n {
-        return v[k];
-    }
-    other
+    v.get(k).copied().unwrap_or(other)
 }
 
-// The keyword with the first n of the values v.
-fn form(key: Key, n: usize, v: [u32; 6]) -> Command
-    requires { n ≤ 6 }
-    ensures { result ≡ formed key (take n v) }
+// The keyword with the numbers behind it.
+fn form(key: Key, v: &[u32]) -> Command
+    ensures { result ≡ formed key v.now }
 {
+    let n = v.len();
     match key {
-        Key::Other => Command::Bad,
-        Key::Queue => {
-            if n < 5 {
-                return Command::Bad;
-            }
-            let store = v[4];
-            if 10235 < store {
-                return Command::Bad;
-            }
-            let words = value_at(v, n, 5, 1);
-            Command::Open {
-                kind: v[0],
-                width: v[1],
-                size: v[2],
-                workers: v[3],
-                store,
-                words,
-            }
-        }
-        Key::Put => {
-            if n < 1 {
-                return Command::Bad;
-            }
-            if 4 < n {
-                return Command::Bad;
-            }
-            let payload = Payload {
-                first: value_at(v, n, 0, 0),
-                second: value_at(v, n, 1, 0),
-                third: value_at(v, n, 2, 0),
-                fourth: value_at(v, n, 3, 0),
-            };
-            Command::BeginPut {
-                words: n as u32,
-                payload,
-            }
-        }
-        Key::Take => {
-            if n != 0 {
-                return Command::Bad;
-            }
-            Command::BeginTake
-        }
-        Key::Steal => {
-            if n != 1 {
-                return Command::Bad;
-            }
-            Command::BeginSteal { worker: v[0] }
-        }
-        Key::Step => {
-            if n != 2 {
-                return Command::Bad;
-            }
-            let times = v[1];
-            if 65535 < times {
-                return Command::Bad;
-            }
-            Command::Steps {
-                worker: v[0],
-                times,
-            }
-        }
-        Key::Who => {
-            if n != 1 {
-                return Command::Bad;
-            }
-            Command::Who { worker: v[0] }
-        }
-        Key::End => {
-            if n != 0 {
-                return Command::Bad;
-            }
-            Command::End
-        }
+        Key::Queue if 5 <= n && n <= 6 && v[4] <= STORE => Command::Open {
+            kind: v[0],
+            width: v[1],
+            size: v[2],
+            workers: v[3],
+            store: v[4],
+            words: value_at(v, 5, 1),
+        },
+        Key::Put if 1 <= n && n <= 4 => Command::BeginPut {
+            words: n as u32,
+            payload: Payload {
+                first: value_at(v, 0, 0),
+                second: value_at(v, 1, 0),
+                third: value_at(v, 2, 0),
+                fourth: value_at(v, 3, 0),
+            },
+        },
+        Key::Take if n == 0 => Command::BeginTake,
+        Key::Steal if n == 1 => Command::BeginSteal { worker: v[0] },
+        Key::Step if n == 2 && v[1] <= STEPS => Command::Steps {
+            worker: v[0],
+            times: v[1],
+        },
+        Key::Who if n == 1 => Command::Who { worker: v[0] },
+        Key::End if n == 0 => Command::End,
+        _ => Command::Bad,
     }
+}
+
+// Puts the numbers behind a line's first word into `v` from its start, and answers how many there are; none if one of the words is
+// no number, or if there are more than `v` has room for.
+pub fn numbers(line: &[u8], v: &mut [u32]) -> Option<usize>
+    ensures some { IfSome result (λ n. (n ≤ length v.new) × (values (tail (words line.now)) ≡ these (take n v.new))) }
+    ensures none { IsNone result → (ns : List ℕ) → values (tail (words line.now)) ≡ these ns → length v.old < length ns }
+{
+    let mut at = word_end(line, 0);
+    for n in 0..v.len() {
+        if at == line.len() {
+            return Some(n);
+        }
+        let from = at + 1;
+        at = word_end(line, from);
+        v[n] = number(&line[from..at])?;
+    }
+    if at == line.len() {
+        return Some(v.len());
+    }
+    None
 }
 
 // What a line says.
 pub fn parse(line: &[u8]) -> Command
     ensures { result ≡ command_of line.now }
 {
-    let mut at = word_end(line, 0);
-    let key = keyword(&line[..at]);
+    let key = keyword(&line[..word_end(line, 0)]);
     let mut v = [0u32; 6];
-    let mut n = 0;
-    while at < line.len() {
-        if n == 6 {
-            return Command::Bad;
-        }
-        let from = at + 1;
-        let to = word_end(line, from);
-        let Value::Of(x) = number(&line[from..to]) else {
-            return Command::Bad;
-        };
-        v[n] = x;
-        n += 1;
-        at = to;
-    }
-    form(key, n, v)
+    let Some(n) = numbers(line, &mut v) else {
+        return Command::Bad;
+    };
+    form(key, &v[..n])
 }
 
 // Puts n's digits into out from at on, and answers where they end.
@@ -271,7 +196,7 @@ fn digit(d: u64) -> u8
     requires { d < 10 }
     ensures { result ≡ 48 + d }
 {
-    48 + d as u8
+    b'0' + d as u8
 }
 
 // Puts a line of output into out from at on, and answers where it ends.
@@ -281,13 +206,11 @@ pub fn print(out: &mut [u8], at: usize, letter: u8, values: &[u64]) -> usize
 {
     out[at] = letter;
     let mut end = at + 1;
-    let mut i = 0;
-    while i < values.len() {
-        out[end] = 32;
-        end = decimal(out, end + 1, values[i]);
-        i += 1;
+    for &value in values {
+        out[end] = b' ';
+        end = decimal(out, end + 1, value);
     }
-    out[end] = 10;
+    out[end] = b'\n';
     end + 1
 }
 
@@ -298,16 +221,13 @@ pub fn print_out(out: &mut [u8], at: usize, words: u32, worker: u32, task: Task)
 {
     let p = task.payload;
     let v = [
-        worker as u64,
-        task.number as u64,
-        p.first as u64,
-        p.second as u64,
-        p.third as u64,
-        p.fourth as u64,
+        u64::from(worker),
+        u64::from(task.number),
+        u64::from(p.first),
+        u64::from(p.second),
+        u64::from(p.third),
+        u64::from(p.fourth),
     ];
-    if words < 4 {
-        let n = 2 + words as usize;
-        return print(out, at, b'H', &v[..n]);
-    }
-    print(out, at, b'H', &v)
+    let n = 2 + words.min(4) as usize;
+    print(out, at, b'H', &v[..n])
 }

@@ -1,8 +1,8 @@
 use Rattle.std.proofs.Common.{◌-◌, ◌≤◌, length}
 use Rattle.calls.proofs.play_lines.Given as goal
 
-abbrev pub invariant-loop-used : goal.invariant-loop-used
-invariant-loop-used l = (l.used ≤ length l.buf) × (l.text.end ≤ length l.out)
+abbrev pub invariant-loop-end : goal.invariant-loop-end
+invariant-loop-end l = l.used ≤ length l.buf
 
-abbrev pub decreases-loop-used : goal.decreases-loop-used
-decreases-loop-used l = length l.buf - l.used
+abbrev pub decreases-loop-end : goal.decreases-loop-end
+decreases-loop-end l = length l.buf - l.used

@@ -1,8 +1,5 @@
 use Rattle.std.proofs.Common.{◌≤◌}
 use Rattle.calls.proofs.run.Given as goal
 
-abbrev pub invariant-loop-turns : goal.invariant-loop-turns
-invariant-loop-turns l = l.next.have ≤ 75
-
-abbrev pub decreases-loop-turns : goal.decreases-loop-turns
-decreases-loop-turns l = l.turns
+abbrev pub invariant-loop : goal.invariant-loop
+invariant-loop l = l.have ≤ 75

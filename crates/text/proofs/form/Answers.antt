@@ -1,100 +1,81 @@
-use native.Mathlib.Omega.{arith}
-use Prim.Native.Nat.{◌≤◌}
-use mathlib.Core.Path.{◌≡◌, sym}
-use lib.ListN.{length}
-use lib.Seq.{get_or-take, length-take-le}
-use borrow.Author.Tests.{le-leb, lt-leb}
+use Rattle.std.proofs.Common.{sym}
+use borrow.Author.Tests.{eq-eqb, ne_eqb, le-leb, lt-leb}
 use Rattle.model.specs.Tests.{when◌then◌else◌, ◌and◌}
 use Rattle.text.specs.Commands.{formed}
-use Rattle.text.proofs.Fields.{count_is, count_not, count_from, count_under, count_to, count_over}
-use borrow.Author.Rules.{rules}
 use Rattle.text.proofs.form.Goals as goal
 
-pub returns-then-n-lt5 : goal.returns-then-n-lt5
+pub returns-in-Queue : goal.returns-in-Queue
 unfolding formed ◌and◌ when◌then◌else◌
-returns-then-n-lt5 c = let a = c.args in let six : length a.v ≡ 6 = search rules in let h : a.n ≤ length a.v = omega arith in
-    sym (rw (c.in-Queue.is, count_under a.v a.n 5 h (omega arith)))
+returns-in-Queue c = sym (rw (c.in-Queue.is, le-leb _ _ c.if-n-ge5.true, le-leb _ _ c.if-n-le6.true, le-leb _ _ c.if-v-le-STORE.true, c.value_at.ensures))
 
-pub returns-then-store-gt10235 : goal.returns-then-store-gt10235
+pub returns-in-Put : goal.returns-in-Put
 unfolding formed ◌and◌ when◌then◌else◌
-returns-then-store-gt10235 c = let a = c.args in let six : length a.v ≡ 6 = search rules in let h : a.n ≤ length a.v = omega arith in
-    sym (rw (c.in-Queue.is, count_from a.v a.n 5 h (omega arith), count_to a.v a.n 6 h (omega arith), get_or-take a.n a.v 4 0 (omega arith), lt-leb _ _ c.if-store-gt10235.true))
+returns-in-Put c = sym (rw (c.in-Put.is, le-leb _ _ c.if-n-ge1.true, le-leb _ _ c.if-n-le4.true, c.value_at-in-Put.ensures, c.value_at-in-Put-2.ensures, c.value_at-in-Put-3.ensures, c.value_at-in-Put-4.ensures))
 
-pub returns-then-n-lt1 : goal.returns-then-n-lt1
+pub returns-in-Take : goal.returns-in-Take
+unfolding formed when◌then◌else◌
+returns-in-Take c = sym (rw (c.in-Take.is, eq-eqb _ _ c.if-n-eq0.true))
+
+pub returns-in-Steal : goal.returns-in-Steal
+unfolding formed when◌then◌else◌
+returns-in-Steal c = sym (rw (c.in-Steal.is, eq-eqb _ _ c.if-n-eq1.true))
+
+pub returns-in-Step : goal.returns-in-Step
 unfolding formed ◌and◌ when◌then◌else◌
-returns-then-n-lt1 c = let a = c.args in let six : length a.v ≡ 6 = search rules in let h : a.n ≤ length a.v = omega arith in
-    sym (rw (c.in-Put.is, count_under a.v a.n 1 h (omega arith)))
+returns-in-Step c = sym (rw (c.in-Step.is, eq-eqb _ _ c.if-n-eq2.true, le-leb _ _ c.if-v-le-STEPS.true))
 
-pub returns-then-n-gt4 : goal.returns-then-n-gt4
+pub returns-in-Who : goal.returns-in-Who
+unfolding formed when◌then◌else◌
+returns-in-Who c = sym (rw (c.in-Who.is, eq-eqb _ _ c.if-n-eq1-2.true))
+
+pub returns-in-End : goal.returns-in-End
+unfolding formed when◌then◌else◌
+returns-in-End c = sym (rw (c.in-End.is, eq-eqb _ _ c.if-n-eq0-2.true))
+
+pub returns-in_default : goal.returns-in_default
 unfolding formed ◌and◌ when◌then◌else◌
-returns-then-n-gt4 c = let a = c.args in let six : length a.v ≡ 6 = search rules in let h : a.n ≤ length a.v = omega arith in
-    sym (rw (c.in-Put.is, count_from a.v a.n 1 h (omega arith), count_over a.v a.n 4 h (omega arith)))
+returns-in_default c = sym (rw (c.in-Queue.is, le-leb _ _ c.if-n-ge5.true, le-leb _ _ c.if-n-le6.true, lt-leb _ _ c.if-v-le-STORE.false))
 
-pub returns-then-n-ne0 : goal.returns-then-n-ne0
+pub returns-in_default-2 : goal.returns-in_default-2
 unfolding formed ◌and◌ when◌then◌else◌
-returns-then-n-ne0 c = let a = c.args in let six : length a.v ≡ 6 = search rules in let h : a.n ≤ length a.v = omega arith in
-    sym (rw (c.in-Take.is, count_not a.v a.n 0 h c.if-n-ne0.true))
+returns-in_default-2 c = sym (rw (c.in-Queue.is, le-leb _ _ c.if-n-ge5.true, lt-leb _ _ c.if-n-le6.false))
 
-pub returns-then-n-ne1 : goal.returns-then-n-ne1
+pub returns-in_default-3 : goal.returns-in_default-3
 unfolding formed ◌and◌ when◌then◌else◌
-returns-then-n-ne1 c = let a = c.args in let six : length a.v ≡ 6 = search rules in let h : a.n ≤ length a.v = omega arith in
-    sym (rw (c.in-Steal.is, count_not a.v a.n 1 h c.if-n-ne1.true))
+returns-in_default-3 c = sym (rw (c.in-Queue.is, lt-leb _ _ c.if-n-ge5.false))
 
-pub returns-then-n-ne2 : goal.returns-then-n-ne2
+pub returns-in_default-4 : goal.returns-in_default-4
 unfolding formed ◌and◌ when◌then◌else◌
-returns-then-n-ne2 c = let a = c.args in let six : length a.v ≡ 6 = search rules in let h : a.n ≤ length a.v = omega arith in
-    sym (rw (c.in-Step.is, count_not a.v a.n 2 h c.if-n-ne2.true))
+returns-in_default-4 c = sym (rw (c.in-Put.is, le-leb _ _ c.if-n-ge1.true, lt-leb _ _ c.if-n-le4.false))
 
-pub returns-then-times-gt65535 : goal.returns-then-times-gt65535
+pub returns-in_default-5 : goal.returns-in_default-5
 unfolding formed ◌and◌ when◌then◌else◌
-returns-then-times-gt65535 c = let a = c.args in let six : length a.v ≡ 6 = search rules in let h : a.n ≤ length a.v = omega arith in
-    sym (rw (c.in-Step.is, count_is a.v a.n 2 h c.if-n-ne2.false, get_or-take a.n a.v 1 0 (omega arith), lt-leb _ _ c.if-times-gt65535.true))
+returns-in_default-5 c = sym (rw (c.in-Put.is, lt-leb _ _ c.if-n-ge1.false))
 
-pub returns-then-n-ne1-2 : goal.returns-then-n-ne1-2
+pub returns-in_default-6 : goal.returns-in_default-6
+unfolding formed when◌then◌else◌
+returns-in_default-6 c = sym (rw (c.in-Take.is, ne_eqb _ _ c.if-n-eq0.false))
+
+pub returns-in_default-7 : goal.returns-in_default-7
+unfolding formed when◌then◌else◌
+returns-in_default-7 c = sym (rw (c.in-Steal.is, ne_eqb _ _ c.if-n-eq1.false))
+
+pub returns-in_default-8 : goal.returns-in_default-8
 unfolding formed ◌and◌ when◌then◌else◌
-returns-then-n-ne1-2 c = let a = c.args in let six : length a.v ≡ 6 = search rules in let h : a.n ≤ length a.v = omega arith in
-    sym (rw (c.in-Who.is, count_not a.v a.n 1 h c.if-n-ne1-2.true))
+returns-in_default-8 c = sym (rw (c.in-Step.is, eq-eqb _ _ c.if-n-eq2.true, lt-leb _ _ c.if-v-le-STEPS.false))
 
-pub returns-then-n-ne0-2 : goal.returns-then-n-ne0-2
+pub returns-in_default-9 : goal.returns-in_default-9
 unfolding formed ◌and◌ when◌then◌else◌
-returns-then-n-ne0-2 c = let a = c.args in let six : length a.v ≡ 6 = search rules in let h : a.n ≤ length a.v = omega arith in
-    sym (rw (c.in-End.is, count_not a.v a.n 0 h c.if-n-ne0-2.true))
+returns-in_default-9 c = sym (rw (c.in-Step.is, ne_eqb _ _ c.if-n-eq2.false))
 
-pub returns-in-Other : goal.returns-in-Other
+pub returns-in_default-10 : goal.returns-in_default-10
+unfolding formed when◌then◌else◌
+returns-in_default-10 c = sym (rw (c.in-Who.is, ne_eqb _ _ c.if-n-eq1-2.false))
+
+pub returns-in_default-11 : goal.returns-in_default-11
+unfolding formed when◌then◌else◌
+returns-in_default-11 c = sym (rw (c.in-End.is, ne_eqb _ _ c.if-n-eq0-2.false))
+
+pub returns-in_default-12 : goal.returns-in_default-12
 unfolding formed
-returns-in-Other c = sym (rw c.in-Other.is)
-
-pub returns-else-store-gt10235 : goal.returns-else-store-gt10235
-unfolding formed ◌and◌ when◌then◌else◌
-returns-else-store-gt10235 c = let a = c.args in let six : length a.v ≡ 6 = search rules in let h : a.n ≤ length a.v = omega arith in
-    sym (rw (c.in-Queue.is, count_from a.v a.n 5 h (omega arith), count_to a.v a.n 6 h (omega arith), get_or-take a.n a.v 0 0 (omega arith), get_or-take a.n a.v 1 0 (omega arith), get_or-take a.n a.v 2 0 (omega arith), get_or-take a.n a.v 3 0 (omega arith), get_or-take a.n a.v 4 0 (omega arith), le-leb _ _ c.if-store-gt10235.false, c.value_at-words.ensures))
-
-pub returns-else-n-gt4 : goal.returns-else-n-gt4
-unfolding formed ◌and◌ when◌then◌else◌
-returns-else-n-gt4 c = let a = c.args in let six : length a.v ≡ 6 = search rules in let h : a.n ≤ length a.v = omega arith in
-    sym (rw (c.in-Put.is, count_from a.v a.n 1 h (omega arith), count_to a.v a.n 4 h (omega arith), c.value_at-in-Put-3.ensures, c.value_at-in-Put-2.ensures, c.value_at-in-Put.ensures, c.value_at.ensures, length-take-le a.n a.v h))
-
-pub returns-else-n-ne0 : goal.returns-else-n-ne0
-unfolding formed ◌and◌ when◌then◌else◌
-returns-else-n-ne0 c = let a = c.args in let six : length a.v ≡ 6 = search rules in let h : a.n ≤ length a.v = omega arith in
-    sym (rw (c.in-Take.is, count_is a.v a.n 0 h c.if-n-ne0.false))
-
-pub returns-else-n-ne1 : goal.returns-else-n-ne1
-unfolding formed ◌and◌ when◌then◌else◌
-returns-else-n-ne1 c = let a = c.args in let six : length a.v ≡ 6 = search rules in let h : a.n ≤ length a.v = omega arith in
-    sym (rw (c.in-Steal.is, count_is a.v a.n 1 h c.if-n-ne1.false, get_or-take a.n a.v 0 0 (omega arith)))
-
-pub returns-else-times-gt65535 : goal.returns-else-times-gt65535
-unfolding formed ◌and◌ when◌then◌else◌
-returns-else-times-gt65535 c = let a = c.args in let six : length a.v ≡ 6 = search rules in let h : a.n ≤ length a.v = omega arith in
-    sym (rw (c.in-Step.is, count_is a.v a.n 2 h c.if-n-ne2.false, get_or-take a.n a.v 0 0 (omega arith), get_or-take a.n a.v 1 0 (omega arith), le-leb _ _ c.if-times-gt65535.false))
-
-pub returns-else-n-ne1-2 : goal.returns-else-n-ne1-2
-unfolding formed ◌and◌ when◌then◌else◌
-returns-else-n-ne1-2 c = let a = c.args in let six : length a.v ≡ 6 = search rules in let h : a.n ≤ length a.v = omega arith in
-    sym (rw (c.in-Who.is, count_is a.v a.n 1 h c.if-n-ne1-2.false, get_or-take a.n a.v 0 0 (omega arith)))
-
-pub returns-else-n-ne0-2 : goal.returns-else-n-ne0-2
-unfolding formed ◌and◌ when◌then◌else◌
-returns-else-n-ne0-2 c = let a = c.args in let six : length a.v ≡ 6 = search rules in let h : a.n ≤ length a.v = omega arith in
-    sym (rw (c.in-End.is, count_is a.v a.n 0 h c.if-n-ne0-2.false))
+returns-in_default-12 c = sym (rw c.in_default.is)

@@ -1,36 +1,34 @@
-use native.Mathlib.Omega.{arith}
-use Prim.Native.Nat.{◌+◌}
-use mathlib.Core.Path.{sym, ◌∙◌}
-use lib.ListN.{drop, get_or}
+use Rattle.std.proofs.Common.{arith, sym, ap, ◌∙◌, ◌≡◌, ◌-◌, ◌+◌, ◌*◌, drop, get_or}
 use Rattle.text.proofs.Lists.{next, done}
-use Rattle.text.proofs.Digits.{number_plain, number_not, read_low, read_high, read_digit, read_big, read_end}
+use Rattle.text.proofs.Digits.{number_plain, number_not, read_on, read_other, read_over, read_next, read_end}
 use Rattle.text.proofs.number.Goals as goal
 
 pub returns-then-not-plain : goal.returns-then-not-plain
 returns-then-not-plain c = sym (number_not _ (sym c.plain.ensures ∙ c.if-not-plain.true))
 
-pub loop-i-init : goal.loop-i-init
-loop-i-init c = (omega arith, omega arith, sym (number_plain _ (sym c.plain.ensures ∙ c.if-not-plain.false)))
+pub loop-b-init : goal.loop-b-init
+loop-b-init c = (omega arith, sym (number_plain _ (sym c.plain.ensures ∙ c.if-not-plain.false)))
 
-pub returns-then-b-lt48 : goal.returns-then-b-lt48
-returns-then-b-lt48 c = let l = c.loop-i in let s = c.args.word.now in
-    sym (rw (← l.invariant.2, next s l.i (omega arith)) (read_low _ _ _ c.if-b-lt48.true))
+pub returns-then-not-is_ascii_digit : goal.returns-then-not-is_ascii_digit
+returns-then-not-is_ascii_digit c = let l = c.loop-b in let s = c.args.word.now in
+    sym (rw (← l.invariant.1, next s l.b-index c.loop-b-test.true) (read_other _ _ _ c.if-not-is_ascii_digit.ensures.cases))
 
-pub returns-then-b-gt57 : goal.returns-then-b-gt57
-returns-then-b-gt57 c = let l = c.loop-i in let s = c.args.word.now in
-    sym (rw (← l.invariant.2, next s l.i (omega arith)) (read_high _ _ _ c.if-b-gt57.true))
+pub returns-in_err-checked_mul : goal.returns-in_err-checked_mul
+returns-in_err-checked_mul c = let l = c.loop-b in let s = c.args.word.now in let d = c.if-not-is_ascii_digit.ensures.cases in
+    c.from_residual.ensures
+    ∙ sym (read_over l.v s l.b-index c.loop-b-test.true d.0 d.1 (omega (arith, c.in_err-checked_mul.ensures))) ∙ l.invariant.1
 
-pub returns-then-v-gt4294967295 : goal.returns-then-v-gt4294967295
-returns-then-v-gt4294967295 c = let l = c.loop-i in let s = c.args.word.now in
-    sym (rw (← l.invariant.2, next s l.i (omega arith), read_digit l.v (get_or s l.i 0) (drop (l.i + 1) s) (omega arith) (omega arith), ← c.wide.ensures) (read_big _ _ c.if-v-gt4294967295.true))
+pub returns-in_err-v : goal.returns-in_err-v
+returns-in_err-v c = let l = c.loop-b in let s = c.args.word.now in let d = c.if-not-is_ascii_digit.ensures.cases in
+    c.from_residual-in_err-v.ensures
+    ∙ sym (read_over l.v s l.b-index c.loop-b-test.true d.0 d.1 (omega (arith, c.in_err-v.ensures, c.in_ok-checked_mul.ensures.1, c.from.ensures)))
+    ∙ l.invariant.1
 
-pub loop-i-preserved : goal.loop-i-preserved
-loop-i-preserved c = let l = c.loop-i in let s = c.args.word.now in (
-  omega arith,
-  omega arith,
-  rw (← l.invariant.2, next s l.i (omega arith), read_digit l.v (get_or s l.i 0) (drop (l.i + 1) s) (omega arith) (omega arith), ← c.wide.ensures),
-)
+pub loop-b-preserved : goal.loop-b-preserved
+loop-b-preserved c = let l = c.loop-b in let s = c.args.word.now in let d = c.if-not-is_ascii_digit.ensures.cases in
+    let e : c.in_ok-v.v ≡ l.v * 10 + (get_or s l.b-index 0 - 48) = omega (arith, c.in_ok-v.ensures.1, c.in_ok-checked_mul.ensures.1, c.from.ensures) in
+    (omega (arith, c.in_ok-v.ensures.0, c.in_ok-v.ensures.1), ap (λ v. read_on v (drop (l.b-index + 1) s)) e ∙ read_next l.v s l.b-index c.loop-b-test.true d.0 d.1 ∙ l.invariant.1)
 
 pub returns : goal.returns
-returns c = let l = c.loop-i in let s = c.args.word.now in
-    sym (rw (← l.invariant.2, done s l.i (omega arith)) (read_end _ (omega arith)))
+returns c = let l = c.loop-b in let s = c.args.word.now in
+    sym (rw (← l.invariant.1, done s l.b-index c.loop-b-test.false) (read_end _ l.invariant.0))

@@ -1,12 +1,13 @@
+use native.Mathlib.Omega.{arith}
 use mathlib.Core.Path.{sym}
 use Rattle.text.proofs.Digits.{plain_none, plain_one, plain_more}
 use Rattle.text.proofs.plain.Goals as goal
 
-pub returns-then-word-eq0 : goal.returns-then-word-eq0
-returns-then-word-eq0 c = sym (plain_none _ c.if-word-eq0.true)
+pub returns-in-empty : goal.returns-in-empty
+returns-in-empty c = sym (plain_none _ (omega (arith, c.in-empty.len_below)))
 
-pub returns-then-word-eq1 : goal.returns-then-word-eq1
-returns-then-word-eq1 c = sym (plain_one _ c.if-word-eq1.true)
+pub returns-in-len1 : goal.returns-in-len1
+returns-in-len1 c = sym (plain_one _ (omega (arith, c.in-len1.len_below, c.in-len1.len_at_least)))
 
-pub returns : goal.returns
-returns c = sym (plain_more _ c.if-word-eq0.false c.if-word-eq1.false)
+pub returns-in-len1-up : goal.returns-in-len1-up
+returns-in-len1-up c = sym (plain_more _ (λ e. omega (arith, c.in-len1-up.len_at_least)) (λ e. omega (arith, c.in-len1-up.len_at_least)))

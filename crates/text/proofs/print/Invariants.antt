@@ -1,10 +1,6 @@
-use Prim.Native.Nat.{◌-◌, ◌≤◌}
-use lib.ListN.{length, take}
+use Rattle.std.proofs.Common.{take}
 use Rattle.text.specs.Numbers.{Placed, spaced_of}
 use Rattle.text.proofs.print.Given as goal
 
-abbrev pub invariant-loop-i : goal.invariant-loop-i
-invariant-loop-i l = (l.i ≤ length l.values) × (Placed l.initial.out l.initial.end (spaced_of (take l.i l.values)) l.end l.out)
-
-abbrev pub decreases-loop-i : goal.decreases-loop-i
-decreases-loop-i l = length l.values - l.i
+abbrev pub invariant-loop-value : goal.invariant-loop-value
+invariant-loop-value l = Placed l.initial.out l.initial.end (spaced_of (take l.value-index l.values)) l.end l.out

@@ -1,6 +1,0 @@
-use native.Mathlib.Omega.{arith}
-use Rattle.text.proofs.Split.{first_fits}
-use Rattle.call_text.proofs.first_end.Goals as goal
-
-pub returns : goal.returns
-returns c = omega (arith, c.word_end.ensures, first_fits c.args.line.now)
