@@ -4,10 +4,12 @@ use mathlib.Core.Bool.{Bool, true, false}
 use mathlib.Core.List.{List, [], ◌∷◌, map}
 use Prim.Native.Nat.{ℕ, zero, suc, ◌+◌, ◌-◌, ◌/◌, ◌≤◌, ◌<◌}
 use native.Mathlib.Omega.{arith}
-use lib.Dec.{eqb, ltb}
+use lib.Dec.{eqb, ltb, leb}
 use lib.ListN.{length, get_or, drop, replicate, length-replicate, length-map, drop_of_length-le}
 use lib.Seq.{drop-cons}
-use borrow.Author.Tests.{eq-eqb, ne_eqb, le-leb, lt-leb}
+use Rattle.std.proofs.Common.{min}
+use native.Mathlib.Nat.{min-eq_left, min-eq_right}
+use borrow.Author.Tests.{eq-eqb, ne_eqb, leb-true, leb-false}
 use Rattle.model.specs.declared.Operation.TheVariants.{Steal}
 use Rattle.model.specs.Tests.{◌or◌, least}
 use Rattle.model.specs.World.{World}
@@ -37,11 +39,12 @@ pub more_better : (g m r : ℕ) → (g ≡ 0 → ⊥) → ltb m r ≡ (eqb g 0 o
 unfolding ◌or◌
 more_better g m r e = rw (ne_eqb g 0 e)
 
-pub least_first : (a b : ℕ) → a ≤ b → a ≡ least a b
-least_first a b h = sym (if_true b (le-leb a b h))
-
-pub least_second : (a b : ℕ) → b < a → b ≡ least a b
-least_second a b h = sym (if_false a (lt-leb a b h))
+pub min_least : (a b : ℕ) → min a b ≡ least a b
+min_least a b = go (leb a b) refl
+  where
+    go : (x : Bool) → leb a b ≡ x → min a b ≡ least a b
+    go true e = min-eq_left (leb-true a b e) ∙ sym (if_true b e)
+    go false e = let h : b < a = leb-false a b e in min-eq_right (let g : b ≤ a = omega arith in g) ∙ sym (if_false a e)
 
 -- TAKES, one place after the other
 pub hands_next : (puts : List Bool) (k : ℕ) → k < length puts

@@ -45,9 +45,8 @@ fn repeats_of(words: u32, written: u32, log: &[u32], seen: &mut [u32; 4096]) -> 
     ensures value { (W : World) → W.bench.words ≡ words → W.bench.written ≡ written → W.log ≡ log.now → result ≡ repeats_in W }
     ensures seen_len { length seen.new ≡ 4096 }
 {
-    let each = 3 + words as u64;
-    let all = written as u64;
-    let n = (all / each) as u32;
+    let each = 3 + u64::from(words);
+    let n = (u64::from(written) / each) as u32;
     let log = Log { words, memory: log };
     let outs = log.entries_of(EntryKind::HandOut, n);
     let different = HandOuts::of(log, n, seen).different;
@@ -92,10 +91,7 @@ fn play_round(
 fn better(given: u32, most: u32, repeats: u32) -> bool
     ensures { result ≡ (eqb given 0 or ltb most repeats) }
 {
-    if given == 0 {
-        return true;
-    }
-    most < repeats
+    given == 0 || most < repeats
 }
 
 // Plays the orders one after the other. `hands` are the takes and steals.
@@ -171,21 +167,13 @@ fn walk(
 fn takes(puts: &[bool]) -> usize
     ensures { (result ≡ hands_in (map owners_next puts.now)) × (result ≤ length puts.now) }
 {
-    let mut n: usize = 0;
-    let mut k: usize = 0;
-    while k < puts.len() {
-        if !puts[k] {
+    let mut n = 0;
+    for put in puts {
+        if !put {
             n += 1;
         }
-        k += 1;
     }
     n
-}
-
-fn wide(n: u32) -> u64
-    ensures { (result ≡ n) × (result ≤ 4294967295) }
-{
-    n as u64
 }
 
 // The steals of the thieves from place `from` of the seven on.
@@ -193,12 +181,9 @@ fn steals_from(each: [u32; 7], from: u32) -> u64
     requires { from ≤ 7 }
     ensures { (result ≡ operations (drop from (steals each))) × (result ≤ 30064771065) }
 {
-    let mut sum: u64 = 0;
-    let mut i = from;
-    while i < 7 {
-        let k = i as usize;
-        sum += wide(each[k]);
-        i += 1;
+    let mut sum = 0;
+    for i in from..7 {
+        sum += u64::from(each[i as usize]);
     }
     sum
 }
@@ -217,10 +202,7 @@ fn too_many(count: usize, stolen: u64) -> bool
     requires { stolen ≤ 30064771065 }
     ensures { result ≡ ltb 64 (count + stolen) }
 {
-    if 64 < count {
-        return true;
-    }
-    64 < count as u64 + stolen
+    64 < count || 64 < count as u64 + stolen
 }
 
 // A refused hunt reports an empty order and zeros.
@@ -326,8 +308,5 @@ pub fn hunt(
 fn own_length(long: u32) -> usize
     ensures { (result ≡ least long 10235) × (result ≤ 10235) }
 {
-    if long <= 10235 {
-        return long as usize;
-    }
-    10235
+    long.min(10235) as usize
 }

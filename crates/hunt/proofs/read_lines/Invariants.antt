@@ -1,8 +1,5 @@
-use Rattle.std.proofs.Common.{◌-◌, ◌≤◌, length}
+use Rattle.std.proofs.Common.{◌≤◌}
 use Rattle.hunt.proofs.read_lines.Given as goal
 
-abbrev pub invariant-loop-used : goal.invariant-loop-used
-invariant-loop-used l = l.used ≤ length l.buf
-
-abbrev pub decreases-loop-used : goal.decreases-loop-used
-decreases-loop-used l = length l.buf - l.used
+abbrev pub invariant-loop-at : goal.invariant-loop-at
+invariant-loop-at l = l.used ≤ l.at

@@ -15,4 +15,4 @@ loop-i-preserved c = let L = c.loop-i in
     let seven : length each ≡ 7 = search rules in
     let n = steals_next each L.i (omega (arith, seven, c.loop-i-test.true)) in
     let s : operations (drop (L.i + 1) (steals each)) ≡ operations (drop (suc L.i) (steals each)) = ap (λ (j : ℕ). operations (drop j (steals each))) (add-one L.i) in
-    (omega (arith, L.invariant.0), omega (arith, c.loop-i-test.true), omega (arith, L.invariant.2, c.wide-sum.ensures.1), omega (arith, L.invariant.3, n, s, c.wide-sum.ensures.0))
+    (omega arith, omega (arith, L.invariant.1, n, s))

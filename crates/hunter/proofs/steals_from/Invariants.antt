@@ -1,12 +1,9 @@
 use mathlib.Core.Path.{◌≡◌}
-use Prim.Native.Nat.{◌+◌, ◌-◌, ◌*◌, ◌≤◌}
+use Prim.Native.Nat.{◌+◌, ◌*◌, ◌≤◌}
 use lib.ListN.{drop}
 use Rattle.orders.specs.Hunt.{operations}
 use Rattle.hunter.specs.Hunter.{steals}
 use Rattle.hunter.proofs.steals_from.Given as goal
 
 abbrev pub invariant-loop-i : goal.invariant-loop-i
-invariant-loop-i l = (l.from ≤ l.i) × (l.i ≤ 7) × (l.sum ≤ 4294967295 * l.i) × (l.sum + operations (drop l.i (steals l.each)) ≡ operations (drop l.from (steals l.each)))
-
-abbrev pub decreases-loop-i : goal.decreases-loop-i
-decreases-loop-i l = 7 - l.i
+invariant-loop-i l = (l.sum ≤ 4294967295 * l.i) × (l.sum + operations (drop l.i (steals l.each)) ≡ operations (drop l.from (steals l.each)))
