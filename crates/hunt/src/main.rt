@@ -82,12 +82,12 @@ fn with_more(wish: &mut Wish, line: &[u8]) -> Result<(), Refusal> {
     let [first, second] = numbers;
     let word = &line[..text::word_end(line, 0)];
     match told {
-        Some(0) if text::same(word, b"put") => with_operation(wish, true),
-        Some(0) if text::same(word, b"take") => with_operation(wish, false),
-        Some(2) if text::same(word, b"steals") && 0 < first && first <= 7 => {
+        Some(0) if word == b"put".as_slice() => with_operation(wish, true),
+        Some(0) if word == b"take".as_slice() => with_operation(wish, false),
+        Some(2) if word == b"steals".as_slice() && 0 < first && first <= 7 => {
             wish.steals[first as usize - 1] = second;
         }
-        Some(1) if text::same(word, b"hunt") => {
+        Some(1) if word == b"hunt".as_slice() => {
             wish.stage = Stage::Asked;
             wish.budget = first;
         }

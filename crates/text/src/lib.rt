@@ -5,7 +5,6 @@
 
 ghost use Rattle.std.specs.Prelude.{◌≡◌, ◌+◌, ◌≤◌, ◌<◌, List, ℕ, length, get_or, take, drop, IfSome, IsNone};
 ghost use Rattle.text.specs.Numbers.{Placed};
-ghost use Rattle.text.specs.Same.{same as same_of};
 ghost use Rattle.text.specs.Numbers.{plain as plain_of, value_of, decimal_of, line_of};
 ghost use Rattle.text.specs.Outs.{out_values};
 ghost use Rattle.text.specs.Words.{words, head, tail};
@@ -32,12 +31,6 @@ const STORE: u32 = 10235;
 const STEPS: u32 = 65535;
 
 // Whether two texts are the same.
-pub fn same(a: &[u8], b: &[u8]) -> bool
-    ensures { result ≡ same_of a.now b.now }
-{
-    a == b
-}
-
 fn plain(word: &[u8]) -> bool
     ensures { result ≡ plain_of word.now }
 {
