@@ -1,6 +1,8 @@
 // What happens to a bench beside begins and steps: a thief's link fails for no reason, the owner's oldest waiting store reaches
 // memory, an idle owner asks for growth or drops its ask, and a worker's restarts are asked for. What ends in `_in` is a call past
-// refusal 12; a lone queue's call tests the limits and goes on there.
+// refusal 12; a lone queue's call tests the limits and goes on there. Each such call writes its test out: `drain` lends its store to
+// what follows to be written, and `tally` answers a `Result`, so a function that takes what follows as a closure would need a form
+// for each, and a contract longer than the test.
 // Uses `model`, `stages`, `slots`, `limits`, `waiting` and `state`. It is used by `queues` and `replies`.
 
 #![tactic(auto)]
@@ -82,18 +84,15 @@ fn owner_stop(bench: Bench, worker: u32) -> Result<(), Refusal>
     ensures { (m l : List ℕ) → OwnerStops (lent bench m l) worker result }
 {
     if bench.crew <= worker {
-        let why = Refusal::NoSuchWorker;
-        return Err(why);
+        return Err(Refusal::NoSuchWorker);
     }
     if worker != 0 {
-        let why = Refusal::WrongHand;
-        return Err(why);
+        return Err(Refusal::WrongHand);
     }
     let own = bench.workers[0];
     let line = own.line;
     if !stages::is_idle(line) {
-        let why = Refusal::BusyWorker;
-        return Err(why);
+        return Err(Refusal::BusyWorker);
     }
     Ok(())
 }
@@ -174,12 +173,11 @@ pub fn tally_in(bench: Bench, worker: u32) -> Result<u32, Refusal>
     requires { bench.crew ≤ 8 }
     ensures { (m l : List ℕ) → result ≡ who_in (lent bench m l) worker }
 {
-    if bench.crew <= worker {
-        return Err(Refusal::NoSuchWorker);
+    if worker < bench.crew {
+        Ok(bench.restarts[worker as usize])
+    } else {
+        Err(Refusal::NoSuchWorker)
     }
-    let i = worker as usize;
-    let restarts = bench.restarts[i];
-    Ok(restarts)
 }
 
 pub fn tally(bench: Bench, worker: u32, store: &[u32], log: &[u32]) -> Result<u32, Refusal>

@@ -101,14 +101,11 @@ fn accept(bench: Bench, worker: u32, operation: Operation) -> Returned
     match operation {
         Operation::Put { payload } => {
             let number = used + 1;
-            let whole = Task {
-                number: number,
-                payload: payload,
-            };
+            let whole = Task { number, payload };
             let task = tasks::cut(whole, bench.words);
             Returned {
-                bench: state::opens(bench, i, number, Line::PutRead { task: task }),
-                answer: Answer::Numbered { number: number },
+                bench: state::opens(bench, i, number, Line::PutRead { task }),
+                answer: Answer::Numbered { number },
             }
         }
         Operation::Take => Returned {

@@ -55,8 +55,8 @@ fn reply_of(reply: state::Returned) -> Reply
     let state = reply.bench;
     let answer = reply.answer;
     Reply {
-        bench: Bench { state: state },
-        answer: answer,
+        bench: Bench { state },
+        answer,
     }
 }
 
@@ -64,11 +64,8 @@ fn reply_of(reply: state::Returned) -> Reply
 fn refused(bench: Bench, why: Refusal) -> Reply
     ensures { result ≡ record { bench = bench; answer = Refused why } }
 {
-    let answer = Answer::Refused { why: why };
-    Reply {
-        bench: bench,
-        answer: answer,
-    }
+    let answer = Answer::Refused { why };
+    Reply { bench, answer }
 }
 
 impl Bench {
@@ -221,8 +218,8 @@ fn yard_reply_of(reply: yard_calls::Yielded) -> YardReply
     let state = reply.yard;
     let answer = reply.answer;
     YardReply {
-        yard: Yard { state: state },
-        answer: answer,
+        yard: Yard { state },
+        answer,
     }
 }
 
@@ -233,7 +230,7 @@ impl Yard {
         ensures { result.state ≡ bare }
     {
         let state = yard_calls::bare();
-        Yard { state: state }
+        Yard { state }
     }
 
     // The next queue, as it is told, with the whole store as its quota. Its first array alone is zeroed.

@@ -25,11 +25,8 @@ pub struct Returned {
 pub fn refused(bench: Bench, why: Refusal) -> Returned
     ensures { result ≡ record { bench = bench; answer = Refused why } }
 {
-    let answer = Answer::Refused { why: why };
-    Returned {
-        bench: bench,
-        answer: answer,
-    }
+    let answer = Answer::Refused { why };
+    Returned { bench, answer }
 }
 
 // A place of the waiting line in which no store waits.
@@ -66,23 +63,23 @@ pub fn made(
         length: 0,
     }; 11];
     arrays[0] = Region {
-        offset: offset,
+        offset,
         length: long,
     };
     Bench {
-        kind: kind,
-        width: width,
-        words: words,
-        delayed: delayed,
-        crew: crew,
+        kind,
+        width,
+        words,
+        delayed,
+        crew,
         queue: Queue {
-            linked: linked,
+            linked,
             anchor: Anchor {
                 head: 0,
                 count: 0,
                 tag: 0,
             },
-            arrays: arrays,
+            arrays,
             published: 1,
             claimed: 1,
             initial: size,
@@ -114,7 +111,7 @@ pub fn opens(bench: Bench, worker: usize, used: u32, line: Line) -> Bench
 {
     let mut next = bench;
     next.used = used;
-    next.workers[worker] = Worker { line: line };
+    next.workers[worker] = Worker { line };
     next
 }
 
