@@ -3,7 +3,7 @@
 
 #![tactic(auto)]
 
-ghost use Rattle.std.specs.Prelude.{◌≡◌, ◌+◌, ◌-◌, ◌≤◌, min, length, drop};
+ghost use Rattle.std.specs.Prelude.{◌≡◌, ◌+◌, ◌≤◌, length, drop};
 ghost use Rattle.replies.specs.Sessions.{program_of, left_by};
 ghost use Rattle.listing.specs.Listing.{until_newline};
 ghost use Rattle.listing.specs.Consuming.{Reachable, ConsumedBy, CarriedBy};
