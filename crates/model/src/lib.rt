@@ -5,7 +5,7 @@
 #![tactic(auto)]
 
 // Figures 1, 2 and 3. The double-ended queue is the field's deque. Kinds 4 and 5 are LIFO and double-ended, linked (`Queue.linked`).
-#[derive(Clone, Copy)]
+#[derive(Clone, Copy, PartialEq, Eq)]
 pub enum Kind {
     Lifo,
     Fifo,
@@ -32,7 +32,7 @@ pub struct Task {
 // What line 1 reads whole and a compare (the field's compare-and-swap) compares. Double-ended: (h, s, g). LIFO: (t, g) is `count`
 // and `tag`, `head` is 0. FIFO: head, and the tail in `count`; `tag` is 0, as in a linked queue. The tag is there against ABA: each put raises it, so
 // that a compare sees that puts have finished since line 1, unless the tag has come round.
-#[derive(Clone, Copy)]
+#[derive(Clone, Copy, PartialEq, Eq)]
 pub struct Anchor {
     pub head: u32,
     pub count: u32,
@@ -41,7 +41,7 @@ pub struct Anchor {
 
 // One store to a shared place: a task's word (in the array at `place` of the directory), the note of the current array (its place in
 // the directory), the anchor by a put, the anchor by a hand-out, and of FIFO the head (by a hand-out) or the tail (by a put).
-#[derive(Clone, Copy)]
+#[derive(Clone, Copy, PartialEq, Eq)]
 pub enum Store {
     StoreWord {
         place: u32,
@@ -67,7 +67,7 @@ pub enum Store {
 }
 
 // Why the array grows: for a put, or for a commit, an operation of X1 to X4 alone.
-#[derive(Clone, Copy)]
+#[derive(Clone, Copy, PartialEq, Eq)]
 pub enum Growth {
     ForPut { task: Task },
     ForCommit,
@@ -186,14 +186,14 @@ pub struct Worker {
 
 // A pair of the directory: an array's offset and length in the store, in words. Where a figure has a pointer to an array, the
 // bench has the pair's place in the directory: a thief notes the place, as the figure's thief reads the pointer.
-#[derive(Clone, Copy)]
+#[derive(Clone, Copy, PartialEq, Eq)]
 pub struct Region {
     pub offset: u32,
     pub length: u32,
 }
 
 // What X1 finds in the store: the next free word, and how many words are left for an array of its queue.
-#[derive(Clone, Copy)]
+#[derive(Clone, Copy, PartialEq, Eq)]
 pub struct Room {
     pub next: u32,
     pub left: u32,
@@ -263,7 +263,7 @@ pub struct Setup {
 }
 
 // What a begin gives a worker to do.
-#[derive(Clone, Copy)]
+#[derive(Clone, Copy, PartialEq, Eq)]
 pub enum Operation {
     Put { payload: Payload },
     Take,
@@ -272,7 +272,7 @@ pub enum Operation {
 }
 
 // The table of refusals, in its order (14 and 15 are the judge's own).
-#[derive(Clone, Copy)]
+#[derive(Clone, Copy, PartialEq, Eq)]
 pub enum Refusal {
     UnknownQueue,
     TagWidth,
@@ -301,7 +301,7 @@ pub enum Refusal {
 // What a call answers: a fresh, a begin or an event is accepted (a put with its number); a step goes on, or ends its operation with an
 // entry of the log; or the call is refused. A hand-out is what the field calls an extraction: a take or a steal returns a task.
 // FULL is the bench's own: the figures' `expand` always finds memory. Grown ends a commit.
-#[derive(Clone, Copy)]
+#[derive(Clone, Copy, PartialEq, Eq)]
 pub enum Answer {
     Accepted,
     Numbered { number: u32 },
