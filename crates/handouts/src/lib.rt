@@ -217,7 +217,7 @@ impl HandOuts<'_> {
     {
         let log = self.log;
         match self.last_like(task.number) {
-            Some(last) => some_passes(last, self.entries, move |j| log.hands_out(task, j)),
+            Some(last) => some_passes(last, self.entries, |j| log.hands_out(task, j)),
             None => false,
         }
     }
