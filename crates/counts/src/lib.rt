@@ -4,7 +4,7 @@
 
 #![tactic(auto)]
 
-ghost use Rattle.std.specs.Prelude.{◌≡◌, [], ◌-◌, ◌≤◌, get_or};
+ghost use Rattle.std.specs.Prelude.{◌≡◌, [], ◌-◌, get_or};
 ghost use Rattle.model.specs.Memory.{nowhere};
 ghost use Rattle.model.specs.Window.{tasks, window_index, window_size};
 ghost use Rattle.model.specs.Calls.{lent, restarts_of};
@@ -64,7 +64,7 @@ impl Window<'_> {
 
     // The index of the i-th.
     fn index(&self, i: u32) -> u64
-        ensures { (result ≡ window_index self.now.bench.now.kind self.now.bench.now.queue.anchor i) × (result ≤ 8589934590) }
+        ensures { result ≡ window_index self.now.bench.now.kind self.now.bench.now.queue.anchor i }
     {
         match self.bench.kind {
             Kind::Lifo => u64::from(i),

@@ -14,9 +14,6 @@ use Rattle.model.proofs.Below.{some_at}
 use Rattle.judgement.proofs.All.{some_found}
 use Rattle.std.specs.Prelude.{◌↔◌, IsTrue}
 
-pub and_cong : {x y a b : Bool} → x ≡ a → y ≡ b → (x and y) ≡ (a and b)
-and_cong {x} {y} {a} {b} e f = ap (λ (z : Bool). z and y) e ∙ ap (λ (z : Bool). a and z) f
-
 pub true_and : {x a b : Bool} → x ≡ a → x ≡ true → b ≡ (a and b)
 unfolding ◌and◌
 true_and {x} {a} {b} e t = sym (ap (λ (z : Bool). z and b) (sym e ∙ t))

@@ -2,7 +2,7 @@
 use mathlib.Core.Path.{◌≡◌, refl, sym, ap, subst, ◌∙◌}
 use mathlib.Core.Bool.{Bool, false}
 use mathlib.Core.List.{List}
-use Prim.Native.Nat.{ℕ, ◌+◌, ◌%◌, ◌≤◌}
+use Prim.Native.Nat.{ℕ, ◌+◌, ◌%◌}
 use native.Mathlib.Omega.{arith}
 use native.Mathlib.Numerals.{add-one}
 use borrow.Author.Tests.{ne_eqb}
@@ -42,7 +42,3 @@ module _ (v : ℕ) (l s : List ℕ) where
             (rw (ne_eqb (entry_at v l j).task.number x (λ q. far x z (ap (λ (k : ℕ). k % 4096) (sym (e ∙ q))))) (and_false _))
             (i.none x (sym (get_or-set_other s (y % 4096) (x % 4096) (j + 1) 0 (far x z)) ∙ z));
       }
-
-  -- at the end of a loop up to n
-  pub seen_all : (j n : ℕ) → j ≤ n → n ≤ j → Seen v l s j → Seen v l s n
-  seen_all j n a b i = subst (Seen v l s) (let z : j ≡ n = omega arith in z) i

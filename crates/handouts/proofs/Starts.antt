@@ -1,10 +1,9 @@
 -- Words and tasks from a start on.
-use mathlib.Core.Path.{◌≡◌, refl, sym, ap, ◌∙◌}
+use mathlib.Core.Path.{◌≡◌, sym, ap, ◌∙◌}
 use mathlib.Core.Logic.{◌⊎◌, inl, inr}
 use mathlib.Core.List.{List}
 use Prim.Native.Nat.{ℕ, zero, suc, ◌+◌, ◌*◌, ◌≤◌, ◌<◌}
 use native.Mathlib.Omega.{arith}
-use native.Mathlib.Nat.{mul-le-mul}
 use native.Mathlib.Numerals.{add-one}
 use lib.ListN.{length, get_or, get_or-eq_default}
 use Rattle.model.specs.Tasks.{payload, task, gathered}
@@ -12,24 +11,6 @@ use Rattle.model.specs.Answers.{entry_length}
 use Rattle.model.specs.Counts.{entry_at}
 use Rattle.model.proofs.Tasks.{same_words, entry_number}
 use Rattle.handouts.specs.Starts.{Starts}
-
--- the three ways of working one out
-module _ (e c : ℕ) where
-  pub far_out : 1073741824 < e → 2147483648 ≤ c → Starts e c 2305843009213693952
-  far_out h g =
-      let m : 1073741824 * 2147483648 ≤ e * c = mul-le-mul (let z : 1073741824 ≤ e = omega (arith, h) in z) g in
-      record { small = omega arith; is = inr (omega arith, omega (arith, m)) }
-
-  pub few_of_them : e ≤ 4294967298 → c < 2147483648 → e * c ≤ 9223372036854775808
-  few_of_them h g =
-      let m : e * c ≤ 4294967298 * 2147483647 = mul-le-mul h (let z : c ≤ 2147483647 = omega (arith, g) in z) in
-      omega (arith, m)
-
-  pub short_ones : e ≤ 1073741824 → c ≤ 8589934592 → e * c ≤ 9223372036854775808
-  short_ones h g = let m : e * c ≤ 1073741824 * 8589934592 = mul-le-mul h g in omega (arith, m)
-
-  pub worked_out : e * c ≤ 9223372036854775808 → Starts e c (e * c)
-  worked_out h = record { small = h; is = inl refl }
 
 -- the words from there on
 pub from_start : (m : List ℕ) (e c r x : ℕ) → length m ≤ 2305843009213693952 → Starts e c r → get_or m (r + x) 0 ≡ get_or m (e * c + x) 0

@@ -16,7 +16,9 @@ pub use kind::{EntryKind, UnknownKind};
 mod kind;
 
 // What the judge answers: no such count of payload words; a list is too long, or its length is none of whole entries (of whole
-// numbers); the log is not accepted; or it is, with its hand-outs and, among them, the repeats.
+// numbers); the log is not accepted; or it is, with its hand-outs and, among them, the repeats. It is no `Result`: the definitions
+// `judged`, `verdict_number` and `counts_in` and the theorems `RunsJudged` and `RunsJudgedInYards` name its five cases, and `No` is an
+// answer, not an error.
 #[derive(Clone, Copy)]
 pub enum Verdict {
     PayloadWords,

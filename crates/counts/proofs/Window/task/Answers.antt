@@ -1,4 +1,3 @@
-use Rattle.std.proofs.Common.{rules}
 use mathlib.Core.Path.{◌≡◌, ap, subst, ◌∙◌}
 use Prim.Native.Nat.{ℕ, ◌+◌, ◌/◌}
 use native.Mathlib.Omega.{arith}
@@ -9,10 +8,6 @@ use Rattle.handouts.specs.Starts.{Starts}
 use Rattle.counts.proofs.Places.{task_is}
 use Rattle.counts.proofs.Window.task.Goals as goal
 
-pub start_of-start-requires : goal.start_of-start-requires
-start_of-start-requires c =
-    let w = c.from-each.ensures in let s = c.slot_of-slot.ensures.small in let i = c.index.ensures.1 in (search rules, omega (arith, s, i))
-
 pub returns : goal.returns
 returns c =
     let W = c.args.self.now in let b = W.bench.now in let m = W.store.now in let s = c.slot_of-slot.result in let r = c.start_of-start.result in let x = c.index.result in
@@ -21,4 +16,4 @@ returns c =
     c.slot_of-slot.ensures.is ∙ ap (λ (n : ℕ). slot b.kind (n / (c.from-each.result + 1)) x) c.from.ensures ∙ ap (λ (n : ℕ). slot b.kind (W.array.length / (n + 1)) x) c.from-each.ensures
     in
     c.task_from.ensures ∙ ap (λ (o : ℕ). gathered (b.words + 1) (λ k. get_or m (o + r + k) 0)) c.from-2.ensures
-    ∙ task_is b.kind b.words b.queue.anchor W.array m c.args.i x s r c.index.ensures.0 f (omega arith) S
+    ∙ task_is b.kind b.words b.queue.anchor W.array m c.args.i x s r c.index.ensures f (omega arith) S

@@ -1,6 +1,0 @@
-use Rattle.std.proofs.Common.{◌≡◌, ℕ, Bool}
-use Rattle.model.specs.Counts.{some_below}
-use Rattle.handouts.proofs.HandOuts.some_passes.Given as goal
-
-abbrev pub invariant-loop-j : goal.invariant-loop-j
-invariant-loop-j g l = (p : ℕ → Bool) → ((k : ℕ) (r : Bool) → goal.F-post g l.test k r → r ≡ p k) → some_below p l.self.entries ≡ some_below p l.j
