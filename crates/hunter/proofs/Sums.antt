@@ -5,8 +5,7 @@ use mathlib.Core.List.{List, [], ◌∷◌, map}
 use Prim.Native.Nat.{ℕ, zero, suc, ◌+◌, ◌-◌, ◌/◌, ◌≤◌, ◌<◌}
 use native.Mathlib.Omega.{arith}
 use lib.Dec.{eqb, ltb, leb}
-use lib.ListN.{length, get_or, drop, replicate, length-replicate, length-map, drop_of_length-le}
-use lib.Seq.{drop-cons}
+use lib.ListN.{length, get_or, drop, replicate, length-replicate, length-map}
 use Rattle.std.proofs.Common.{min}
 use native.Mathlib.Nat.{min-eq_left, min-eq_right}
 use borrow.Author.Tests.{eq-eqb, ne_eqb, leb-true, leb-false}
@@ -46,40 +45,11 @@ min_least a b = go (leb a b) refl
     go true e = min-eq_left (leb-true a b e) ∙ sym (if_true b e)
     go false e = let h : b < a = leb-false a b e in min-eq_right (let g : b ≤ a = omega arith in g) ∙ sym (if_false a e)
 
--- TAKES, one place after the other
-pub hands_next : (puts : List Bool) (k : ℕ) → k < length puts
-    → hands_in (map owners_next (drop k puts)) ≡ hands_in (map owners_next (get_or puts k false ∷ [])) + hands_in (map owners_next (drop (suc k) puts))
-hands_next puts k h = ap (λ (l : List Bool). hands_in (map owners_next l)) (drop-cons puts k false h) ∙ go (get_or puts k false)
-  where
-    go : (x : Bool) → hands_in (map owners_next (x ∷ drop (suc k) puts)) ≡ hands_in (map owners_next (x ∷ [])) + hands_in (map owners_next (drop (suc k) puts))
-    go true = omega arith
-    go false = omega arith
-
-pub hands_put : (x : Bool) → x ≡ true → hands_in (map owners_next (x ∷ [])) ≡ 0
-hands_put true e = refl
-hands_put false e = absurd (cc_false e)
-  where
-    cc_false : false ≡ true → ⊥
-    cc_false e = let z : ◌≡◌ {A = ℕ} 0 1 = cc in omega arith
-
-pub hands_take : (x : Bool) → x ≡ false → hands_in (map owners_next (x ∷ [])) ≡ 1
-hands_take false e = refl
-hands_take true e = absurd (cc_true e)
-  where
-    cc_true : true ≡ false → ⊥
-    cc_true e = let z : ◌≡◌ {A = ℕ} 0 1 = cc in omega arith
-
-pub hands_none : (puts : List Bool) (k : ℕ) → length puts ≤ k → hands_in (map owners_next (drop k puts)) ≡ 0
-hands_none puts k h = ap (λ (l : List Bool). hands_in (map owners_next l)) (drop_of_length-le puts h)
-
 -- STEALS
 pub steals_next : (l : List ℕ) (k : ℕ) → k < length l → operations (drop k (steals l)) ≡ get_or l k 0 + operations (drop (suc k) (steals l))
 steals_next [] k h = absurd (omega arith)
 steals_next (x ∷ l) zero h = omega (arith, length-replicate x Steal)
 steals_next (x ∷ l) (suc k) h = steals_next l k (omega arith)
-
-pub steals_none : (l : List ℕ) (k : ℕ) → length l ≤ k → operations (drop k (steals l)) ≡ 0
-steals_none l k h = ap operations (drop_of_length-le (steals l) (let z : length (steals l) ≤ k = omega (arith, h, length-map l (λ m. replicate m Steal)) in z))
 
 hands_of_steals : (m : ℕ) → hands_in (replicate m Steal) ≡ m
 hands_of_steals zero = refl

@@ -19,12 +19,6 @@ lies-requires-clause-claimed_nonzero c =
     let L = laid_at Y c.requires.kept c.loop-place.place (omega (arith, n)) (ap (λ (p : Plot). p.bench) (read_at Y m.result.now _ m.ensures.value m.ensures.inside c.loop-place.place _ c.loop-place-test.true)) in
     (L.some, L.listed)
 
-pub lies-requires-clause-place_lt_made : goal.lies-requires-clause-place_lt_made
-lies-requires-clause-place_lt_made c =
-    let m = c.made-plot-items in
-    let n = long c.args.yard.now m.result.now _ m.ensures.value m.ensures.inside in
-    omega (arith, n)
-
 pub returns-then-not-lies : goal.returns-then-not-lies
 returns-then-not-lies c =
     let Y = c.args.yard.now in

@@ -2,8 +2,8 @@ use Rattle.std.proofs.Common.{ap, ◌∙◌}
 use native.Mathlib.Omega.{arith}
 use Rattle.model.specs.declared.Plot.{Plot}
 use Rattle.model.specs.Yard.{held_by}
-use Rattle.plots.proofs.Every.{nothing_yet, and_next, all_summed}
-use Rattle.plots.proofs.Kept.{long, read_at}
+use Rattle.plots.proofs.Every.{nothing_yet, and_next}
+use Rattle.plots.proofs.Kept.{read_at}
 use Rattle.plots.proofs.aside_words.Goals as goal
 
 pub loop-plot-init : goal.loop-plot-init
@@ -16,16 +16,3 @@ loop-plot-preserved c =
     let l = c.loop-plot in
     let read = read_at Y m.result.now _ m.ensures.value m.ensures.inside l.plot-index _ c.loop-plot-test.true in
     (and_next held_by Y.plots l.plot-index l.invariant.0 (c.from-sum.ensures ∙ ap (λ (p : Plot). held_by p.bench) read), omega arith)
-
-pub returns-clause-value : goal.returns-clause-value
-returns-clause-value c =
-    let Y = c.args.yard.now in
-    let m = c.made-plot-items in
-    let n = long Y m.result.now _ m.ensures.value m.ensures.inside in
-    all_summed held_by Y.plots Y.made c.loop-plot.plot-index c.loop-plot.invariant.0 (omega (arith, n)) (omega (arith, n))
-
-pub returns-clause-bound : goal.returns-clause-bound
-returns-clause-bound c =
-    let m = c.made-plot-items in
-    let n = long c.args.yard.now m.result.now _ m.ensures.value m.ensures.inside in
-    omega (arith, n)
