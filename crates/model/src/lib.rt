@@ -1,5 +1,7 @@
-// The bench's types: what document 01 names, by value. No code is here: `specs/` says what each
-// call does to them, and every crate above (theorems, code) speaks of these same types.
+// The bench's types: what document 01 names, by value. No code is here but the derived: `specs/` says what each
+// call does to them, and every crate above (theorems, code) speaks of these same types. A bench is one value without heap, which its
+// caller keeps and may hand in with any numbers (refusal 12). So its lists are arrays of a fixed length with a count beside, and no type
+// has an invariant.
 // Uses no other crate. All others are built on it.
 
 #![tactic(auto)]
@@ -12,7 +14,8 @@ pub enum Kind {
     Deque,
 }
 
-// The caller's payload: 1 to 4 words, as many as `Bench.words` says. The others are 0. (An enum can't hold an array.)
+// The caller's payload: 1 to 4 words, as many as `Bench.words` says. The others are 0. Four fields, as the
+// definitions `words_in` and `task_of` have them: each is read by its name.
 #[derive(Clone, Copy, PartialEq, Eq)]
 pub struct Payload {
     pub first: u32,
@@ -256,7 +259,7 @@ pub struct Yard {
 
 // What fresh is told: the kind's number (1 LIFO, 2 FIFO, 3 double-ended; 4 and 5 are 1 and 3, linked), the tag's width in bits, the
 // size of the first array in tasks, how many workers there are, how many payload words a task has, and whether the owner's stores
-// are delayed. It may be told any numbers.
+// are delayed. It may be told any numbers, so the kind is one here, and in a `Command`.
 #[derive(Clone, Copy)]
 pub struct Setup {
     pub kind: u32,
