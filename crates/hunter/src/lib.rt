@@ -21,7 +21,7 @@ use judgement::EntryKind;
 use model::{Bench, Refusal, Setup};
 use orders::Verdict;
 
-// The report: its order stands in the first `length` places.
+// The report: its order stands in the first `length` places. The library has no heap, so a count stands beside the array.
 #[derive(Clone, Copy)]
 pub struct Found {
     pub verdict: Verdict,
@@ -94,7 +94,8 @@ fn better(given: u32, most: u32, repeats: u32) -> bool
     given == 0 || most < repeats
 }
 
-// Plays the orders one after the other. `hands` are the takes and steals.
+// Plays the orders one after the other. `hands` are the takes and steals. The loop counts nothing: it ends with the budget or with the
+// last order.
 fn walk(
     fresh: Bench,
     puts: &[bool],
@@ -271,7 +272,7 @@ fn hunt_on(
     walk(bench, puts, all, hands, budget, store, log)
 }
 
-// The hunt. The owner's list says at each place whether it is a put; `steals` are those of thief 1 to 7. Its store and its log
+// The hunt, told by single numbers as `hunt_of` is. The owner's list says at each place whether it is a put; `steals` are those of thief 1 to 7. Its store and its log
 // are its own.
 pub fn hunt(
     kind: u32,

@@ -86,7 +86,7 @@ fn first(yard: &Yard, count: usize) -> &[Plot]
     &yard.plots[..count]
 }
 
-// The plots that are made.
+// The plots that are made. The state is fixed memory, with no heap, so a count stands beside the array.
 fn made(yard: &Yard) -> &[Plot]
     requires { yard.now.made ≤ 4 }
     ensures value { result.now ≡ take yard.now.made yard.now.plots }
