@@ -1,6 +1,6 @@
 // Plays a list of library calls from standard input through the public face, a bench's or a yard's, and prints their answers. The
 // form of both is in docs/CALLS.md. A line that is not of the form is told on standard error, and ends the program; what was played
-// before is printed.
+// before is printed. Store and log are two lent slices in each function, for each call is lent other parts of them.
 // Uses `queues`, `plays`, `call_text`, `streams` and `model`. It is a program, and no crate uses it.
 
 #![tactic(auto)]

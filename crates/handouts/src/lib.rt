@@ -42,7 +42,8 @@ fn payload_at(words: u32, memory: &[u32], at: u64, k: u32) -> u32
     }
 }
 
-// The task of `words` payload words that starts at word `at`.
+// The task of `words` payload words that starts at word `at`, of a log or of the store, which has no entries: so these three are told
+// apart from a `Log`.
 pub fn task_from(words: u32, memory: &[u32], at: u64) -> Task
     requires { at ≤ 9223372041149743104 }
     ensures { result ≡ gathered (words + 1) (λ k. get_or memory.now (at + k) 0) }

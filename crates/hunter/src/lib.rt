@@ -272,8 +272,8 @@ fn hunt_on(
     walk(bench, puts, all, hands, budget, store, log)
 }
 
-// The hunt, told by single numbers as `hunt_of` is. The owner's list says at each place whether it is a put; `steals` are those of thief 1 to 7. Its store and its log
-// are its own.
+// The hunt, told by single numbers as `hunt_of` is. The owner's list says at each place whether it is a put; `steals` are those of
+// thief 1 to 7. Its store and its log are its own.
 pub fn hunt(
     kind: u32,
     width: u32,

@@ -1,6 +1,7 @@
 // The state limits of refusal 12, as code of early returns: `valid` is true of exactly the states that
 // the definitions take for no foreign ones. A foreign state holds any 32-bit values, so each limit is
-// tested before a later test counts on it, and a sum of two free values is worked out in 64 bits. The owner's lines and waiting
+// tested before a later test counts on it, and a sum of two free values is worked out in 64 bits. So what an earlier test has shown is
+// a premise of the next function, and no fact of a type. The owner's lines and waiting
 // stores are held to the queue as it reads it; where none waits that is memory's, and nothing is looked at twice.
 // The limits on one queue, wherever its arrays lie, are apart from those on a queue that has the store for itself.
 // Uses `model`, `anchors`, `slots`, `stages`, `admission`, `ranges` and `waiting`. It is used by `opening`, `events`, `plots` and `queues`,

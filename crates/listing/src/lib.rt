@@ -22,7 +22,8 @@ pub struct Consumed {
     pub stops: bool,
 }
 
-// Where the line that starts at `at` ends: at a newline byte or at the buffer's end.
+// Where the line that starts at `at` ends: at a newline byte or at the buffer's end. Its clause is exact, as `consume`'s is; the program
+// `calls` asks less of its own.
 fn line_end(buf: &[u8], at: usize) -> usize
     requires { at ≤ length buf.now }
     ensures { result ≡ at + length (until_newline (drop at buf.now)) }

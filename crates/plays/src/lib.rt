@@ -1,5 +1,5 @@
 // Lists of calls played through the bench, each call on what the one before left. Calls and answers are words of the caller's
-// slices, so that a list needs no type of its own.
+// slices, so that a list needs no type of its own, and a call's operation is a number: any words may come in (`calls_from`).
 // Uses `queues`, `answers` and `model`. It is used by `calls`.
 
 #![tactic(auto)]

@@ -1,5 +1,6 @@
 // Several queues over one store: whether their arrays lie apart and without a gap, within their quotas and the store; refusals 12
-// and 24 of a call; and what is left for a new array. A foreign yard holds any 32-bit values, so sums are worked out in 64 bits.
+// and 24 of a call; and what is left for a new array. A foreign yard holds any 32-bit values, so sums are worked out in 64 bits, and
+// what an earlier test has shown (`Kept`) is a premise, and no fact of a type.
 // Uses `model`, `slots`, `limits` and `state`. It is used by `queues`.
 
 #![tactic(auto)]

@@ -1,5 +1,6 @@
 // One line of the program's input: what it does to the bench that is played, and what it prints. Of `step` only parts are here;
-// `listing` puts it together.
+// `listing` puts it together. Output goes into the caller's slice from a place on, in each function: `text`'s clauses (`Placed`) speak
+// of the two.
 // Uses `model`, `answers`, `state`, `opening`, `events`, `text` and `counts`. It is used by `listing` and `bench`.
 
 #![tactic(auto)]

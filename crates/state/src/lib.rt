@@ -41,7 +41,8 @@ pub fn none_pending() -> Store
     }
 }
 
-// A state with no operation open, over one array of `size` tasks of `words` payload words, at word `offset` of the store.
+// A state with no operation open, over one array of `size` tasks of `words` payload words, at word `offset` of the store. It is told
+// what the definition `blank_at` is: fresh's numbers with the kind looked up, for which a `Setup` has no place.
 pub fn made(
     offset: u32,
     kind: Kind,

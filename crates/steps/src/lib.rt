@@ -1,6 +1,6 @@
 // A step of any worker past the test of the limits, on a whole bench, where X1 finds a room: for a queue among several. A lone
 // bench's step is `queues`' own, on the same functions: it makes most steps in place, and another function between would copy the state
-// once more.
+// once more (docs/DECISIONS.md, 99, has what was tried and the figures).
 // Uses `model`, `limits` (in proofs), `state`, `waiting`, `machine` and `owner`. It is used by `yard_calls` and `queues`.
 
 #![tactic(auto)]

@@ -2,7 +2,7 @@
 // queue's own. The other queues' logs are not lent: a contract holds for every list of logs that has the lent one in its place.
 // Uses `model`, `slots`, `limits` (in proofs), `memory`, `state`, `opening`, `events`, `plots` and `steps`. It is used by `queues`.
 
-#![tactic(auto)]
+#![tactic(auto, using(model::proofs::Tests::tests))]
 
 ghost use Rattle.std.specs.Prelude.{List, [], ◌≡◌, ℕ, ◌<◌, get_or, set, Ok, Err};
 ghost use Rattle.model.specs.Calls.{begin, step, drop_link, drain, ask, drop_ask};

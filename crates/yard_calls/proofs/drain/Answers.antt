@@ -8,15 +8,9 @@ pub returns-in-Err : goal.returns-in-Err
 returns-in-Err c = let a = c.args in
     λ ls e. refuses a.yard a.queue a.store.now a.log.now ls e drain c.stop-stop.ensures c.in-Err.is c.refused.ensures
 
-pub bench_at-bench-requires : goal.bench_at-bench-requires
-bench_at-bench-requires c = (past_stop c.args.yard c.args.queue c.args.store.now c.args.log.now c.stop-stop.ensures c.in_default.is).place
-
 pub drain_in-requires : goal.drain_in-requires
 drain_in-requires c = let a = c.args in
     let I = inside_of a.yard a.queue a.store.now a.log.now (past_stop c.args.yard c.args.queue c.args.store.now c.args.log.now c.stop-stop.ensures c.in_default.is) c.bench_at-bench.ensures refl in record { store_value = I.limits; queue_in_bounds = omega (arith, I.behind, I.inside) }
-
-pub put_back-requires : goal.put_back-requires
-put_back-requires c = (past_stop c.args.yard c.args.queue c.args.store.now c.args.log.now c.stop-stop.ensures c.in_default.is).place
 
 pub returns : goal.returns
 returns c = let a = c.args in

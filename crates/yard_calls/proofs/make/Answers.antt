@@ -9,9 +9,6 @@ pub returns-in-Err : goal.returns-in-Err
 returns-in-Err c = let a = c.args in
     λ ls l. not_made a.yard a.setup a.quota a.store.now ls l c.make_stop-stop.ensures c.in-Err.is c.refused.ensures
 
-pub room_left-room-requires : goal.room_left-room-requires
-room_left-room-requires c = (free c.args.yard c.args.setup c.args.quota c.args.store.now c.make_stop-stop.ensures c.in_default.is).sound
-
 pub first_length-long-requires : goal.first_length-long-requires
 first_length-long-requires c = let F = free c.args.yard c.args.setup c.args.quota c.args.store.now c.make_stop-stop.ensures c.in_default.is in (F.size, F.words)
 
@@ -21,9 +18,6 @@ zero-requires c = let next : c.room_left-room.result.next ≡ claimed_words c.ar
 
 pub new_bench-requires : goal.new_bench-requires
 new_bench-requires c = let F = free c.args.yard c.args.setup c.args.quota c.args.store.now c.make_stop-stop.ensures c.in_default.is in (F.size, F.words)
-
-pub add-requires : goal.add-requires
-add-requires c = (free c.args.yard c.args.setup c.args.quota c.args.store.now c.make_stop-stop.ensures c.in_default.is).made
 
 pub returns : goal.returns
 returns c = let a = c.args in

@@ -11,12 +11,6 @@ use Rattle.opening.proofs.Admits.{outcome_of, admitted_in}
 use Rattle.yard_calls.proofs.Making.{last}
 use Rattle.yard_calls.proofs.make_stop.Goals as goal
 
-pub returns-then-not-sound : goal.returns-then-not-sound
-returns-then-not-sound c = sym (if_false _ (refused c.sound.ensures (not_from_false _ c.if-not-sound.true)))
-
-pub returns-then-yard-ge4 : goal.returns-then-yard-ge4
-returns-then-yard-ge4 c = sym (if_true _ (passed c.sound.ensures (not_from_true _ c.if-not-sound.false)) ∙ if_false _ (le-ltb _ _ c.if-yard-ge4.true))
-
 pub returns-in_err-admission_stop : goal.returns-in_err-admission_stop
 returns-in_err-admission_stop c = let stops : c.admission_stop.result ≡ Err c.in_err-admission_stop.field-0.0 = search rules in
     let gives : c.from_residual.result ≡ Err c.in_err-admission_stop.field-0.0 = search rules in

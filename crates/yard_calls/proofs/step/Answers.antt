@@ -6,18 +6,9 @@ pub returns-in-Err : goal.returns-in-Err
 returns-in-Err c = let a = c.args in
     λ ls e. refuses a.yard a.queue a.store.now a.log.now ls e (step a.worker) c.stop-stop.ensures c.in-Err.is c.refused.ensures
 
-pub room_of-room-requires : goal.room_of-room-requires
-room_of-room-requires c = let P = past_stop c.args.yard c.args.queue c.args.store.now c.args.log.now c.stop-stop.ensures c.in_default.is in record { store_value = P.sound; queue_lt_made = P.made }
-
-pub bench_at-bench-requires : goal.bench_at-bench-requires
-bench_at-bench-requires c = (past_stop c.args.yard c.args.queue c.args.store.now c.args.log.now c.stop-stop.ensures c.in_default.is).place
-
 pub step-requires : goal.step-requires
 step-requires c = let a = c.args in
     inside_of a.yard a.queue a.store.now a.log.now (past_stop c.args.yard c.args.queue c.args.store.now c.args.log.now c.stop-stop.ensures c.in_default.is) c.bench_at-bench.ensures c.room_of-room.ensures
-
-pub put_back-requires : goal.put_back-requires
-put_back-requires c = (past_stop c.args.yard c.args.queue c.args.store.now c.args.log.now c.stop-stop.ensures c.in_default.is).place
 
 pub returns : goal.returns
 returns c = let a = c.args in

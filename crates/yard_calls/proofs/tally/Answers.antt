@@ -12,9 +12,6 @@ returns-in_err-stop c = let stops : c.stop.result ≡ Err c.in_err-stop.field-0.
     let a = c.args in
     λ ls e. gives ∙ tallies a.yard a.queue a.store.now a.log.now ls e a.worker (Err _) c.stop.ensures stops
 
-pub bench_at-requires : goal.bench_at-requires
-bench_at-requires c = let goes : c.stop.result ≡ Ok tt = search rules in (past_stop c.args.yard c.args.queue c.args.store.now c.args.log.now c.stop.ensures goes).place
-
 pub tally_in-requires : goal.tally_in-requires
 tally_in-requires c = let goes : c.stop.result ≡ Ok tt = search rules in let a = c.args in
     (bounds_of (lent c.bench_at.result c.args.store.now c.args.log.now) (inside_of a.yard a.queue a.store.now a.log.now (past_stop c.args.yard c.args.queue c.args.store.now c.args.log.now c.stop.ensures goes) c.bench_at.ensures refl).limits).crew
