@@ -7,7 +7,7 @@
 // Uses `model`, `anchors`, `slots`, `stages`, `admission`, `ranges` and `waiting`. It is used by `opening`, `events`, `plots` and `queues`,
 // and by proofs of `owner`, `steps` and `listing`.
 
-#![tactic(auto)]
+#![tactic(auto, using(model::proofs::Tests::tests))]
 
 ghost use Rattle.std.specs.Option.{is_some, IfSome};
 ghost use Rattle.std.specs.Prelude.{◌≡◌, true, false, List, ℕ, ◌+◌, ◌-◌, ◌*◌, ◌≤◌, ◌<◌, eqb, ltb};

@@ -3,7 +3,7 @@
 // what an earlier test has shown (`Kept`) is a premise, and no fact of a type.
 // Uses `model`, `slots`, `limits` and `state`. It is used by `queues`.
 
-#![tactic(auto)]
+#![tactic(auto, using(model::proofs::Tests::tests))]
 
 ghost use Rattle.std.specs.Prelude.{◌≡◌, true, [], ℕ, ◌+◌, ◌≤◌, ◌<◌, length, take, Ok, Err};
 ghost use Rattle.model.specs.Yard.{bench_at, quota_at, no_overlap, all_below, claimed_words, aside_words, yard_ok, room_of, words_left};
