@@ -24,9 +24,6 @@ returns-then-not-own_line c q p s = let a = c.args in
     (inside a.scope.kind a.scope.width a.scope.words q p a.scope.crew a.worker a.own.line busy c.if-scope-worker.false
     ∙ fails _ (refused hand (not_from_false _ c.if-not-own_line.true)))
 
-pub line_ok-requires : goal.line_ok-requires
-line_ok-requires c = record { width_bound = c.requires.width_bound.0; words_bound = c.requires.width_bound.1; published_bound = subst (λ (R : Reach). R.published ≤ 11) (sym c.reach_of-reach.ensures) (in_reach (eqb c.args.worker 0) c.args.scope c.requires.published_bound.0 c.requires.published_bound.1) }
-
 pub returns : goal.returns
 returns c q p s = let a = c.args in
     let busy = eqb-false (stage a.own.line) 0 c.requires.line_value in

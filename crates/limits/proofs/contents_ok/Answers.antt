@@ -10,9 +10,6 @@ use Rattle.limits.specs.Parts.{workers_ok}
 use Rattle.limits.proofs.Contents.{narrow, in_memory, in_view, doubles, doubles_view}
 use Rattle.limits.proofs.contents_ok.Goals as goal
 
-pub anchor_ok-requires : goal.anchor_ok-requires
-anchor_ok-requires c = narrow c.args.bench.queue.linked c.args.bench.width c.tag_bits-bits.ensures c.requires.width_bound.0
-
 pub returns-then-not-anchor_ok : goal.returns-then-not-anchor_ok
 returns-then-not-anchor_ok c = λ p e f g.
     let b = c.args.bench in
@@ -53,12 +50,6 @@ returns-then-not-aside_ok c = λ p e f g.
     sym
     (holds (passed now (not_from_true _ c.if-not-anchor_ok.false)) ∙ holds (passed c.number_ok.ensures (not_from_true _ c.if-not-number_ok.false))
     ∙ fails _ (refused (c.aside_ok.ensures p most f g) (not_from_false _ c.if-not-aside_ok.true)))
-
-pub workers_ok-requires : goal.workers_ok-requires
-workers_ok-requires c = let b = c.args.bench in
-    let D = c.requires.doubled in
-    let bits = c.tag_bits-bits.ensures in
-    let z = in_memory b D c.requires.published_nonzero.0 (omega (arith, c.requires.published_nonzero.1, c.requires.seen_le_claimed.0)) in record { bits_bound = (narrow b.queue.linked b.width bits c.requires.width_bound.0, c.requires.width_bound.1); published_bound = (omega (arith, c.requires.published_nonzero.1, c.requires.seen_le_claimed), omega (arith, c.requires.seen_le_claimed)); reached = (refl, doubles b D (omega (arith, c.requires.published_nonzero.1, c.requires.seen_le_claimed.0)), z); crew_nonzero = c.requires.crew_nonzero }
 
 pub returns : goal.returns
 returns c = λ p e f g.

@@ -12,20 +12,6 @@ pub returns-then-line-eq0 : goal.returns-then-line-eq0
 returns-then-line-eq0 c = let a = c.args.bench in
     let p = none_told a c.if-line-eq0.true in record { held = p.0; seen = p.1 }
 
-pub returns-then-most_waiting-line : goal.returns-then-most_waiting-line
-returns-then-most_waiting-line c = let a = c.args.bench in
-    record { held = sym (unheld_many a.delayed a.waiting (omega (arith, c.most_waiting.ensures, c.if-most_waiting-line.true))); seen = tt }
-
-pub notes_ok-requires : goal.notes_ok-requires
-notes_ok-requires c = let a = c.args.bench in omega (arith, most_eight a.delayed, c.most_waiting.ensures, c.if-most_waiting-line.false)
-
-pub returns-then-not-notes_ok : goal.returns-then-not-notes_ok
-returns-then-not-notes_ok c = let a = c.args.bench in
-    record { held = sym (unheld_note a.delayed a.waiting (refused c.notes_ok.ensures (not_from_false _ c.if-not-notes_ok.true))); seen = tt }
-
-pub seen-queue-requires : goal.seen-queue-requires
-seen-queue-requires c = let a = c.args.bench in record { count_bound = omega (arith, most_eight a.delayed, c.most_waiting.ensures, c.if-most_waiting-line.false); waiting_value = passed c.notes_ok.ensures (not_from_true _ c.if-not-notes_ok.false) }
-
 pub returns : goal.returns
 returns c = let a = c.args.bench in
     let p =

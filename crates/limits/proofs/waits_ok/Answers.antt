@@ -16,9 +16,6 @@ use Rattle.waiting.proofs.Line.{test_fails, tests_next}
 use Rattle.limits.proofs.Contents.{narrow, in_view}
 use Rattle.limits.proofs.waits_ok.Goals as goal
 
-pub anchor_ok-requires : goal.anchor_ok-requires
-anchor_ok-requires c = narrow c.args.bench.queue.linked c.args.bench.width c.tag_bits-bits.ensures c.requires.width_bound
-
 pub returns-then-not-anchor_ok : goal.returns-then-not-anchor_ok
 returns-then-not-anchor_ok c = λ p S.
     let b = c.args.bench in
@@ -30,9 +27,6 @@ returns-then-not-anchor_ok c = λ p S.
     ∙ ap (λ (n : ℕ). anchor_ok b.kind (tag_bits b) n v.anchor) z
     ∙ ap (λ (a : Anchor). anchor_ok b.kind (tag_bits b) (size b.words p) a) (sym S.anchor) in
     sym (fails _ (refused now (not_from_false _ c.if-not-anchor_ok.true)))
-
-pub store_ok-requires-clause-width_bound : goal.store_ok-requires-clause-width_bound
-store_ok-requires-clause-width_bound c = narrow c.args.bench.queue.linked c.args.bench.width c.tag_bits-bits.ensures c.requires.width_bound
 
 pub returns-then-not-store_ok : goal.returns-then-not-store_ok
 returns-then-not-store_ok c = λ p S.

@@ -12,9 +12,6 @@ use Rattle.plots.proofs.Kept.{laid_at, within_quota}
 use Rattle.plots.proofs.Rooms.{kept, fits, own_aside, same_room, min_least}
 use Rattle.plots.proofs.room_of.Goals as goal
 
-pub bench_at-bench-requires : goal.bench_at-bench-requires
-bench_at-bench-requires c = omega (arith, c.requires.queue_lt_made, (kept c.args.yard c.args.store.now c.requires.store_value).0)
-
 pub words_taken-own-requires : goal.words_taken-own-requires
 words_taken-own-requires c = laid_at c.args.yard (kept c.args.yard c.args.store.now c.requires.store_value) c.args.queue c.requires.queue_lt_made c.bench_at-bench.ensures
 
@@ -23,9 +20,6 @@ overflow_add-free c = let Y = c.args.yard in
     let left : c.room_left-room.result.left ≡ usable c.args.store.now - (claimed_words Y + aside_words Y) = ap (λ (r : Room). r.left) c.room_left-room.ensures in
     let aside : c.bench_at-bench.result.aside ≡ (bench_at Y c.args.queue).aside = ap held_by c.bench_at-bench.ensures in
     omega (arith, left, aside, own_aside Y c.args.store.now c.requires.store_value c.args.queue c.requires.queue_lt_made, least_right (length c.args.store.now) 10235, fits Y c.args.store.now c.requires.store_value)
-
-pub quota_at-requires : goal.quota_at-requires
-quota_at-requires c = omega (arith, c.requires.queue_lt_made, (kept c.args.yard c.args.store.now c.requires.store_value).0)
 
 pub overflow_sub-rest : goal.overflow_sub-rest
 overflow_sub-rest c = let Y = c.args.yard in
