@@ -2,7 +2,7 @@
 // bench, until all are played out or the budget of steps is spent.
 // Uses `model`, `theorems`, `orders`, `turns`, `rounds`, `slots`, `state`, `memory`, `opening`, `judgement` and `handouts`. It is used by `hunt`.
 
-#![tactic(auto)]
+#![tactic(auto, using(model::proofs::Tests::tests))]
 
 ghost use Rattle.std.specs.Prelude.{◌≡◌, Bool, true, false, List, [], ◌∷◌, map, ℕ, ◌+◌, ◌-◌, ◌≤◌, ◌<◌, min, eqb, ltb, length, take, drop, get_or, replicate};
 ghost use Rattle.model.specs.World.{World};

@@ -2,7 +2,7 @@
 // refuse; a begin writes nothing. What ends in `_in` is a call past refusal 12.
 // Uses `model`, `tasks`, `slots`, `stages`, `admission`, `limits`, `memory` and `state`. It is used by `queues` and `replies`.
 
-#![tactic(auto)]
+#![tactic(auto, using(model::proofs::Tests::tests))]
 
 ghost use Rattle.std.specs.Prelude.{◌≡◌, List, ℕ, ◌≤◌, ◌<◌, Ok, Err};
 ghost use Rattle.model.specs.declared.Answer.TheVariants.{Refused};

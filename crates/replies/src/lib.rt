@@ -3,7 +3,7 @@
 // of the two.
 // Uses `model`, `answers`, `state`, `opening`, `events`, `text` and `counts`. It is used by `listing` and `bench`.
 
-#![tactic(auto)]
+#![tactic(auto, using(model::proofs::Tests::tests))]
 
 ghost use Rattle.std.specs.Prelude.{◌≡◌, true, false, List, [], ◌∷◌, ℕ, ◌+◌, ◌≤◌, min, length, take, None};
 ghost use Rattle.model.specs.Limits.{valid_of};

@@ -2,7 +2,7 @@
 // may step.
 // Uses `model`, `theorems`, `orders`, `turns`, `tasks`, `stages`, `slots`, `limits`, `state` and `machine`. It is used by `hunter`.
 
-#![tactic(auto)]
+#![tactic(auto, using(model::proofs::Tests::tests))]
 
 ghost use Rattle.std.specs.Prelude.{◌≡◌, true, false, List, [], ◌∷◌, ℕ, ◌+◌, ◌-◌, ◌≤◌, ◌<◌, length, take, get_or};
 ghost use Rattle.model.specs.Tests.{when◌then◌else◌};

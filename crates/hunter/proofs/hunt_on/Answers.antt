@@ -11,10 +11,6 @@ pub returns-in-Err : goal.returns-in-Err
 returns-in-Err c = let A = c.args in
     c.refused.ensures ∙ barred_is A.kind A.width A.size A.crew A.words A.long A.puts.now A.each A.budget A.store.now A.log.now c.requires.store_value c.requires.log_value c.usable-left.result c.usable-left.ensures c.admission_stop-stop.result c.admission_stop-stop.ensures c.in-Err.why c.in-Err.is
 
-pub steals_from-outside-requires : goal.steals_from-outside-requires
-steals_from-outside-requires c = let A = c.args in
-    omega (arith, c.saturating_sub-behind.ensures, behind_few A.kind A.width A.size A.crew A.words A.long A.puts.now A.each A.budget A.store.now A.log.now c.requires.store_value c.requires.log_value c.usable-left.result c.usable-left.ensures c.admission_stop-stop.result c.admission_stop-stop.ensures c.in_default.is)
-
 pub returns-then-outside-ne0 : goal.returns-then-outside-ne0
 returns-then-outside-ne0 c = let A = c.args in
     let x_is = c.steals_from-outside.ensures.0 ∙ ap (λ (j : ℕ). operations (drop j (steals A.each))) c.saturating_sub-behind.ensures in

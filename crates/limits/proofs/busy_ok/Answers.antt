@@ -1,6 +1,6 @@
 use Rattle.std.proofs.lemmas.Bool.{not_from_true, not_from_false}
 use mathlib.Core.Path.{sym, ap, subst, ◌∙◌}
-use Prim.Native.Nat.{ℕ, ◌≤◌}
+use Prim.Native.Nat.{ℕ}
 use lib.Dec.{eqb, ltb}
 use borrow.Author.Tests.{eqb-false}
 use Rattle.model.specs.Tests.{when◌then◌else◌}
@@ -8,7 +8,7 @@ use Rattle.model.specs.World.{stage}
 use Rattle.model.proofs.Tests.{holds, fails, passed, refused}
 use Rattle.limits.specs.declared.Reach.{Reach}
 use Rattle.limits.specs.Parts.{Reached}
-use Rattle.limits.proofs.Crew.{outside, inside, reached, in_reach}
+use Rattle.limits.proofs.Crew.{outside, inside, reached}
 use Rattle.limits.proofs.busy_ok.Goals as goal
 
 pub returns-then-scope-worker : goal.returns-then-scope-worker

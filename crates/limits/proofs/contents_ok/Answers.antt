@@ -1,5 +1,5 @@
 use Rattle.std.proofs.lemmas.Bool.{not_from_true, not_from_false}
-use mathlib.Core.Path.{refl, sym, ap, ◌∙◌}
+use mathlib.Core.Path.{sym, ap, ◌∙◌}
 use Prim.Native.Nat.{ℕ, ◌-◌, ◌*◌, ◌^◌, ◌%◌, ◌<◌}
 use native.Mathlib.Omega.{arith}
 use Rattle.model.specs.Tests.{◌and◌}
@@ -7,7 +7,7 @@ use Rattle.model.specs.World.{tag_bits}
 use Rattle.model.specs.Limits.{anchor_ok, links_ok}
 use Rattle.model.proofs.Tests.{holds, fails, passed, refused}
 use Rattle.limits.specs.Parts.{workers_ok}
-use Rattle.limits.proofs.Contents.{narrow, in_memory, in_view, doubles, doubles_view}
+use Rattle.limits.proofs.Contents.{in_memory, in_view, doubles_view}
 use Rattle.limits.proofs.contents_ok.Goals as goal
 
 pub returns-then-not-anchor_ok : goal.returns-then-not-anchor_ok

@@ -1,11 +1,9 @@
-use Rattle.std.proofs.lemmas.Bool.{not_from_true, not_from_false}
-use mathlib.Core.Path.{sym}
+use Rattle.std.proofs.lemmas.Bool.{not_from_true}
 use native.Mathlib.Omega.{arith}
 use borrow.Author.Tests.{le-leb}
 use Rattle.model.specs.Tests.{when◌then◌else◌}
-use Rattle.model.proofs.Tests.{passed, refused, and_both}
-use Rattle.limits.proofs.Views.{unheld_many, unheld_note, none_told, told}
-use Rattle.limits.proofs.Waits.{most_eight}
+use Rattle.model.proofs.Tests.{passed, and_both}
+use Rattle.limits.proofs.Views.{none_told, told}
 use Rattle.limits.proofs.owners_view.Goals as goal
 
 pub returns-then-line-eq0 : goal.returns-then-line-eq0

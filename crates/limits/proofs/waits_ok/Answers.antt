@@ -13,7 +13,7 @@ use Rattle.model.specs.Limits.{anchor_ok, store_ok, stores_ok}
 use Rattle.model.proofs.Tests.{and_both, and_false, fails, passed, refused}
 use Rattle.ranges.specs.Doubles.{Doubled}
 use Rattle.waiting.proofs.Line.{test_fails, tests_next}
-use Rattle.limits.proofs.Contents.{narrow, in_view}
+use Rattle.limits.proofs.Contents.{in_view}
 use Rattle.limits.proofs.waits_ok.Goals as goal
 
 pub returns-then-not-anchor_ok : goal.returns-then-not-anchor_ok

@@ -11,7 +11,7 @@ use Rattle.model.proofs.Tests.{if_false}
 use Rattle.lines.specs.Actions.{Does}
 use Rattle.machine.specs.declared.Made.TheVariants as made
 use Rattle.machine.specs.Steps.{bench_of, bench_after, answer_after, moved_by, left_by, acted_by, log_after, Fits}
-use Rattle.machine.proofs.Moves.{few_bits, fits}
+use Rattle.machine.proofs.Moves.{fits}
 use Rattle.machine.proofs.Stepping.{same_moved, idle_worker, line_done, line_links, plans_outside, plans_rest, plans_no_link, plans_action}
 use Rattle.machine.proofs.step_in.Goals as goal
 

@@ -26,11 +26,6 @@ returns-in-Err c = λ l.
 pub first_length-long-requires : goal.first_length-long-requires
 first_length-long-requires c = let A = admitted_in c.args.setup c.usable-left.result (sym c.admission_stop-stop.ensures ∙ c.in_default.is) in (A.size, A.words)
 
-pub zero-requires : goal.zero-requires
-zero-requires c = let a = c.args in
-    let A = admitted_in a.setup _ (sym c.admission_stop-stop.ensures ∙ c.in_default.is) in
-    omega (arith, A.fits, c.first_length-long.ensures, c.usable-left.ensures, at_most_usable a.store.now)
-
 pub new_bench-requires : goal.new_bench-requires
 new_bench-requires c = let A = admitted_in c.args.setup c.usable-left.result (sym c.admission_stop-stop.ensures ∙ c.in_default.is) in (A.size, A.words)
 

@@ -1,5 +1,4 @@
-use native.Mathlib.Omega.{arith}
-use Rattle.plots.proofs.Rooms.{kept, fits, few}
+use Rattle.plots.proofs.Rooms.{kept}
 use Rattle.plots.proofs.room_left.Goals as goal
 
 pub claimed_words-next-requires : goal.claimed_words-next-requires

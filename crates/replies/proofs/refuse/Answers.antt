@@ -9,6 +9,3 @@ use Rattle.replies.proofs.refuse.Goals as goal
 
 pub show-end-requires : goal.show-end-requires
 show-end-requires c = omega (arith, answer_most c.args.session.bench.words (Refused BadLine))
-
-pub returns : goal.returns
-returns c = λ m l. record { program = left_on false c.args.session m l refl; text = c.show-end.ensures }

@@ -1,12 +1,12 @@
 use Rattle.std.proofs.Common.{rules, ◌≡◌, Ok, Err}
-use Rattle.std.proofs.lemmas.Bool.{not_from_true, not_from_false}
+use Rattle.std.proofs.lemmas.Bool.{not_from_true}
 use mathlib.Core.Path.{sym, ap, ◌∙◌}
 use Prim.Native.Nat.{◌<◌, ◌≤◌}
 use native.Mathlib.Omega.{arith}
-use borrow.Author.Tests.{lt-ltb, le-ltb, le-leb, lt-leb}
+use borrow.Author.Tests.{lt-ltb, le-leb, lt-leb}
 use Rattle.model.specs.declared.Room.{Room}
 use Rattle.model.specs.Calls.{first_length}
-use Rattle.model.proofs.Tests.{passed, refused, if_true, if_false}
+use Rattle.model.proofs.Tests.{passed, if_true, if_false}
 use Rattle.opening.proofs.Admits.{outcome_of, admitted_in}
 use Rattle.yard_calls.proofs.Making.{last}
 use Rattle.yard_calls.proofs.make_stop.Goals as goal
