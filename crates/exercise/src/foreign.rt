@@ -323,13 +323,7 @@ fn try_compare(out: Stdout, tried: &str, next: u32) {
 pub fn thieves(out: Stdout) {
     try_line(out, "a thief at a line of take", 1, 1, Line::TakeRead);
     try_line(out, "the last of the crew busy", 1, 2, Line::StealRead);
-    try_line(
-        out,
-        "a busy worker outside the crew",
-        1,
-        3,
-        Line::StealRead,
-    );
+    try_line(out, "a busy worker outside the crew", 1, 3, Line::StealRead);
 }
 
 pub fn reads(out: Stdout) {

@@ -151,13 +151,7 @@ fn order(out: Stdout) {
         true,
         0,
     );
-    try_step(
-        out,
-        "a step of worker 9 in a foreign state",
-        65536,
-        true,
-        9,
-    );
+    try_step(out, "a step of worker 9 in a foreign state", 65536, true, 9);
     try_step(out, "a step of worker 9", 65535, true, 9);
 }
 

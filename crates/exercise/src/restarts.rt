@@ -2,7 +2,7 @@
 use model::{Line, Refusal};
 use queues::Bench;
 use std::io::Stdout;
-use tries::{anchor, base, played, task, with_line, Counted};
+use tries::{Counted, anchor, base, played, task, with_line};
 
 // A bench on which thief 1 of 3 is at its compare, and the anchor is not the one that it read. Its restarts so far are `count`, the
 // owner's 9 and thief 2's 5.

@@ -7,7 +7,7 @@ use model::{Growth, Line, Operation, Setup};
 use queues::{Bench, Reply};
 use std::io::Stdout;
 use tries::{
-    base, base_of, for_put, played, put, say_of, steps, text, with_line, with_pair, Counted,
+    Counted, base, base_of, for_put, played, put, say_of, steps, text, with_line, with_pair,
 };
 
 // So many words are set aside.
@@ -399,14 +399,7 @@ fn try_put(out: Stdout, tried: &str, kind: u32, lines: u32, before: u32, behind:
 pub fn puts(out: Stdout) {
     try_put(out, "LIFO, an ask and a put that grows", 1, 5, 2, 8);
     try_put(out, "FIFO, an ask and a put that grows", 2, 6, 3, 9);
-    try_put(
-        out,
-        "double-ended, an ask and a put that grows",
-        3,
-        5,
-        2,
-        8,
-    );
+    try_put(out, "double-ended, an ask and a put that grows", 3, 5, 2, 8);
 }
 
 // A commit of an empty queue: four steps, and the log's entry.

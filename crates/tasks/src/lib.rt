@@ -68,8 +68,15 @@ pub fn cut(task: Task, words: u32) -> Task
 {
     let p = task.payload;
     let payload = match words {
-        1 => Payload { first: p.first, ..NO_PAYLOAD },
-        2 => Payload { third: 0, fourth: 0, ..p },
+        1 => Payload {
+            first: p.first,
+            ..NO_PAYLOAD
+        },
+        2 => Payload {
+            third: 0,
+            fourth: 0,
+            ..p
+        },
         3 => Payload { fourth: 0, ..p },
         _ => p,
     };

@@ -186,10 +186,7 @@ pub fn with_pair(
 {
     let mut next = state;
     let mut queue = next.queue;
-    queue.arrays[place] = Region {
-        offset,
-        length,
-    };
+    queue.arrays[place] = Region { offset, length };
     queue.published = published;
     queue.claimed = claimed;
     if place == 0 {
@@ -200,11 +197,7 @@ pub fn with_pair(
 }
 
 pub fn anchor(head: u32, count: u32, tag: u32) -> Anchor {
-    Anchor {
-        head,
-        count,
-        tag,
-    }
+    Anchor { head, count, tag }
 }
 
 pub fn task(number: u32) -> Task {
