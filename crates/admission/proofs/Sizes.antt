@@ -15,16 +15,6 @@ use Rattle.model.specs.Limits.{is_size}
 abbrev pub listed : List ℕ
 listed = 4 ∷ 8 ∷ 16 ∷ 32 ∷ 64 ∷ 128 ∷ 256 ∷ 512 ∷ 1024 ∷ []
 
-pub is_listed : (c : ℕ) → OneOf listed c → is_size 10 c ≡ true
-unfolding ◌or◌
-is_listed c h =
-    ⊎_elim (λ e. rw e)
-    (⊎_elim (λ e. rw e)
-    (⊎_elim (λ e. rw e)
-    (⊎_elim (λ e. rw e)
-    (⊎_elim (λ e. rw e) (⊎_elim (λ e. rw e) (⊎_elim (λ e. rw e) (⊎_elim (λ e. rw e) (λ e. rw e))))))))
-    h
-
 pub not_listed : (c : ℕ) → (OneOf listed c → ⊥) → (c ≡ 1 → ⊥) → (c ≡ 2 → ⊥) → is_size 10 c ≡ false
 unfolding ◌or◌
 not_listed c h h1 h2 =
@@ -41,10 +31,6 @@ not_listed c h h1 h2 =
       ne_eqb c 2 h2,
       ne_eqb c 1 h1,
     )
-
-pub one_or_two : (c : ℕ) → 1 ≤ c → c < 3 → is_size 10 c ≡ true
-unfolding ◌or◌
-one_or_two c h k = ⊎_elim (λ g. let e : c ≡ 1 = sym g in rw e) (λ g. let e : c ≡ 2 = omega arith in rw e) (eq-or-lt_of_le h)
 
 -- a size is at most 1,024
 above : (c : ℕ) → 1024 < c → OneOf listed c → ⊥

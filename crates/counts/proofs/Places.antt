@@ -23,12 +23,6 @@ use Rattle.handouts.specs.Starts.{Starts}
 use Rattle.handouts.proofs.Starts.{from_start}
 use Rattle.counts.specs.Places.{window_task, stands}
 
--- an index of the window needs 33 bits
-pub index_le : (κ : Kind) (a : Anchor) (i : ℕ) → window_index κ a i ≤ a.head + i
-index_le Lifo a i = omega arith
-index_le Fifo a i = omega arith
-index_le Deque a i = omega arith
-
 -- a task's words, read from the start of the slot that was worked out
 pub task_is : (κ : Kind) (v : ℕ) (a : Anchor) (g : Region) (m : List ℕ) (i x s r : ℕ) → x ≡ window_index κ a i → s ≡ slot κ (g.length / (v + 1)) x
     → length m ≤ 2305843009213693952 → Starts (v + 1) s r → gathered (v + 1) (λ k. get_or m (g.offset + r + k) 0) ≡ window_task κ v a g m i

@@ -60,15 +60,6 @@ module _ (p : ℕ → Bool) where
   unfolding count_below when◌then◌else◌
   count_miss j e h = e ∙ rw (add-one j, h)
 
--- whether one of n places passes, as the library tells it
-pub some_by : (p : ℕ → Bool) (n : ℕ) (r : Bool) → (IsTrue r ↔ ((k : ℕ) × (k < n) × (p k ≡ true))) → r ≡ some_below p n
-some_by p n true e = let g = e.0 refl in some_at p n g.0 g.1 refl g.2
-some_by p n false e = by (some_below p n) refl
-  where
-    by : (y : Bool) → some_below p n ≡ y → false ≡ some_below p n
-    by true h = absurd (true≢false (sym (e.1 (some_found p n h))))
-    by false h = sym h
-
 -- how many first hand-outs there are, after one entry more that is a hand-out
 pub byte_le : (y : Bool) → bool_byte y ≤ 1
 byte_le true = omega arith

@@ -62,10 +62,6 @@ take_replicate zero k h = refl
 take_replicate (suc n) zero h = absurd (omega arith)
 take_replicate (suc n) (suc k) h = ap (λ (l : List ℕ). 0 ∷ l) (take_replicate n k (omega arith))
 
--- the front of the hunt's store
-pub front_length : (n k : ℕ) → n ≤ k → n ≡ length (take n (replicate {A = ℕ} k 0))
-front_length n k h = sym (ap length (take_replicate n k h) ∙ length-replicate {A = ℕ} n 0)
-
 pub front_own : (n s k : ℕ) → n ≡ least s 10235 → n ≤ k → take n (replicate k 0) ≡ own_store s
 front_own n s k e h = take_replicate n k h ∙ ap (λ (j : ℕ). replicate {A = ℕ} j 0) e
 

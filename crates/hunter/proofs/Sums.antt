@@ -30,14 +30,6 @@ seven x (a ∷ b ∷ c ∷ d ∷ e ∷ []) h = absurd (omega arith)
 seven x (a ∷ b ∷ c ∷ d ∷ e ∷ f ∷ []) h = absurd (omega arith)
 seven x (a ∷ b ∷ c ∷ d ∷ e ∷ f ∷ g ∷ i ∷ l) h = absurd (omega arith)
 
-pub first_better : (g m r : ℕ) → g ≡ 0 → true ≡ (eqb g 0 or ltb m r)
-unfolding ◌or◌
-first_better g m r e = rw (eq-eqb g 0 e)
-
-pub more_better : (g m r : ℕ) → (g ≡ 0 → ⊥) → ltb m r ≡ (eqb g 0 or ltb m r)
-unfolding ◌or◌
-more_better g m r e = rw (ne_eqb g 0 e)
-
 pub min_least : (a b : ℕ) → min a b ≡ least a b
 min_least a b = go (leb a b) refl
   where

@@ -56,16 +56,6 @@ module _ (v : ℕ) (log list : List ℕ) where
       unfolding judged
       even h g = sym (if_true _ words_fine ∙ if_true _ short ∙ if_true _ (and_both _ _ (eq-eqb _ _ h) (eq-eqb _ _ g)))
 
--- the entries of so many bytes: no more than these, and at most 4,096
-pub entries_within : (v len : ℕ) → entry_bytes v * (len / entry_bytes v) ≤ len
-entries_within v len = mul-div-le len (entry_bytes v)
-
-pub entries_few : (v len : ℕ) → 1 ≤ v → len ≤ 65536 → len / entry_bytes v ≤ 4096
-entries_few v len o h =
-    let w = entries_within v len in
-    let m : 1 * (len / entry_bytes v) ≤ v * (len / entry_bytes v) = mul-le-mul_right (len / entry_bytes v) o in
-    omega (arith, w, m, h)
-
 -- the front of a table without a mark
 pub falses_at : (c n k : ℕ) → get_or (take c (replicate n false)) k false ≡ false
 falses_at zero n k = refl

@@ -14,12 +14,6 @@ use Rattle.model.specs.Counts.{entry_at}
 use Rattle.model.proofs.Tasks.{same_words, word_gathered, same_task_lem, task_same}
 use Rattle.judgement.specs.Judgement.{entry_bytes}
 
--- one of n entries ends within their bytes
-pub entry_ends : (v n j len : ℕ) → entry_bytes v * n ≤ len → j < n → entry_bytes v * (j + 1) ≤ len
-entry_ends v n j len h g =
-    let m : (3 + v) * (j + 1) ≤ (3 + v) * n = mul-le-mul_left (3 + v) (let z : j + 1 ≤ n = omega (arith, g) in z) in
-    omega (arith, h, m)
-
 module _ (v : ℕ) (l : List ℕ) where
   module _ (i j : ℕ) where
     -- the first k words of both tasks are the same

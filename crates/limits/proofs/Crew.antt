@@ -93,12 +93,6 @@ unfolding when◌then◌else◌
 reached true S q p (m, o) = o
 reached false S q p (m, o) = m
 
-pub in_reach : (t : Bool) (S : Scope) → S.memory.published ≤ 11 → S.owner.published ≤ 11
-    → (when t then S.owner else S.memory).published ≤ 11
-unfolding when◌then◌else◌
-in_reach true S m o = o
-in_reach false S m o = m
-
 module _ (κ : Kind) (w v : ℕ) (q p : Queue) (n i : ℕ) where
   rests : member_ok κ w v q p n i Idle ≡ true
   unfolding ◌and◌ ◌or◌

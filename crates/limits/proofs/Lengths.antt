@@ -41,6 +41,3 @@ half_of_all v l = by (ltb l (513 * (v + 1))) refl
         let h : 513 * (v + 1) ≤ l = ltb-false _ _ e in
         let m : 513 ≤ l / (v + 1) = (le-div_iff_mul-le {k = v + 1} {x = 513} {y = l} (omega arith)).1 h in
         lt-leb (2 * (l / (v + 1))) 1024 (omega (arith, m))
-
-pub five_times : (v s : ℕ) → v ≤ 4 → (v + 1) * s ≤ 5 * s
-five_times v s h = mul-le-mul_right s (omega arith)

@@ -31,13 +31,6 @@ none_noted l e = ap (λ (n : ℕ). notes_ok (first_in l.stores n)) e
 pub none_held : (d : Bool) (l : Waiting) → l.count ≡ 0 → line_held d l ≡ true
 none_held d l e = and_both _ _ (le-leb l.count (when d then 8 else 0) (omega (arith, e))) (none_noted l e)
 
--- too many wait, or a note is none
-pub unheld_many : (d : Bool) (l : Waiting) → (when d then 8 else 0) < l.count → line_held d l ≡ false
-unheld_many d l h = fails (notes_ok (in_line l)) (lt-leb l.count (when d then 8 else 0) h)
-
-pub unheld_note : (d : Bool) (l : Waiting) → notes_ok (in_line l) ≡ false → line_held d l ≡ false
-unheld_note d l e = ap (λ (x : Bool). leb l.count (when d then 8 else 0) and x) e ∙ and_false _
-
 -- a view, told or not
 abbrev Told : Bench → Option View → Type 0
 Told b o =

@@ -60,9 +60,6 @@ pub record Standing (P : Program) (buf : List ℕ) (s : Session) (m l out : List
   pub shows : Yields P buf (take wrote out) (program_of s m l) (drop used buf)
   pub reach : Reachable (program_of s m l)
 
-pub standing_start : (s : Session) (buf m l out : List ℕ) → Reachable (program_of s m l) → Standing (program_of s m l) buf s m l out 0 0
-standing_start s buf m l out r = record { within = omega arith; fits = omega arith; shows = λ z. refl; reach = r }
-
 pub reach_over : (s : Session) (m l : List ℕ) → Reachable (left_by true s m l)
 unfolding when◌then◌else◌
 reach_over s m l = tt

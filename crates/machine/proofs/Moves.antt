@@ -35,22 +35,6 @@ use Rattle.machine.specs.declared.Made.TheVariants as made
 use Rattle.machine.specs.Steps.{bench_of, with_array, bench_after, answer_after, moved_by, left_by, made_by, concluded_by, acted_by, log_after, Fits}
 use Rattle.machine.proofs.Landing.{copies_leave, claims_land, anchor_lands}
 
--- no bits or as many as the width
-pub few_bits : (x : Bool) (w : ℕ) {r : ℕ} → r ≡ (when x then 0 else w) → w ≤ 16 → r ≤ 16
-unfolding when◌then◌else◌
-few_bits true w e h = omega (arith, e)
-few_bits false w e h = omega (arith, e, h)
-
--- the code asks whether an entry fits, the definition whether it does not
-pub full_is : (v : ℕ) (l : List ℕ) (n : ℕ) {x : Bool} → (leb (n + entry_length v) (length l) and leb (n + entry_length v) 4294967295) ≡ x → log_full v l n ≡ not x
-unfolding ◌and◌ ◌or◌
-full_is v l n e = by (leb (n + entry_length v) (length l)) (leb (n + entry_length v) 4294967295) refl refl e
-  where
-    by : (y z : Bool) {x : Bool} → leb (n + entry_length v) (length l) ≡ y → leb (n + entry_length v) 4294967295 ≡ z → (y and z) ≡ x → log_full v l n ≡ not x
-    by true true f g e = rw (le-ltb (length l) (n + entry_length v) (leb-true _ _ f), le-ltb 4294967295 (n + entry_length v) (leb-true _ _ g), sym e)
-    by true false f g e = rw (le-ltb (length l) (n + entry_length v) (leb-true _ _ f), lt-ltb 4294967295 (n + entry_length v) (leb-false _ _ g), sym e)
-    by false z f g e = rw (lt-ltb (length l) (n + entry_length v) (leb-false _ _ f), sym e)
-
 -- an entry that has room is counted in 32 bits
 pub room_counts : (v k : ℕ) (l : List ℕ) → log_full v l k ≡ false → k + entry_length v ≤ 4294967295
 unfolding ◌or◌

@@ -193,10 +193,3 @@ module _ (v : ℕ) (l : List ℕ) (n : ℕ) (puts : List ℕ) (c : ℕ) (G : Gat
 
   pub not_justified : (j : ℕ) → j < n → is_kind v l 2 j ≡ true → RepeatsPut v l puts c j c → all_below (justified v l) n ≡ false
   not_justified j h e P = all_fails (justified v l) n j h (unjustified j e (P.none refl))
-
--- after the last entry
-pub outs_told : (v : ℕ) (l : List ℕ) (n : ℕ) (puts : List ℕ) (c j outs firsts : ℕ) (seen : List Bool) → j ≡ n → Told v l puts c j outs firsts seen
-    → OutsFine v l n puts c (record { handouts = outs; different = firsts }) seen
-outs_told v l n puts c j outs firsts seen e T =
-    subst (λ (m : ℕ). OutsFine v l m puts c (record { handouts = outs; different = firsts }) seen) e
-    (record { fine = T.fine; handouts = T.outs_are; different = T.firsts_are; marked = T.marks })

@@ -17,23 +17,12 @@ use Rattle.model.specs.Tests.{◌and◌, ◌or◌}
 use Rattle.model.specs.Yard.{no_plot, all_below, total_of}
 use Rattle.model.proofs.Tests.{and_false, and_both, and_left, and_right, fails}
 
--- an element that is there does not depend on what stands for one that is not
-pub any_default : {A : Type 0} (l : List A) (i : ℕ) (d e : A) → i < length l → get_or l i d ≡ get_or l i e
-any_default [] i d e h = absurd (let z : ⊥ = omega arith in z)
-any_default (x ∷ l) zero d e h = refl
-any_default (x ∷ l) (suc i) d e h = any_default l i d e (omega arith)
-
 -- nor on the front that it is read from
 pub taken_at : {A : Type 0} (l : List A) (n i : ℕ) (d e : A) → n ≤ length l → i < n → get_or (take n l) i d ≡ get_or l i e
 taken_at l zero i d e h g = absurd (let z : ⊥ = omega arith in z)
 taken_at [] (suc n) i d e h g = absurd (let z : ⊥ = omega arith in z)
 taken_at (x ∷ l) (suc n) zero d e h g = refl
 taken_at (x ∷ l) (suc n) (suc i) d e h g = taken_at l n i d e (omega arith) (omega arith)
-
--- a first test that fails leaves the second
-pub or_past : {a : Bool} (b : Bool) → a ≡ false → b ≡ (a or b)
-unfolding ◌or◌
-or_past b e = rw e
 
 module _ (p : ℕ → Bool) where
   -- nothing is tested yet

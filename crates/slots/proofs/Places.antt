@@ -35,8 +35,3 @@ pub read_in : (κ : Kind) (v : ℕ) (q : Queue) (n k i j : ℕ) → Slotted κ v
     → offset_at q.arrays k + (v + 1) * slot κ (size_at v q.arrays k) i + j < n
 read_in κ v q n k i j S I h =
     in_array v (slot κ (size_at v q.arrays k) i) (size_at v q.arrays k) (offset_at q.arrays k) n j S.2 h I
-
--- word j at place a
-pub word_in_lem : {a : ℕ} (κ : Kind) (v : ℕ) (q : Queue) (n k i j : ℕ) → Slotted κ v q k i → Inside v q n k → j ≤ v
-    → a ≡ offset_at q.arrays k + (v + 1) * slot κ (size_at v q.arrays k) i + j → a < n
-word_in_lem κ v q n k i j S I h e = omega (arith, read_in κ v q n k i j S I h, e)

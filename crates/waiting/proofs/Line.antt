@@ -87,17 +87,3 @@ placed_at v q w [] i n h k P = absurd (omega arith)
 placed_at v q w (x ∷ l) i zero h k P = absurd (omega arith)
 placed_at v q w (x ∷ l) zero (suc n) h k P = P.0
 placed_at v q w (x ∷ l) (suc i) (suc n) h k P = placed_at v q w l i n (omega arith) (omega arith) P.1
-
--- eight places without the first
-pub seven_left : (l : List Store) (d x : Store) → length l ≡ 8
-    → (get_or l 1 d ∷ get_or l 2 d ∷ get_or l 3 d ∷ get_or l 4 d ∷ get_or l 5 d ∷ get_or l 6 d ∷ get_or l 7 d ∷ x ∷ []) ≡ drop 1 l ++ x ∷ []
-seven_left [] d x e = absurd (omega arith)
-seven_left (a ∷ []) d x e = absurd (omega arith)
-seven_left (a ∷ b ∷ []) d x e = absurd (omega arith)
-seven_left (a ∷ b ∷ c ∷ []) d x e = absurd (omega arith)
-seven_left (a ∷ b ∷ c ∷ f ∷ []) d x e = absurd (omega arith)
-seven_left (a ∷ b ∷ c ∷ f ∷ g ∷ []) d x e = absurd (omega arith)
-seven_left (a ∷ b ∷ c ∷ f ∷ g ∷ h ∷ []) d x e = absurd (omega arith)
-seven_left (a ∷ b ∷ c ∷ f ∷ g ∷ h ∷ i ∷ []) d x e = absurd (omega arith)
-seven_left (a ∷ b ∷ c ∷ f ∷ g ∷ h ∷ i ∷ j ∷ []) d x e = refl
-seven_left (a ∷ b ∷ c ∷ f ∷ g ∷ h ∷ i ∷ j ∷ k ∷ l) d x e = absurd (omega arith)
