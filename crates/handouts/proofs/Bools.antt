@@ -1,18 +1,15 @@
 -- Tests of an entry in the order in which the code makes them.
 use mathlib.Core.Path.{◌≡◌, refl, sym, ap, ◌∙◌}
-use mathlib.Core.Bool.{Bool, true, false, not, ◌&&◌, true≢false}
+use mathlib.Core.Bool.{Bool, true, false, not, ◌&&◌}
 use lib.Dec.{eqb}
 use Rattle.model.specs.declared.Task.{Task}
 use Rattle.model.specs.Tasks.{same_task}
-use Prim.Native.Nat.{ℕ, ◌+◌, ◌<◌, ◌≤◌}
+use Prim.Native.Nat.{ℕ, ◌+◌, ◌≤◌}
 use native.Mathlib.Omega.{arith}
 use mir.Val.{bool_byte}
 use native.Mathlib.Numerals.{add-one}
 use Rattle.model.specs.Tests.{when◌then◌else◌, ◌and◌, ◌or◌}
-use Rattle.model.specs.Counts.{count_below, some_below}
-use Rattle.model.proofs.Below.{some_at}
-use Rattle.judgement.proofs.All.{some_found}
-use Rattle.std.specs.Prelude.{◌↔◌, IsTrue}
+use Rattle.model.specs.Counts.{count_below}
 
 pub true_and : {x a b : Bool} → x ≡ a → x ≡ true → b ≡ (a and b)
 unfolding ◌and◌

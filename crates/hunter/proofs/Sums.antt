@@ -4,13 +4,13 @@ use mathlib.Core.Bool.{Bool, true, false}
 use mathlib.Core.List.{List, [], ◌∷◌, map}
 use Prim.Native.Nat.{ℕ, zero, suc, ◌+◌, ◌-◌, ◌/◌, ◌≤◌, ◌<◌}
 use native.Mathlib.Omega.{arith}
-use lib.Dec.{eqb, ltb, leb}
+use lib.Dec.{leb}
 use lib.ListN.{length, get_or, drop, replicate, length-replicate, length-map}
 use Rattle.std.proofs.Common.{min}
 use native.Mathlib.Nat.{min-eq_left, min-eq_right}
-use borrow.Author.Tests.{eq-eqb, ne_eqb, leb-true, leb-false}
+use borrow.Author.Tests.{leb-true, leb-false}
 use Rattle.model.specs.declared.Operation.TheVariants.{Steal}
-use Rattle.model.specs.Tests.{◌or◌, least}
+use Rattle.model.specs.Tests.{least}
 use Rattle.model.specs.World.{World}
 use Rattle.model.proofs.Tests.{if_true, if_false}
 use Rattle.model.specs.Counts.{counts_of, count_below, is_kind, out_first}

@@ -4,7 +4,6 @@ use mathlib.Core.Bool.{Bool, true, false}
 use mathlib.Core.List.{List}
 use Prim.Native.Nat.{ℕ, ◌+◌, ◌*◌, ◌≤◌, ◌<◌}
 use native.Mathlib.Omega.{arith}
-use native.Mathlib.Nat.{mul-le-mul_left}
 use lib.Dec.{ltb}
 use lib.ListN.{get_or}
 use borrow.Author.Tests.{ltb-true, ltb-false}
@@ -12,7 +11,6 @@ use Rattle.model.specs.Tasks.{word_in, same_task}
 use Rattle.model.specs.Answers.{entry_length}
 use Rattle.model.specs.Counts.{entry_at}
 use Rattle.model.proofs.Tasks.{same_words, word_gathered, same_task_lem, task_same}
-use Rattle.judgement.specs.Judgement.{entry_bytes}
 
 module _ (v : ℕ) (l : List ℕ) where
   module _ (i j : ℕ) where

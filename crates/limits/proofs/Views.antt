@@ -1,19 +1,18 @@
 -- What the owner reads of the queue, from a line that can be put down.
-use mathlib.Core.Bool.{Bool, true, false}
+use mathlib.Core.Bool.{Bool, true}
 use mathlib.Core.List.{List}
-use mathlib.Core.Path.{◌≡◌, sym, ap, ◌∙◌}
-use Prim.Native.Nat.{ℕ, ◌<◌}
+use mathlib.Core.Path.{◌≡◌, sym, ap}
+use Prim.Native.Nat.{ℕ}
 use native.Mathlib.Omega.{arith}
-use lib.Dec.{leb}
-use borrow.Author.Tests.{le-leb, lt-leb}
+use borrow.Author.Tests.{le-leb}
 use Rattle.std.specs.Option.{is_some, IfSome}
 use Rattle.std.specs.Prelude.{Option, Some}
 use Rattle.model.specs.declared.Queue.{Queue}
 use Rattle.model.specs.declared.Waiting.{Waiting}
 use Rattle.model.specs.declared.Bench.{Bench}
-use Rattle.model.specs.Tests.{when◌then◌else◌, ◌and◌}
+use Rattle.model.specs.Tests.{when◌then◌else◌}
 use Rattle.model.specs.Stores.{Shared, shared, landed_all, in_line}
-use Rattle.model.proofs.Tests.{and_both, fails, and_false}
+use Rattle.model.proofs.Tests.{and_both}
 use Rattle.waiting.specs.Places.{notes_ok, first_in}
 use Rattle.waiting.proofs.Words.{arrays_stay, claimed_stays}
 use Rattle.limits.specs.declared.View.{View}

@@ -18,7 +18,7 @@ use Rattle.model.proofs.Tests.{holds, fails, and_left, and_right, and_both, and_
 use Rattle.model.proofs.Below.{some_at, up_miss, some_same}
 use Rattle.judgement.specs.Judgement.{all_below, finished_as, justified, listed}
 use Rattle.puts.specs.Puts.{number_of_put, Rising, Gathered, RepeatsPut}
-use Rattle.marks.specs.Marks.{Marked, OutsFine}
+use Rattle.marks.specs.Marks.{Marked}
 use Rattle.judgement.proofs.All.{all_at, all_next, all_fails, some_found}
 use Rattle.puts.proofs.Repeating.{one_place, same_put}
 

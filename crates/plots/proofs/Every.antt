@@ -13,7 +13,7 @@ use Rattle.std.specs.List.{list_all}
 use Rattle.std.proofs.lemmas.List.Folds.{list_all_more}
 use Rattle.model.specs.declared.Bench.{Bench}
 use Rattle.model.specs.declared.Plot.{Plot}
-use Rattle.model.specs.Tests.{◌and◌, ◌or◌}
+use Rattle.model.specs.Tests.{◌and◌}
 use Rattle.model.specs.Yard.{no_plot, all_below, total_of}
 use Rattle.model.proofs.Tests.{and_false, and_both, and_left, and_right, fails}
 

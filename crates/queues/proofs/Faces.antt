@@ -1,16 +1,12 @@
 -- What a call leaves is what the face leaves.
 use mathlib.Core.List.{List}
-use mathlib.Core.Path.{◌≡◌, ap, subst, ◌∙◌}
+use mathlib.Core.Path.{◌≡◌, ap, ◌∙◌}
 use Prim.Native.Nat.{ℕ}
 use Rattle.model.specs.World.{Outcome}
 use Rattle.state.specs.declared.Returned.{Returned}
 use Rattle.state.specs.Outcomes.{returned}
 use Rattle.queues.specs.declared.Reply.{Reply}
-use Rattle.model.specs.Yard.{Yields}
-use Rattle.yard_calls.specs.declared.Yielded.{Yielded}
-use Rattle.yard_calls.specs.Yielding as calls
-use Rattle.queues.specs.declared.YardReply.{YardReply}
-use Rattle.queues.specs.Left.{left, yielded}
+use Rattle.queues.specs.Left.{left}
 
 pub reply_left : {r : Reply} {d : Returned} {m l : List ℕ} {o : Outcome}
     → r ≡ record { bench = record { state = d.bench }; answer = d.answer }

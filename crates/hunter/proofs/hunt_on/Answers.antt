@@ -1,10 +1,9 @@
-use native.Mathlib.Omega.{arith}
 use mathlib.Core.Path.{◌∙◌, ap}
 use Prim.Native.Nat.{ℕ}
 use lib.ListN.{drop}
 use Rattle.orders.specs.Hunt.{operations}
 use Rattle.hunter.specs.Hunter.{steals}
-use Rattle.hunter.proofs.Starting.{barred_is, behind_few, sized, strangers_is, many_is, large_is, good_start, fits_start, none_start, hands_start, made_is}
+use Rattle.hunter.proofs.Starting.{barred_is, sized, strangers_is, many_is, large_is, good_start, fits_start, none_start, hands_start, made_is}
 use Rattle.hunter.proofs.hunt_on.Goals as goal
 
 pub returns-in-Err : goal.returns-in-Err

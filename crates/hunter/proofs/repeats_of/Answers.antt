@@ -1,4 +1,4 @@
-use mathlib.Core.Path.{refl, ap, ◌∙◌}
+use mathlib.Core.Path.{ap, ◌∙◌}
 use Prim.Native.Nat.{◌+◌, ◌/◌}
 use Rattle.model.specs.Counts.{count_below, out_first}
 use Rattle.handouts.specs.declared.Log.{Log}

@@ -1,12 +1,10 @@
 use mathlib.Core.Path.{refl, sym, ap, ◌∙◌}
-use native.Mathlib.Omega.{arith}
 use Rattle.model.specs.declared.Refusal.{Refusal}
 use Rattle.model.specs.declared.Bench.{Bench}
 use Rattle.model.specs.declared.Answer.TheVariants.{Accepted}
 use Rattle.model.specs.Memory.{zeros}
 use Rattle.model.specs.World.{refuse}
 use Rattle.model.specs.Calls.{lent, no_bench, new_bench, first_length, fresh_of}
-use Rattle.model.proofs.Alone.{at_most_usable}
 use Rattle.state.specs.declared.Returned.{Returned}
 use Rattle.state.specs.Outcomes.{returned}
 use Rattle.state.proofs.Replies.{same_returned}

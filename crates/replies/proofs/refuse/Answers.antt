@@ -1,10 +1,7 @@
-use mathlib.Core.Bool.{false}
-use mathlib.Core.Path.{refl}
 use native.Mathlib.Omega.{arith}
 use Rattle.model.specs.declared.Answer.TheVariants.{Refused}
 use Rattle.model.specs.declared.Refusal.TheVariants.{BadLine}
 use Rattle.replies.proofs.Shows.{answer_most}
-use Rattle.replies.proofs.Replies.{left_on}
 use Rattle.replies.proofs.refuse.Goals as goal
 
 pub show-end-requires : goal.show-end-requires

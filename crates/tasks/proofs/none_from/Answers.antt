@@ -1,6 +1,6 @@
 use Rattle.std.proofs.Common.{arith}
 use Rattle.tasks.proofs.Zeros.{none_is}
-use Rattle.model.specs.Tests.{◌and◌, ◌or◌}
+use Rattle.model.specs.Tests.{◌and◌}
 use Rattle.tasks.proofs.none_from.Goals as goal
 
 pub returns-then-kept-4 : goal.returns-then-kept-4
