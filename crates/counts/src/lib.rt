@@ -42,7 +42,7 @@ fn slot_of(kind: Kind, size: u64, index: u64) -> u64
 
 // The tasks that a queue holds: its current array in the store. No store waits.
 #[derive(Clone, Copy)]
-pub struct Window<'a> {
+struct Window<'a> {
     bench: &'a Bench,
     array: Region,
     store: &'a [u32],
@@ -164,8 +164,8 @@ pub fn counts(bench: Bench, store: &[u32], log: &[u32]) -> Counts
         store,
     };
     Counts {
-        finished: log.entries_of(EntryKind::Finished, n),
-        handouts: log.entries_of(EntryKind::HandOut, n),
+        finished: log.entries_of(EntryKind::Finished as u32, n),
+        handouts: log.entries_of(EntryKind::HandOut as u32, n),
         different: outs.different,
         restarts: restarts_of(bench.restarts),
         window: window.size(),

@@ -7,7 +7,7 @@ pub record Seen (v : ℕ) (l s : List ℕ) (n : ℕ) : Type 0 where
   pub long : length s ≡ 4096
   pub none : (x : ℕ) → get_or s (x % 4096) 0 ≡ 0 → some_below (out_as v l x) n ≡ false
 
--- none of the first n entries hands out number x
+-- none of the first n entries hands out number x, where no place is told
 abbrev pub LastLike : ℕ → List ℕ → ℕ → ℕ → Option ℕ → Type 0
 LastLike v l x n None = some_below (out_as v l x) n ≡ false
 LastLike v l x n (Some k) = Unit {0}

@@ -74,11 +74,18 @@ impl Log<'_> {
         start_of(3 + u64::from(self.words), u64::from(entry))
     }
 
+    // The number of an entry's kind, known or not.
+    pub fn kind_at(&self, entry: u32) -> u32
+        ensures { result ≡ (entry_at self.now.words self.now.memory.now entry).kind }
+    {
+        word_at(self.memory, self.entry_start(entry))
+    }
+
     // Whether an entry is of this kind.
     pub fn is_kind(&self, kind: EntryKind, entry: u32) -> bool
         ensures { result ≡ is_kind self.now.words self.now.memory.now (number_of kind) entry }
     {
-        word_at(self.memory, self.entry_start(entry)) == kind as u32
+        self.kind_at(entry) == kind as u32
     }
 
     // Its put number, and its task.
@@ -94,13 +101,13 @@ impl Log<'_> {
         task_from(self.words, self.memory, self.entry_start(entry) + 2)
     }
 
-    // How many of the first `n` entries are of this kind.
-    pub fn entries_of(&self, kind: EntryKind, n: u32) -> u32
-        ensures { result ≡ count_below (is_kind self.now.words self.now.memory.now (number_of kind)) n }
+    // How many of the first `n` entries are of the kind with this number.
+    pub fn entries_of(&self, kind: u32, n: u32) -> u32
+        ensures { result ≡ count_below (is_kind self.now.words self.now.memory.now kind) n }
     {
         let mut count = 0;
         for j in 0..n {
-            if self.is_kind(kind, j) {
+            if self.kind_at(j) == kind {
                 count += 1;
             }
         }

@@ -48,7 +48,7 @@ fn repeats_of(words: u32, written: u32, log: &[u32], seen: &mut [u32; 4096]) -> 
     let each = 3 + u64::from(words);
     let n = (u64::from(written) / each) as u32;
     let log = Log { words, memory: log };
-    let outs = log.entries_of(EntryKind::HandOut, n);
+    let outs = log.entries_of(EntryKind::HandOut as u32, n);
     let different = HandOuts::of(log, n, seen).different;
     outs.saturating_sub(different)
 }

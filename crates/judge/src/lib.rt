@@ -7,7 +7,7 @@
 ghost use Rattle.std.specs.Prelude.{◌≡◌, ◌/◌, length};
 ghost use Rattle.judgement.specs.Judgement.{words_of, judged_words, judged, verdict_number};
 
-use judgement::{Log, Verdict};
+use judgement::{Log, Ordered, Verdict};
 use puts::Puts;
 
 // The judgement of a log's entries and a list's numbers.
@@ -18,7 +18,8 @@ fn judge_entries(log: Log, list: &[u8]) -> Verdict
         return Verdict::No;
     }
     let mut places = [0; 4096];
-    let puts = Puts::gather(log, &mut places);
+    let ordered = Ordered { log };
+    let puts = Puts::gather(ordered, &mut places);
     let mut seen = [false; 4096];
     let seen = &mut seen[..puts.places.len()];
     let Some(outs) = marks::hand_outs(&puts, seen) else {

@@ -1,10 +1,10 @@
 // The judgement of a log that a running matcher wrote (specs/), the verdict's type, and the log's entries: their kinds, numbers and
 // order.
-// Uses `model`. It is used by `puts`, `marks`, `judge` and `accepted`.
+// Uses `model`. It is used by `puts`, `marks`, `judge`, `judge_c`, `handouts`, `counts`, `hunter`, `accepted` and `yards`.
 
 #![tactic(auto)]
 
-ghost use Rattle.std.specs.Prelude.{◌≡◌, ◌+◌, ◌*◌, ◌≤◌, ◌<◌, length, get_or};
+ghost use Rattle.std.specs.Prelude.{◌≡◌, true, ◌+◌, ◌*◌, ◌≤◌, ◌<◌, length, get_or};
 ghost use Rattle.model.specs.Tests.{◌and◌};
 ghost use Rattle.model.specs.Tasks.{same_task};
 ghost use Rattle.model.specs.Counts.{entry_at, is_kind};
@@ -57,12 +57,20 @@ impl Log<'_> {
         word(self.bytes, (3 + self.words) * entry + k)
     }
 
+    // The number of an entry's kind, known or not.
+    pub fn kind_at(&self, entry: usize) -> u32
+        requires { entry < self.now.entries }
+        ensures { result ≡ (entry_at self.now.words (words_of self.now.bytes.now) entry).kind }
+    {
+        self.word_of(entry, 0)
+    }
+
     // Whether an entry is of this kind.
     pub fn is_kind(&self, kind: EntryKind, entry: usize) -> bool
         requires { entry < self.now.entries }
         ensures { result ≡ is_kind self.now.words (words_of self.now.bytes.now) (number_of kind) entry }
     {
-        self.word_of(entry, 0) == kind as u32
+        self.kind_at(entry) == kind as u32
     }
 
     // The put number of an entry.
@@ -105,4 +113,11 @@ impl Log<'_> {
         }
         true
     }
+}
+
+// A log whose put numbers rise.
+#[derive(Clone, Copy)]
+pub struct Ordered<'a> {
+    pub log: Log<'a>,
+    pub ghost rising: { all_below (rises log.words (words_of log.bytes.now)) log.entries ≡ true },
 }

@@ -3,7 +3,7 @@
 
 #![tactic(auto)]
 
-ghost use Rattle.std.specs.Prelude.{◌≡◌, false, ℕ, ◌/◌, length, get_or};
+ghost use Rattle.std.specs.Prelude.{◌≡◌, ◌≤◌, false, ℕ, ◌/◌, length, get_or};
 ghost use Rattle.judgement.specs.Judgement.{words_of, all_below};
 ghost use Rattle.marks.specs.Marks.{Marked, OutsBy, is_marked};
 
@@ -20,7 +20,7 @@ pub struct Outs {
 // The hand-outs counted, if each repeats an earlier finished put, and the puts that they hand out marked in `seen`, where nothing was
 // marked before.
 pub fn hand_outs(puts: &Puts, seen: &mut [bool]) -> Option<Outs>
-    requires room { length seen.old ≡ length puts.now.places.now }
+    requires room { length puts.now.places.now ≤ length seen.old }
     requires by_index { (k : ℕ) → get_or seen.old k false ≡ false }
     ensures { OutsBy puts.now.log.words (words_of puts.now.log.bytes.now) puts.now.log.entries puts.now.places.now (length puts.now.places.now) result seen.new }
 {
@@ -44,7 +44,7 @@ pub fn hand_outs(puts: &Puts, seen: &mut [bool]) -> Option<Outs>
 
 // The puts that the list names, marked in `seen` beside those that are handed out.
 pub fn mark_listed(list: &[u8], puts: &Puts, hints: &[u32; 4096], seen: &mut [bool])
-    requires room { length seen.old ≡ length puts.now.places.now }
+    requires room { length puts.now.places.now ≤ length seen.old }
     requires marked { Marked puts.now.log.words (words_of puts.now.log.bytes.now) puts.now.log.entries (words_of list.now) 0 puts.now.places.now (length puts.now.places.now) seen.old }
     ensures { Marked puts.now.log.words (words_of puts.now.log.bytes.now) puts.now.log.entries (words_of list.now) (length list.now / 4) puts.now.places.now (length puts.now.places.now) seen.new }
 {

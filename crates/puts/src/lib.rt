@@ -4,10 +4,10 @@
 #![tactic(auto)]
 
 ghost use Rattle.std.specs.Prelude.{◌≡◌, true, ℕ, ◌+◌, ◌*◌, ◌≤◌, ◌<◌, length, get_or};
-ghost use Rattle.judgement.specs.Judgement.{words_of, all_below, rises};
+ghost use Rattle.judgement.specs.Judgement.{words_of};
 ghost use Rattle.puts.specs.Puts.{number_of_put, Rising, Gathered, Found, Repeated};
 
-use judgement::{EntryKind, Log};
+use judgement::{EntryKind, Log, Ordered};
 
 // The finished puts of a log whose put numbers rise: their places among its entries, in order.
 #[derive(Clone, Copy)]
@@ -20,10 +20,11 @@ pub struct Puts<'a> {
 
 impl<'a> Puts<'a> {
     // Those of the log, at most as many as it has entries, are written to `room`.
-    pub fn gather(log: Log<'a>, room: &'a mut [u32]) -> Self
-        requires { (log.entries ≤ length room.old) × (all_below (rises log.words (words_of log.bytes.now)) log.entries ≡ true) }
-        ensures { result.log ≡ log.entry }
+    pub fn gather(ordered: Ordered<'a>, room: &'a mut [u32]) -> Self
+        requires { ordered.log.entries ≤ length room.old }
+        ensures { result.log ≡ ordered.entry.log }
     {
+        let log = ordered.log;
         let mut count = 0;
         for j in 0..log.entries {
             if log.is_kind(EntryKind::Finished, j) {

@@ -30,7 +30,7 @@ const STORE: u32 = 10235;
 
 const STEPS: u32 = 65535;
 
-// Whether two texts are the same.
+// Whether a word may be a number: not empty, and no zero before another digit.
 fn plain(word: &[u8]) -> bool
     ensures { result ≡ plain_of word.now }
 {

@@ -16,8 +16,8 @@ pub returns-then-not-in_order : goal.returns-then-not-in_order
 returns-then-not-in_order c =
     let g = c.args.log in not_in_order g.words (words_of g.bytes.now) g.entries (words_of c.args.list.now) (length c.args.list.now / 4) (sym c.in_order.ensures ∙ c.if-not-in_order.true)
 
-pub gather-puts-requires : goal.gather-puts-requires
-gather-puts-requires c = (c.args.log.few, and_right _ _ (sym c.in_order.ensures ∙ c.if-not-in_order.false))
+pub invariant_of-ordered : goal.invariant_of-ordered
+invariant_of-ordered c = record { rising = and_right _ _ (sym c.in_order.ensures ∙ c.if-not-in_order.false) }
 
 pub hand_outs-requires-clause-by_index : goal.hand_outs-requires-clause-by_index
 hand_outs-requires-clause-by_index c = λ k. falses_at (length c.gather-puts.result.places.now) 4096 k

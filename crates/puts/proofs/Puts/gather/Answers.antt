@@ -10,7 +10,7 @@ use Rattle.puts.proofs.Gathering.{gathered_skip, gathered_put, gathered_whole, r
 
 pub loop-j-preserved : goal.loop-j-preserved
 loop-j-preserved c =
-    let v = c.args.log.words in let l = words_of c.args.log.bytes.now in let i = c.loop-j.invariant in
+    let v = c.args.ordered.log.words in let l = words_of c.args.ordered.log.bytes.now in let i = c.loop-j.invariant in
     elim c.if-is_kind.branch [
       | then-is_kind w ↦
           (let f = i.1.few in let e = i.0 in
@@ -21,8 +21,8 @@ loop-j-preserved c =
 
 pub invariant_of-result : goal.invariant_of-result
 invariant_of-result c =
-    let v = c.args.log.words in let l = words_of c.args.log.bytes.now in let i = c.loop-j.invariant in
-    let G : Gathered v l c.args.log.entries c.loop-j.room c.loop-j.count = subst (λ (n : ℕ). Gathered v l n c.loop-j.room c.loop-j.count) (omega arith) i.1 in
+    let v = c.args.ordered.log.words in let l = words_of c.args.ordered.log.bytes.now in let i = c.loop-j.invariant in
+    let G : Gathered v l c.args.ordered.log.entries c.loop-j.room c.loop-j.count = subst (λ (n : ℕ). Gathered v l n c.loop-j.room c.loop-j.count) (omega arith) i.1 in
     let f = G.few in let e = i.0 in
     let W = gathered_whole v l _ _ _ G (omega (arith, f, e)) in
-    record { gathered = W; rising = rising_by v l _ _ _ W c.requires.1 }
+    record { gathered = W; rising = rising_by v l _ _ _ W c.args.ordered.rising }
