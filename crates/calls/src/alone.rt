@@ -42,57 +42,58 @@ fn words_of(call: Call) -> [u32; plays::CALL] {
 
 // Makes up to 32 calls.
 fn make_some(
-    bench: Bench,
+    bench: &mut Bench,
     calls: &[u32],
     store: &mut [u32],
     log: &mut [u32],
     out: &mut Output,
-) -> Result<Bench, Failure> {
+) -> Result<(), Failure> {
     let mut answers = [0u32; MANY * plays::ANSWER];
-    let run = plays::play(bench, calls, store, log, &mut answers);
-    let words = run.bench.state.words;
+    let run = plays::play(*bench, calls, store, log, &mut answers);
+    *bench = run.bench;
+    let words = bench.state.words;
     for answer in answers.chunks_exact(plays::ANSWER).take(run.made) {
         out.answer(words, answer)?;
     }
-    Ok(run.bench)
+    Ok(())
 }
 
 // Makes a call so many times, some at once: memory does not grow with their number.
 fn make_calls(
-    bench: Bench,
+    bench: &mut Bench,
     call: Call,
     times: usize,
     store: &mut [u32],
     log: &mut [u32],
     out: &mut Output,
-) -> Result<Bench, Failure> {
+) -> Result<(), Failure> {
+    let words = words_of(call);
     let mut calls = [0u32; MANY * plays::CALL];
-    for words in calls.chunks_exact_mut(plays::CALL) {
-        words.copy_from_slice(&words_of(call));
+    for place in calls.chunks_exact_mut(plays::CALL).take(times) {
+        place.copy_from_slice(&words);
     }
-    let mut bench = bench;
     for _ in 0..times / MANY {
-        bench = make_some(bench, &calls, store, log, out)?;
+        make_some(bench, &calls, store, log, out)?;
     }
     let rest = times % MANY * plays::CALL;
-    make_some(bench, &calls[..rest], store, log, out)
+    if 0 < rest {
+        make_some(bench, &calls[..rest], store, log, out)?;
+    }
+    Ok(())
 }
 
 // Asks the bench, on the words that it is lent.
 pub fn ask(
-    bench: Bench,
+    bench: &mut Bench,
     asked: Request,
     store: &mut [u32],
     log: &mut [u32],
     out: &mut Output,
-) -> Result<Bench, Failure> {
+) -> Result<(), Failure> {
     match asked {
-        Request::Front => out.front(bench.front(log))?,
-        Request::Who { worker } => out.tally(worker, bench.who(worker, store, log))?,
-        Request::State => out.state(&bench.state, store)?,
-        Request::Calls { call, times } => {
-            return make_calls(bench, call, times as usize, store, log, out);
-        }
+        Request::Front => out.front(bench.front(log)),
+        Request::Who { worker } => out.tally(worker, bench.who(worker, store, log)),
+        Request::State => out.state(&bench.state, store),
+        Request::Calls { call, times } => make_calls(bench, call, times as usize, store, log, out),
     }
-    Ok(bench)
 }

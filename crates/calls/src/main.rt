@@ -86,66 +86,63 @@ fn no_bench(store: &mut [u32]) -> Bench {
     Bench::fresh(nothing, store).bench
 }
 
-// Plays a line, and answers what the list is about then; none if the line stands where it may not. `memory` is the first, and no
-// other is.
+// Plays a line, and answers whether it stands where it may. `memory` is the first, and no other is. What is played is changed where it
+// stands: a game is as large as a yard, and a line copies none.
 fn play_line(
-    game: Game,
+    game: &mut Game,
     line: ListLine,
     store: &mut [u32],
     logs: &mut [u32],
     out: &mut Output,
-) -> Result<Option<Game>, Failure>
+) -> Result<bool, Failure>
     requires { 80000 ≤ length logs.old }
 {
-    let lent = game.lent;
-    let words = lent.store.min(store.len());
-    let log = lent.log.min(LOG_PLACE);
-    let about = match line {
+    let words = game.lent.store.min(store.len());
+    let log = game.lent.log.min(LOG_PLACE);
+    match line {
         ListLine::Memory { store: words, log } => {
             let About::Nothing = game.about else {
-                return Ok(None);
+                return Ok(false);
             };
-            let lent = lend(words, log, store, logs);
-            return Ok(Some(Game {
-                lent,
-                about: About::Memory,
-            }));
+            game.lent = lend(words, log, store, logs);
+            game.about = About::Memory;
         }
-        ListLine::Fresh { setup } => match game.about {
-            About::Memory | About::Alone(_) => {
-                let made = Bench::fresh(setup, &mut store[..words]);
-                out.reply(setup.words, made.answer)?;
-                About::Alone(made.bench)
-            }
-            _ => return Ok(None),
-        },
-        ListLine::Asks { asked } => {
-            let bench = match game.about {
-                About::Memory => no_bench(store),
-                About::Alone(bench) => bench,
-                _ => return Ok(None),
+        ListLine::Fresh { setup } => {
+            let (About::Memory | About::Alone(_)) = game.about else {
+                return Ok(false);
             };
-            let left = alone::ask(bench, asked, &mut store[..words], &mut logs[..log], out)?;
-            About::Alone(left)
+            let made = Bench::fresh(setup, &mut store[..words]);
+            out.reply(setup.words, made.answer)?;
+            game.about = About::Alone(made.bench);
+        }
+        ListLine::Asks { asked } => {
+            if let About::Memory = game.about {
+                game.about = About::Alone(no_bench(store));
+            }
+            let About::Alone(bench) = &mut game.about else {
+                return Ok(false);
+            };
+            alone::ask(bench, asked, &mut store[..words], &mut logs[..log], out)?;
         }
         ListLine::Make { setup, quota } => {
-            let yard = match game.about {
-                About::Memory => Yard::bare(),
-                About::Queues(yard) => yard,
-                _ => return Ok(None),
+            if let About::Memory = game.about {
+                game.about = About::Queues(Yard::bare());
+            }
+            let About::Queues(yard) = &mut game.about else {
+                return Ok(false);
             };
-            About::Queues(yard::make(yard, setup, quota, &mut store[..words], out)?)
+            yard::make(yard, setup, quota, &mut store[..words], out)?;
         }
         ListLine::AsksOf { queue, asked } => {
-            let About::Queues(yard) = game.about else {
-                return Ok(None);
+            let About::Queues(yard) = &mut game.about else {
+                return Ok(false);
             };
             let from = (queue as usize).min(3) * LOG_PLACE;
             let log = &mut logs[from..from + log];
-            About::Queues(yard::ask(yard, queue, asked, &mut store[..words], log, out)?)
+            yard::ask(yard, queue, asked, &mut store[..words], log, out)?;
         }
-    };
-    Ok(Some(Game { lent, about }))
+    }
+    Ok(true)
 }
 
 // Plays the lines that end in the buffer, and answers how many of its bytes they are; none at a line that has no form or stands where
@@ -165,10 +162,9 @@ fn play_lines(
         let Some(line) = call_text::parse(&buf[used..end]) else {
             return Ok(None);
         };
-        let Some(next) = play_line(*game, line, store, logs, out)? else {
+        if !play_line(game, line, store, logs, out)? {
             return Ok(None);
-        };
-        *game = next;
+        }
         used = end + 1;
     }
     if call_text::LINE < buf.len() - used {

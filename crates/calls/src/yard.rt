@@ -10,18 +10,18 @@ const NO_SUCH_QUEUE: u32 = 24;
 
 // Makes one more queue, if it is not refused.
 pub fn make(
-    yard: Yard,
+    yard: &mut Yard,
     setup: Setup,
     quota: Option<u32>,
     store: &mut [u32],
     out: &mut Output,
-) -> Result<Yard, Failure> {
+) -> Result<(), Failure> {
     let made = match quota {
         None => yard.make(setup, store),
         Some(words) => yard.make_within(setup, words, store),
     };
-    out.reply(setup.words, made.answer)?;
-    Ok(made.yard)
+    *yard = made.yard;
+    out.reply(setup.words, made.answer)
 }
 
 fn call_queue(yard: Yard, queue: u32, call: Call, store: &mut [u32], log: &mut [u32]) -> YardReply {
@@ -43,29 +43,27 @@ fn state_of(yard: &Yard, queue: u32) -> &model::Bench {
 
 // Asks a queue, on the words that it is lent.
 pub fn ask(
-    yard: Yard,
+    yard: &mut Yard,
     queue: u32,
     asked: Request,
     store: &mut [u32],
     log: &mut [u32],
     out: &mut Output,
-) -> Result<Yard, Failure> {
+) -> Result<(), Failure> {
     let missing = yard.state.made <= queue;
     match asked {
-        Request::Front | Request::State if missing => out.refusal(NO_SUCH_QUEUE)?,
-        Request::Front => out.front(yard.front(queue, log))?,
-        Request::State => out.state(state_of(&yard, queue), store)?,
-        Request::Who { worker } => out.tally(worker, yard.who(queue, worker, store, log))?,
+        Request::Front | Request::State if missing => out.refusal(NO_SUCH_QUEUE),
+        Request::Front => out.front(yard.front(queue, log)),
+        Request::State => out.state(state_of(yard, queue), store),
+        Request::Who { worker } => out.tally(worker, yard.who(queue, worker, store, log)),
         Request::Calls { call, times } => {
-            let words = state_of(&yard, queue).words;
-            let mut yard = yard;
+            let words = state_of(yard, queue).words;
             for _ in 0..times {
-                let reply = call_queue(yard, queue, call, store, log);
+                let reply = call_queue(*yard, queue, call, store, log);
+                *yard = reply.yard;
                 out.reply(words, reply.answer)?;
-                yard = reply.yard;
             }
-            return Ok(yard);
+            Ok(())
         }
     }
-    Ok(yard)
 }

@@ -4,7 +4,7 @@
 
 #![tactic(auto)]
 
-ghost use Rattle.std.specs.Prelude.{◌≡◌, [], ◌-◌, get_or};
+ghost use Rattle.std.specs.Prelude.{◌≡◌, [], ◌-◌, ◌/◌, ◌<◌, get_or};
 ghost use Rattle.model.specs.Memory.{nowhere};
 ghost use Rattle.model.specs.Window.{tasks, window_index, window_size};
 ghost use Rattle.model.specs.Calls.{lent, restarts_of};
@@ -30,13 +30,15 @@ fn current(queue: Queue) -> Region
     }
 }
 
-// The slot of an index in an array of `size` tasks. The model's remainder by 0 is the index itself.
-fn slot_of(kind: Kind, size: u64, index: u64) -> u64
-    ensures { Slot kind size index result }
+// The slot of an index in an array of `long` words, of tasks of `each` words. The model's remainder by 0 is the index itself. LIFO
+// divides nothing: its window may be read whole for each put that is lost.
+fn slot_of(kind: Kind, long: u64, each: u64, index: u64) -> u64
+    requires { 0 < each }
+    ensures { Slot kind (long / each) index result }
 {
     match kind {
         Kind::Lifo => index,
-        Kind::Fifo | Kind::Deque => index.checked_rem(size).unwrap_or(index),
+        Kind::Fifo | Kind::Deque => index.checked_rem(long / each).unwrap_or(index),
     }
 }
 
@@ -80,7 +82,8 @@ impl Window<'_> {
         let each = u64::from(words) + 1;
         let slot = slot_of(
             self.bench.kind,
-            u64::from(self.array.length) / each,
+            u64::from(self.array.length),
+            each,
             self.index(i),
         );
         let start = handouts::start_of(each, slot);

@@ -78,9 +78,10 @@ fn with_operation(wish: &mut Wish, put: bool) {
 // A line behind the first.
 fn with_more(wish: &mut Wish, line: &[u8]) -> Result<(), Refusal> {
     let mut numbers = [0u32; 2];
-    let told = text::numbers(line, &mut numbers);
+    let end = text::word_end(line, 0);
+    let told = text::numbers_behind(line, end, &mut numbers);
     let [first, second] = numbers;
-    let word = &line[..text::word_end(line, 0)];
+    let word = &line[..end];
     match told {
         Some(0) if word == b"put".as_slice() => with_operation(wish, true),
         Some(0) if word == b"take".as_slice() => with_operation(wish, false),

@@ -48,6 +48,10 @@ pub fn mark_listed(list: &[u8], puts: &Puts, hints: &[u32; 4096], seen: &mut [bo
     requires marked { Marked puts.now.log.words (words_of puts.now.log.bytes.now) puts.now.log.entries (words_of list.now) 0 puts.now.places.now (length puts.now.places.now) seen.old }
     ensures { Marked puts.now.log.words (words_of puts.now.log.bytes.now) puts.now.log.entries (words_of list.now) (length list.now / 4) puts.now.places.now (length puts.now.places.now) seen.new }
 {
+    // Where nothing was put, there is nothing to mark, however long the list is.
+    if puts.places.is_empty() {
+        return;
+    }
     for i in 0..list.len() / 4 {
         if let Some(k) = puts.look_up(hints, judgement::word(list, i)) {
             seen[k] = true;

@@ -144,7 +144,16 @@ pub fn numbers(line: &[u8], v: &mut [u32]) -> Option<usize>
     ensures some { IfSome result (λ n. (n ≤ length v.new) × (values (tail (words line.now)) ≡ these (take n v.new))) }
     ensures none { IsNone result → (ns : List ℕ) → values (tail (words line.now)) ≡ these ns → length v.old < length ns }
 {
-    let mut at = word_end(line, 0);
+    numbers_behind(line, word_end(line, 0), v)
+}
+
+// The same where the caller knows the first word's end, so that the word is looked at once.
+pub fn numbers_behind(line: &[u8], end: usize, v: &mut [u32]) -> Option<usize>
+    requires { end ≡ length (head (words line.now)) }
+    ensures some { IfSome result (λ n. (n ≤ length v.new) × (values (tail (words line.now)) ≡ these (take n v.new))) }
+    ensures none { IsNone result → (ns : List ℕ) → values (tail (words line.now)) ≡ these ns → length v.old < length ns }
+{
+    let mut at = end;
     for n in 0..v.len() {
         if at == line.len() {
             return Some(n);
@@ -163,9 +172,10 @@ pub fn numbers(line: &[u8], v: &mut [u32]) -> Option<usize>
 pub fn parse(line: &[u8]) -> Command
     ensures { result ≡ command_of line.now }
 {
-    let key = keyword(&line[..word_end(line, 0)]);
+    let end = word_end(line, 0);
+    let key = keyword(&line[..end]);
     let mut v = [0u32; 6];
-    let Some(n) = numbers(line, &mut v) else {
+    let Some(n) = numbers_behind(line, end, &mut v) else {
         return Command::Bad;
     };
     form(key, &v[..n])

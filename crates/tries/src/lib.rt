@@ -13,10 +13,11 @@ use model::{
 };
 use queues::{Bench, Reply};
 use std::fmt;
-use std::io::{Print, Stdout};
+use std::io::{AsBytes, Print, Stdout};
 
-pub fn text(out: Stdout, words: &str) {
-    let _written = print!(out; "{words}");
+// Writes words, or any bytes.
+pub fn text<T: AsBytes + Drop>(out: Stdout, words: T) {
+    let _written = out.write_all(words.as_byte_slice());
 }
 
 // A put's number behind what was done with it; a task that no put made has 0, and none is shown.
@@ -60,15 +61,17 @@ impl fmt::Display for Counted {
     }
 }
 
-pub fn say_of(out: Stdout, call: &str, reply: Reply) {
+pub fn say_of<T: AsBytes + Drop>(out: Stdout, call: T, reply: Reply) {
+    text(out, call);
     let said = Said(reply.answer);
-    let _written = print!(out; "{call}{said}");
+    let _written = print!(out; "{said}");
 }
 
 // A line of output.
-pub fn report(out: Stdout, tried: &str, answer: Answer) {
+pub fn report<T: AsBytes + Drop>(out: Stdout, tried: T, answer: Answer) {
+    text(out, tried);
     let said = Said(answer);
-    let _written = println!(out; "{tried}: {said}");
+    let _written = println!(out; ": {said}");
 }
 
 pub fn begun_on(state: model::Bench, worker: u32, operation: Operation, store: &[u32]) -> Answer {
@@ -92,7 +95,7 @@ pub fn stepped(state: model::Bench, worker: u32) -> Answer {
 }
 
 // The owner takes: a state within the limits is refused for no other reason than a busy owner, 7.
-pub fn try_state(out: Stdout, tried: &str, state: model::Bench) {
+pub fn try_state<T: AsBytes + Drop>(out: Stdout, tried: T, state: model::Bench) {
     let answer = begun(state, 0, Operation::Take);
     report(out, tried, answer);
 }
@@ -165,7 +168,14 @@ pub fn with_anchor(state: model::Bench, anchor: Anchor) -> model::Bench {
     next
 }
 
-pub fn try_anchor(out: Stdout, tried: &str, kind: u32, head: u32, count: u32, tag: u32) {
+pub fn try_anchor<T: AsBytes + Drop>(
+    out: Stdout,
+    tried: T,
+    kind: u32,
+    head: u32,
+    count: u32,
+    tag: u32,
+) {
     try_state(
         out,
         tried,

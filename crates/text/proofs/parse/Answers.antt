@@ -6,11 +6,11 @@ use Rattle.text.proofs.parse.Goals as goal
 
 pub slice_bounds-keyword-end : goal.slice_bounds-keyword-end
 slice_bounds-keyword-end c = let line = c.args.line.now in
-    sym (length-take-le _ line (omega (arith, c.word_end.ensures.word, first_fits line)))
+    sym (length-take-le _ line (omega (arith, c.word_end-end.ensures.word, first_fits line)))
 
 pub returns : goal.returns
 returns c = let line = c.args.line.now in
-    c.form.ensures ∙ ap (λ k. formed k (take c.in-Some.n c.numbers.new.v)) (c.keyword-key.ensures ∙ ap key_of (front_is line _ c.word_end.ensures.word))
+    c.form.ensures ∙ ap (λ k. formed k (take c.in-Some.n c.numbers_behind.new.v)) (c.keyword-key.ensures ∙ ap key_of (front_is line _ c.word_end-end.ensures.word))
     ∙ sym (command_these line _ c.in-Some.ensures.some.1)
 
 pub returns-in_default : goal.returns-in_default

@@ -2,15 +2,13 @@ use Rattle.std.proofs.Common.{arith, sym, ap, ◌∙◌, ◌≡◌, ◌<◌, ◌
 use Rattle.std.proofs.Math.Seq.{take-suc-set}
 use native.Mathlib.Numerals.{add-one}
 use Rattle.text.specs.Numbers.{value_of}
-use Rattle.text.specs.Words.{words, head}
 use Rattle.text.proofs.Split.{first_fits}
 use Rattle.text.proofs.Fields.{part_is, read_first, read_on_lem, read_fits, read_all, read_none, none_these, read_more}
-use Rattle.text.proofs.numbers.Goals as goal
+use Rattle.text.proofs.numbers_behind.Goals as goal
 
 pub loop-n-init : goal.loop-n-init
 loop-n-init c = let line = c.args.line.now in
-    let e : c.word_end-at.result ≡ length (head (words line)) = omega (arith, c.word_end-at.ensures.word) in
-    (omega (arith, first_fits line), rw e (read_first line))
+    (omega (arith, c.requires, first_fits line), rw c.requires (read_first line))
 
 pub returns-then-at-line-clause-some : goal.returns-then-at-line-clause-some
 returns-then-at-line-clause-some c = let l = c.loop-n in
@@ -19,22 +17,22 @@ returns-then-at-line-clause-some c = let l = c.loop-n in
 pub slice_bounds-number-end : goal.slice_bounds-number-end
 slice_bounds-number-end c = let l = c.loop-n in let line = c.args.line.now in
     let h : l.at < length line = omega (arith, c.if-at-line.false, l.invariant.0) in
-    omega (arith, c.word_end-at-in-loop-n.ensures.word, read_fits line l.at h)
+    omega (arith, c.word_end-at.ensures.word, read_fits line l.at h)
 
 pub returns-in_err-v-clause-none : goal.returns-in_err-v-clause-none
 returns-in_err-v-clause-none c = let l = c.loop-n in let line = c.args.line.now in
     let h : l.at < length line = omega (arith, c.if-at-line.false, l.invariant.0) in
     λ e ns f. absurd (none_these _ ns (read_none line l.at (take l.n l.v) h l.invariant.1
-    (ap value_of (sym (part_is line l.at _ c.word_end-at-in-loop-n.ensures.word)) ∙ sym c.number.ensures ∙ c.in_err-v.was)) f)
+    (ap value_of (sym (part_is line l.at _ c.word_end-at.ensures.word)) ∙ sym c.number.ensures ∙ c.in_err-v.was)) f)
 
 pub loop-n-preserved : goal.loop-n-preserved
 loop-n-preserved c = let l = c.loop-n in let line = c.args.line.now in
     let h : l.at < length line = omega (arith, c.if-at-line.false, l.invariant.0) in
     let n : l.n < length l.v = omega (arith, c.loop-n-test.true, l.auto.v) in (
-      omega (arith, c.word_end-at-in-loop-n.ensures.word, read_fits line l.at h),
-      rw (add-one, take-suc-set l.v l.n c.in_ok-v.field-0 n, c.word_end-at-in-loop-n.ensures.word)
+      omega (arith, c.word_end-at.ensures.word, read_fits line l.at h),
+      rw (add-one, take-suc-set l.v l.n c.in_ok-v.field-0 n, c.word_end-at.ensures.word)
           (read_on_lem line l.at (take l.n l.v) _ h l.invariant.1
-          (ap value_of (sym (part_is line l.at _ c.word_end-at-in-loop-n.ensures.word)) ∙ sym c.number.ensures ∙ c.in_ok-v.was)),
+          (ap value_of (sym (part_is line l.at _ c.word_end-at.ensures.word)) ∙ sym c.number.ensures ∙ c.in_ok-v.was)),
     )
 
 pub returns-then-at-line-2-clause-some : goal.returns-then-at-line-2-clause-some
